@@ -6,7 +6,8 @@
 A line has a type, a number of slots, validity bits, a buffer, what stands behind it, and the slots that are kept:
 from one up to, not with, another. A further word 3 says that every third of those is gathered, from the first on. Each
 slot's value is worked out here from Arrow's columnar format alone, with Python's own numbers and texts, and each buffer
-is written anew from those values. It shares nothing with the program.
+is written anew: of a dictionary the indices are cut as they lie, and else it is made of those values. It shares nothing with
+the program.
 
 A line `Built Int64 65 3` has a column that is built of 65 values of a rule, every third of them null, and none where the
 last word is 0. Under a null of fixed width such a column has zeros.
@@ -101,10 +102,10 @@ def packed(flags):
     return bytes(sum(1 << j for j, flag in enumerate(flags[i:i + 8]) if flag) for i in range(0, len(flags), 8))
 
 
-def written(kind, values, behind, places, slots):
-    """The buffers of the slots at places. Under a null of fixed width stays what stood there."""
+def written(kind, values, places, slots):
+    """The buffers of the slots at places: of a dictionary the indices. Under a null of fixed width stays what stood there."""
     bitmap = packed([slot is not None for slot in slots]) if None in slots else b""
-    if kind == "Utf8" or behind != "-":
+    if kind == "Utf8":
         cells = [(slot or "").encode() for slot in slots]
         ends = [0]
         for cell in cells:
@@ -161,7 +162,7 @@ RULES = {
 def anew(kind, slots):
     """The buffers of slots, with zeros under the nulls."""
     if kind == "Utf8":
-        return written(kind, "-", "-", range(len(slots)), slots)
+        return written(kind, "-", range(len(slots)), slots)
     bitmap = packed([slot is not None for slot in slots]) if None in slots else b""
     if kind == "Bool":
         return [bitmap, packed([slot or False for slot in slots])]
@@ -197,7 +198,7 @@ def answer(line):
     except Bad:
         return BAD
     slots = [all_slots[place] for place in places]
-    return told(slots, written(kind, values, behind, places, slots))
+    return told(slots, written(kind, values, places, slots))
 
 
 def told(slots, buffers):

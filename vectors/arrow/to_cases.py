@@ -101,6 +101,8 @@ def cases():
             add(f"case {names}", f"{name}: {told(found)}")
         if found.startswith(("schema", "rows")):
             add(f"again {names}", f"{name}, written again: {told(found)}")
+        if found.startswith("rows"):
+            add(f"texts {names}", f"{name}, written as texts: {told(found)}")
 
 
 def own_lies():
@@ -215,9 +217,10 @@ def own_writer():
     for names, found in written.CASES:
         assert answer(reader_behind(names.split()[:-1]), *MESSAGES[names.split()[-1]]) == found, names
         add(f"case {names}", f"{names.split()[-1]}: {told(found)}")
-    for names, (words, body) in written.BATCHES.items():
-        add(f"written {names}", f"{names.split()[-1]}, written: {written.batch_header(*words).hex().upper()} "
-                                f"{bytes.fromhex(body).hex().upper()}")
+    for word, batches in ("written", written.BATCHES), ("written_texts", written.TEXTS):
+        for names, (words, body) in batches.items():
+            header = written.batch_header(*words).hex().upper()
+            add(f"{word} {names}", f"{names.split()[-1]}, written: {header} {bytes.fromhex(body).hex().upper()}")
 
 
 # Large messages: the answers are those of reader.py.

@@ -41,7 +41,12 @@ BATCHES = {
     "schema_Utf8 batch_Utf8_within": ((2, (0,), (0, 12, 2)), "000000000200000002000000 00000000 6162000000000000"),
     "schema_Utf8 batch_Utf8_null_bytes": ((3, (1,), (1, 16, 2)),
                                           "0500000000000000 00000000010000000100000002000000 6162000000000000"),
-    # A dictionary of texts is answered as texts.
+    # A column of a dictionary is written as its indices.
+    "schema_of_two dictionary_a dictionary_2 indices_two": (
+        (2, (0, 1), (0, 2, 1, 4)), "0000000000000000 0200000000000000 0000010000000000"),
+}
+# The same, once columns of dictionaries are copied to texts.
+TEXTS = {
     "schema_of_two dictionary_a dictionary_2 indices_two": (
         (2, (0, 1), (0, 12, 2, 1, 12, 1)), "000000000100000002000000 00000000 6161000000000000"
         "0200000000000000 000000000000000001000000 00000000 7100000000000000"),

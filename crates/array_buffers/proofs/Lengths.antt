@@ -1,5 +1,5 @@
 -- How long written buffers are, and what they are of each layout.
-use Rattle.std.proofs.Common.{◌≡◌, ℕ, zero, suc, ◌+◌, ◌-◌, ◌*◌, ◌<◌, ◌≤◌, ◌==◌, Bool, false, if◌then◌else◌, List, [], ◌∷◌, ◌⊎◌, inl, inr, length, map, get_or, take, drop, refl, sym, ap, ◌∙◌, arith}
+use Rattle.std.proofs.Common.{◌≡◌, ℕ, zero, suc, ◌+◌, ◌-◌, ◌*◌, ◌<◌, ◌≤◌, ◌==◌, Bool, false, if◌then◌else◌, List, [], ◌∷◌, length, map, get_or, take, drop, refl, sym, ap, ◌∙◌, arith}
 use Rattle.std.specs.Int.{div_ceil}
 use Rattle.std.specs.List.{range_with_len}
 use Rattle.std.proofs.lemmas.List.{length-take, length-drop}
@@ -9,7 +9,6 @@ use Rattle.std.proofs.Math.Nat.{mul-le-mul_left}
 use Rattle.arrays.specs.declared.layout.Layout.{Layout}
 use Rattle.arrays.specs.declared.layout.Layout.TheVariants as layout
 use Rattle.arrays.specs.Texts.{TextsAt}
-use Rattle.arrays.specs.Indices.{IndicesAt}
 use Rattle.arrays.specs.Column.{ColumnAt, IsColumn, values_of}
 use Rattle.arrays.specs.Nulls.{null_count, valid_slots}
 use Rattle.array_buffers.specs.Written.{packed_bits, validity_written, written_by, values_written, buffers_written, buffer_of}
@@ -47,24 +46,39 @@ written_as column read known same is = ap (λ (x : Layout). written_by x column)
 pub stands_as : (column : ColumnAt) (read known : Layout) → read ≡ column.layout → read ≡ known → IsColumn column → IsColumn (record column { layout = known })
 stands_as column read known same is stands = rw (← is, same) stands
 
--- of texts, and of indices
-pub written_texts : (column : ColumnAt) (read : Layout) → read ≡ column.layout → ((x : TextsAt) × (read ≡ layout.Texts x)) ⊎ ((x : IndicesAt) × (read ≡ layout.Indices x)) →
+-- of texts
+pub written_texts : (column : ColumnAt) (read : Layout) (cells : TextsAt) → read ≡ column.layout → read ≡ layout.Texts cells →
     values_written column ≡ offsets_from 0 (values_of column) ∷ texts_joined (values_of column) ∷ []
-written_texts column read same (inl one) = written_as column read (layout.Texts one.0) same one.1
-written_texts column read same (inr one) = written_as column read (layout.Indices one.0) same one.1
+written_texts column read cells same is = written_as column read (layout.Texts cells) same is
 
 -- and of others
-pub written_other : (column : ColumnAt) (read : Layout) → read ≡ column.layout → ((x : TextsAt) → read ≡ layout.Texts x → ⊥) → ((x : IndicesAt) → read ≡ layout.Indices x → ⊥) →
+pub written_other : (column : ColumnAt) (read : Layout) → read ≡ column.layout → ((x : TextsAt) → read ≡ layout.Texts x → ⊥) →
     length (values_written column) ≡ 1
 unfolding values_written
-written_other column read same texts indices = by read column.layout same texts indices
+written_other column read same texts = by read column.layout same texts
   where
-    by : (read known : Layout) → read ≡ known → ((x : TextsAt) → read ≡ layout.Texts x → ⊥) → ((x : IndicesAt) → read ≡ layout.Indices x → ⊥) → length (written_by known column) ≡ 1
-    by read (layout.Integers cells) same texts indices = refl
-    by read (layout.Decimals cells) same texts indices = refl
-    by read (layout.Bools cells) same texts indices = refl
-    by read (layout.Texts cells) same texts indices = absurd (texts cells same)
-    by read (layout.Indices cells) same texts indices = absurd (indices cells same)
+    by : (read known : Layout) → read ≡ known → ((x : TextsAt) → read ≡ layout.Texts x → ⊥) → length (written_by known column) ≡ 1
+    by read (layout.Integers cells) same texts = refl
+    by read (layout.Decimals cells) same texts = refl
+    by read (layout.Bools cells) same texts = refl
+    by read (layout.Texts cells) same texts = absurd (texts cells same)
+    by read (layout.Indices cells) same texts = refl
+
+-- so that others have no third buffer
+pub no_third : (column : ColumnAt) (read : Layout) → read ≡ column.layout → ((x : TextsAt) → read ≡ layout.Texts x → ⊥) → buffer_of column 2 ≡ []
+unfolding values_written
+no_third column read same texts = by read column.layout same texts
+  where
+    by : (read known : Layout) → read ≡ known → ((x : TextsAt) → read ≡ layout.Texts x → ⊥) → get_or (written_by known column) 1 [] ≡ []
+    by read (layout.Integers cells) same texts = refl
+    by read (layout.Decimals cells) same texts = refl
+    by read (layout.Bools cells) same texts = refl
+    by read (layout.Texts cells) same texts = absurd (texts cells same)
+    by read (layout.Indices cells) same texts = refl
+
+-- and that of texts has their bytes
+pub third_texts : (column : ColumnAt) (read : Layout) (cells : TextsAt) → read ≡ column.layout → read ≡ layout.Texts cells → buffer_of column 2 ≡ texts_joined (values_of column)
+third_texts column read cells same is = ap (λ (all : List (List ℕ)). get_or all 1 []) (written_texts column read cells same is)
 
 pub cut_bits : (bits : List Bool) (first len : ℕ) → first + len ≤ length bits → map (λ (j : ℕ). get_or bits j false) (range_with_len first len) ≡ take len (drop first bits)
 cut_bits bits first zero room = refl
@@ -90,7 +104,7 @@ third column (suc (suc zero)) low zeroth first = (refl, by column.layout low)
     by (layout.Decimals cells) low = absurd (omega arith)
     by (layout.Bools cells) low = absurd (omega arith)
     by (layout.Texts cells) low = refl
-    by (layout.Indices cells) low = refl
+    by (layout.Indices cells) low = absurd (omega arith)
 third column (suc (suc (suc index))) low zeroth first = absurd (by column.layout low)
   where
     by : (known : Layout) → suc (suc (suc index)) < suc (length (written_by known column)) → ⊥

@@ -5,4 +5,6 @@ mod Lengths
 mod AsCame
 mod BitsAgain
 mod TextsAgain
+mod ElementsAgain
+mod IndicesAgain
 pub mod ColumnsAgain

@@ -76,7 +76,7 @@ slot_stands column j low short text =
     by true e = refl
     by false e = text_utf8 (slot_of column j) e text
 
-all_hold : (test : ℕ → Bool) (first len : ℕ) → ((j : ℕ) → first ≤ j → j < first + len → test j ≡ true) → list_all test (range_with_len first len) ≡ true
+pub all_hold : (test : ℕ → Bool) (first len : ℕ) → ((j : ℕ) → first ≤ j → j < first + len → test j ≡ true) → list_all test (range_with_len first len) ≡ true
 all_hold test first zero each = refl
 all_hold test first (suc len) each = rw (each first (omega arith) (omega arith)) (all_hold test (first + 1) len (λ j low high. each j (omega arith) (omega arith)))
 

@@ -5,13 +5,15 @@ use Rattle.std.specs.List.{range_with_len}
 use Rattle.std.specs.Int.{div_ceil}
 use Rattle.scan_base.specs.declared.value.Value.{Value}
 use Rattle.arrow_schema.specs.declared.data_type.DataType.{DataType}
-use Rattle.arrow_schema.specs.declared.data_type.DataType.TheVariants.{Utf8}
-use Rattle.arrow_schema.specs.Answer.{answer_type}
+use Rattle.arrow_schema.specs.declared.data_type.DataType.TheVariants.{Utf8, Dictionary}
+use Rattle.scan_base.specs.Value.{is_null}
 use Rattle.arrays.specs.declared.layout.Layout.{Layout}
 use Rattle.arrays.specs.declared.layout.Layout.TheVariants as layout
-use Rattle.arrays.specs.Number.{byte_width}
+use Rattle.arrays.specs.Number.{byte_width, integer_at}
+use Rattle.arrays.specs.Dictionary.{entry_at}
+use Rattle.arrays.specs.Indices.{IndicesAt, entry_of}
 use Rattle.arrays.specs.Nulls.{null_count, valid_slots}
-use Rattle.arrays.specs.Column.{ColumnAt, IsColumn, values_of, whole}
+use Rattle.arrays.specs.Column.{ColumnAt, IsColumn, slot_of, values_of, whole}
 use Rattle.arrays.specs.Typed.{IsOfType}
 use Rattle.arrays.specs.Buffers.{values_layout, texts_layout}
 use Rattle.arrays.specs.Written.{elements, offsets_from, texts_joined}
@@ -31,14 +33,15 @@ unfoldable pub validity_written : ColumnAt → List ℕ
 validity_written column =
     if null_count column == 0 then [] else packed_bits (valid_slots column)
 
--- The buffers behind the validity bits, of a column of a layout. Until dictionary answers are built, indices
--- are written as the texts that they lead to.
+-- The buffers behind the validity bits, of a column of a layout: packed numbers, or indices as they are, and of texts
+-- the offsets and the bytes that these cut.
 abbrev pub written_by : Layout → ColumnAt → List (List ℕ)
 written_by (layout.Integers cells) column = elements (byte_width cells.integer) cells.values column.first column.len ∷ []
 written_by (layout.Decimals cells) column = elements 16 cells.values column.first column.len ∷ []
 written_by (layout.Bools cells) column =
     packed_bits (map (λ j. get_or cells.values j false) (range_with_len column.first column.len)) ∷ []
-written_by _ column = offsets_from 0 (values_of column) ∷ texts_joined (values_of column) ∷ []
+written_by (layout.Indices cells) column = elements (byte_width cells.index) cells.values column.first column.len ∷ []
+written_by (layout.Texts cells) column = offsets_from 0 (values_of column) ∷ texts_joined (values_of column) ∷ []
 
 unfoldable pub values_written : ColumnAt → List (List ℕ)
 values_written column = written_by column.layout column
@@ -55,25 +58,38 @@ buffer_of column index = get_or (buffers_written column) index []
 abbrev pub most_bytes : ℕ → ℕ
 most_bytes index = if index == 2 then 2 ^ 31 else 2 ^ 64
 
--- the offsets of a column's texts can name each of their bytes
+-- The offsets of a column of texts can name each of their bytes. A column of another layout has no such buffer.
 abbrev pub HasShortTexts : ColumnAt → Type 0
-HasShortTexts column = length (texts_joined (values_of column)) < 2 ^ 31
+HasShortTexts column = length (buffer_of column 2) < 2 ^ 31
 
 -- the validity bits as a reader takes them, with the null count beside them
 abbrev pub validity_read : ColumnAt → Option (List ℕ)
 validity_read column = if null_count column == 0 then None else Some (validity_written column)
 
--- these buffers are those of a column of a type, of so many slots with these values
-abbrev pub SaySlots : DataType → Option (List ℕ) → List (List ℕ) → ℕ → List Value → Type 0
-SaySlots Utf8 validity (offsets ∷ bytes ∷ []) len values = (read : Layout)
+-- These buffers are those of a column of a type, of so many slots with these values. Indices lead into a dictionary.
+abbrev pub SaySlots : DataType → List Value → Option (List ℕ) → List (List ℕ) → ℕ → List Value → Type 0
+SaySlots Utf8 _ validity (offsets ∷ bytes ∷ []) len values = (read : Layout)
     × (texts_layout validity offsets bytes len ≡ Ok read) × (values_of (whole read) ≡ values) × IsOfType Utf8 read
-SaySlots data_type validity (packed ∷ []) len values = (read : Layout)
-    × (values_layout data_type [] validity packed len ≡ Ok read) × (values_of (whole read) ≡ values) × IsOfType data_type read
-SaySlots _ _ _ _ _ = ⊥
+SaySlots data_type dictionary validity (packed ∷ []) len values = (read : Layout)
+    × (values_layout data_type dictionary validity packed len ≡ Ok read) × (values_of (whole read) ≡ values)
+    × IsOfType data_type read
+SaySlots _ _ _ _ _ _ = ⊥
 
--- What is written of a column says its values, as a column of the type that its own is answered as. The texts
--- of a column have fewer bytes than an offset can name.
+-- In this dictionary the index of each slot that is not null leads to what it leads to in the column's own. A slot that
+-- leads to a null is written as a null, so what the dictionary has there does not matter.
+abbrev pub LeadsAlike : List Value → IndicesAt → ColumnAt → Type 0
+LeadsAlike dictionary cells column = (place : ℕ) → place < column.len → is_null (slot_of column place) ≡ false →
+    entry_at dictionary (integer_at cells.index cells.values (column.first + place)) ≡ entry_of cells (column.first + place)
+
+-- what the type of a column of indices has to say beside: that type of indices, and such a dictionary
+abbrev pub IsLedBy : DataType → List Value → Layout → ColumnAt → Type 0
+IsLedBy (Dictionary encoding) dictionary (layout.Indices cells) column =
+    (encoding.index ≡ cells.index) × LeadsAlike dictionary cells column
+IsLedBy _ _ _ _ = Unit {0}
+
+-- What is written of a column says its values, as a column of its type. The texts of a column of texts have fewer bytes
+-- than an offset can name.
 abbrev pub ColumnsReadBack : Type 0
-ColumnsReadBack = (data_type : DataType) (column : ColumnAt) → IsColumn column → IsOfType data_type column.layout →
-    HasShortTexts column →
-    SaySlots (answer_type data_type) (validity_read column) (values_written column) column.len (values_of column)
+ColumnsReadBack = (data_type : DataType) (dictionary : List Value) (column : ColumnAt) → IsColumn column →
+    IsOfType data_type column.layout → IsLedBy data_type dictionary column.layout column → HasShortTexts column →
+    SaySlots data_type dictionary (validity_read column) (values_written column) column.len (values_of column)

@@ -48,7 +48,7 @@ fn buffer_that_came(column: &Column, index: usize) -> Result<Option<Bytes>, Allo
     }
 }
 
-// Packed values, or the offsets of texts that begin at 0.
+// Packed values, or the offsets of texts that begin at 0. Indices do not give the buffer in which they lie.
 fn values_that_came(column: &Column) -> Result<Option<Bytes>, AllocError>
     ensures { IfOk result (λ found. IfSome found (λ bytes. bytes ≡ buffer_of column.now 1)) }
 {

@@ -12,13 +12,13 @@ use crate::packing::append_bits;
 use arrays::{Cells, Column, Layout, Nulls, byte_width, is_null};
 use std::alloc::AllocError;
 
-/// How many buffers are written of the column: validity bits and values, and of texts, as which indices
-/// are written too, the validity bits, the offsets and the bytes that they cut.
+/// How many buffers are written of the column: validity bits and values, and of texts the validity bits, the
+/// offsets and the bytes that they cut.
 pub fn buffer_count(column: &Column) -> usize
     ensures { result ≡ length (buffers_written column.now) }
 {
     match column.layout() {
-        Layout::Texts(_) | Layout::Indices(_) => 3,
+        Layout::Texts(_) => 3,
         _ => 2,
     }
 }
@@ -108,7 +108,7 @@ fn valid_byte(column: &Column, byte: usize) -> u8
     bits
 }
 
-// How many bytes the second buffer has: packed values, or the offsets of texts.
+// How many bytes the second buffer has: packed values or indices, or the offsets of texts.
 fn values_length(column: &Column) -> Option<usize>
     ensures { SomeIff result (length (buffer_of column.now 1) < 2 ^ 64) (length (buffer_of column.now 1)) }
 {
@@ -117,7 +117,8 @@ fn values_length(column: &Column) -> Option<usize>
         Layout::Integers(cells) => byte_width(cells.integer_type()).checked_mul(len),
         Layout::Decimals(_) => len.checked_mul(16),
         Layout::Bools(_) => Some(len.div_ceil(8)),
-        Layout::Texts(_) | Layout::Indices(_) => len.checked_add(1)?.checked_mul(4),
+        Layout::Indices(cells) => byte_width(cells.index_type()).checked_mul(len),
+        Layout::Texts(_) => len.checked_add(1)?.checked_mul(4),
     }
 }
 
@@ -138,14 +139,18 @@ fn append_values(column: &Column, out: &mut Vec<u8>) -> Result<(), AllocError>
             &cells.values()[16 * first..16 * (first + len)],
         ),
         Layout::Bools(cells) => append_bits(out, cells.values(), first, len),
-        Layout::Texts(_) | Layout::Indices(_) => append_offsets(column, out),
+        Layout::Indices(cells) => {
+            let width = byte_width(cells.index_type());
+            out.extend_from_slice(&cells.values()[width * first..width * (first + len)])
+        }
+        Layout::Texts(_) => append_offsets(column, out),
     }
 }
 
 // The bytes of all texts, where they are seen to stand one behind another: no slot may be null.
 fn adjoining_texts(column: &Column) -> Option<&[u8]>
     ensures bytes { IfSome result (λ bytes. bytes.now ≡ texts_joined (values_of column.now)) }
-    ensures short { IsSome result → HasShortTexts column.now }
+    ensures short { IsSome result → length (texts_joined (values_of column.now)) < 2 ^ 31 }
 {
     let first = column.first();
     let behind = first + column.len();
@@ -157,9 +162,21 @@ fn adjoining_texts(column: &Column) -> Option<&[u8]>
     }
 }
 
-/// How many bytes all texts have, where an offset can name each of them: fewer than 2 to the 31.
+/// How many bytes the texts of a column of texts have, where an offset can name each of them: fewer than 2 to the 31.
+/// A column of another layout has none.
 pub fn texts_length(column: &Column) -> Option<usize>
-    ensures { SomeIff result (HasShortTexts column.now) (length (texts_joined (values_of column.now))) }
+    ensures { SomeIff result (HasShortTexts column.now) (length (buffer_of column.now 2)) }
+{
+    match column.layout() {
+        Layout::Texts(_) => joined_length(column),
+        _ => Some(0),
+    }
+}
+
+// How many bytes all texts have, where they are fewer than 2 to the 31.
+fn joined_length(column: &Column) -> Option<usize>
+    ensures { SomeIff result (length (texts_joined (values_of column.now)) < 2 ^ 31)
+        (length (texts_joined (values_of column.now))) }
 {
     match adjoining_texts(column) {
         Some(texts) => Some(texts.len()),
@@ -169,7 +186,8 @@ pub fn texts_length(column: &Column) -> Option<usize>
 
 // The same, text by text.
 fn summed_length(column: &Column) -> Option<usize>
-    ensures { SomeIff result (HasShortTexts column.now) (length (texts_joined (values_of column.now))) }
+    ensures { SomeIff result (length (texts_joined (values_of column.now)) < 2 ^ 31)
+        (length (texts_joined (values_of column.now))) }
 {
     let mut length = 0;
     for place in 0..column.len() {
@@ -183,7 +201,7 @@ fn summed_length(column: &Column) -> Option<usize>
 
 // Writes the offsets that cut the texts.
 fn append_offsets(column: &Column, out: &mut Vec<u8>) -> Result<(), AllocError>
-    requires { HasShortTexts column.now }
+    requires { length (texts_joined (values_of column.now)) < 2 ^ 31 }
     ensures ok { OnOk result (out.new.items ≡ out.old.items ++ offsets_from 0 (values_of column.now)) }
     ensures begins { take (length out.old.items) out.new.items ≡ out.old.items }
 {

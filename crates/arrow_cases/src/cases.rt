@@ -9,7 +9,11 @@ use arrays::Batch;
 use arrow_schema::{MAX_COLUMNS, Schema, write_schema};
 use bytes::Bytes;
 use ipc_batch::{Reader, WrittenMessage, write_batch};
+use plain_batches::plain_batch;
 use std::alloc::{AllocError, Global};
+
+// The most bytes of a message's body.
+const MOST_BODY_BYTES: usize = (1 << 31) - 1;
 
 /// The names before the last one, and that.
 pub fn last_name(names: &str) -> (&str, &str) {
@@ -95,21 +99,48 @@ impl Heard {
         told(alloc, &self.answer, schema)
     }
 
-    /// The message that our own writer makes of the batch.
-    pub fn written(&self, alloc: Global) -> Result<WrittenMessage> {
+    // The batch that was said.
+    fn batch(&self) -> Result<&Batch> {
         match &self.answer {
-            Ok(Some(batch)) => written(alloc, batch),
+            Ok(Some(batch)) => Ok(batch),
             _ => bail!("no batch"),
         }
     }
 
-    // What is said of the schema or the batch, once our own writer wrote it.
-    fn again(&self, alloc: Global) -> Result<Heard> {
+    /// The message that our own writer makes of the batch.
+    pub fn written(&self, alloc: Global) -> Result<WrittenMessage> {
+        written(alloc, self.batch()?)
+    }
+
+    /// The message that our own writer makes of the batch, once its columns of dictionaries are copied to texts.
+    pub fn written_texts(&self, alloc: Global) -> Result<WrittenMessage> {
+        let batch = self.batch()?;
+        let whole = batch.slice(alloc, 0, batch.rows())?;
+        let plain = plain_batch(alloc, whole, MOST_BODY_BYTES)?.context("a long body")?;
+        written(alloc, &plain)
+    }
+
+    // What is said of the schema or the batch, once our own writer wrote it. In front of the batch stand the dictionaries
+    // among messages.
+    fn again(&self, alloc: Global, messages: &Messages, names: &str) -> Result<Heard> {
         let schema = self.reader.schema().context("no schema")?;
-        match &self.answer {
-            Ok(Some(batch)) => batch_again(alloc, schema, batch),
-            _ => Ok(schema_again(alloc, schema)?),
+        let mut heard = schema_again(alloc, schema)?;
+        if let Ok(Some(batch)) = &self.answer {
+            let message = written(alloc, batch)?;
+            read_before(alloc, messages, &mut heard.reader, names)?;
+            heard.answer = read(alloc, &mut heard.reader, &message.header, &message.body)?;
         }
+        Ok(heard)
+    }
+
+    // What is said of the batch, once it was copied to texts and our own writer wrote it, behind the columns as which the
+    // schema's are answered.
+    fn texts_again(&self, alloc: Global) -> Result<Heard> {
+        let message = self.written_texts(alloc)?;
+        let schema = self.reader.schema().context("no schema")?;
+        let mut heard = schema_again(alloc, &schema.answered(alloc)?)?;
+        heard.answer = read(alloc, &mut heard.reader, &message.header, &message.body)?;
+        Ok(heard)
     }
 
     // Of each column of the batch the count and the digest.
@@ -151,17 +182,6 @@ fn schema_again(alloc: Global, schema: &Schema) -> Result<Heard, AllocError>
     })
 }
 
-// What a reader says to the batch of our own writer behind the columns as which a schema's are answered.
-fn batch_again(alloc: Global, schema: &Schema, batch: &Batch) -> Result<Heard>
-    requires { IsSchema schema.now }
-{
-    let message = written(alloc, batch)?;
-    let answered = schema.answered(alloc)?;
-    let mut heard = schema_again(alloc, &answered)?;
-    heard.answer = read(alloc, &mut heard.reader, &message.header, &message.body)?;
-    Ok(heard)
-}
-
 // A line: a name, what is said of it, and that.
 fn line(alloc: Global, name: &str, of: &str, told: &str) -> Result<String, AllocError> {
     format!(in alloc; "{name}{of}: {told}\n")
@@ -175,17 +195,26 @@ pub fn case(alloc: Global, messages: &Messages, names: &str) -> Result<String> {
 
 /// `again NAMES`: what the last message says, a schema or a batch, written by our own writer and read once more.
 pub fn again(alloc: Global, messages: &Messages, names: &str) -> Result<String> {
-    let again = hear_last(alloc, messages, names)?.again(alloc)?;
+    let (before, name) = last_name(names);
+    let again = hear_last(alloc, messages, names)?.again(alloc, messages, before)?;
     let told = again.told(alloc)?;
-    Ok(line(alloc, last_name(names).1, ", written again", &told)?)
+    Ok(line(alloc, name, ", written again", &told)?)
+}
+
+/// `texts NAMES`: the same of the last message's batch, whose columns of dictionaries are copied to texts first.
+pub fn texts(alloc: Global, messages: &Messages, names: &str) -> Result<String> {
+    let again = hear_last(alloc, messages, names)?.texts_again(alloc)?;
+    let told = again.told(alloc)?;
+    Ok(line(alloc, last_name(names).1, ", written as texts", &told)?)
 }
 
 /// `count NAMES`: of each column of the last message's batch how many slots and nulls it has, and a digest, and the
 /// same of what our own writer makes of it.
 pub fn count(alloc: Global, messages: &Messages, names: &str) -> Result<String> {
+    let (before, name) = last_name(names);
     let heard = hear_last(alloc, messages, names)?;
-    let again = heard.again(alloc)?.counts(alloc)?;
-    let (name, told) = (last_name(names).1, heard.counts(alloc)?);
+    let again = heard.again(alloc, messages, before)?.counts(alloc)?;
+    let told = heard.counts(alloc)?;
     Ok(format!(in alloc; "{name}: {told}\n{name}, written again: {again}\n")?)
 }
 

@@ -9,11 +9,11 @@ mod pieces;
 mod sweeps;
 mod written;
 
-use crate::cases::{again, case, count, total};
+use crate::cases::{again, case, count, texts, total};
 use crate::messages::Messages;
 use crate::pieces::first_word;
 use crate::sweeps::{cut, set, sweep};
-use crate::written::{batch_bytes, dictionary_bytes};
+use crate::written::{batch_bytes, dictionary_bytes, texts_bytes};
 use anyhow::{Result, bail};
 use std::alloc::Global;
 use std::io::{BufRead, BufReader};
@@ -28,9 +28,11 @@ fn told_of(alloc: Global, messages: &mut Messages, line: &str) -> Result<String>
         }
         "case" => case(alloc, messages, words),
         "again" => again(alloc, messages, words),
+        "texts" => texts(alloc, messages, words),
         "total" => total(alloc, messages, words),
         "count" => count(alloc, messages, words),
         "written" => batch_bytes(alloc, messages, words),
+        "written_texts" => texts_bytes(alloc, messages, words),
         "write" => dictionary_bytes(alloc, messages, words),
         "set" => set(alloc, messages, words),
         "sweep" => sweep(alloc, messages, words),

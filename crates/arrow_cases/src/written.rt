@@ -22,6 +22,12 @@ pub fn batch_bytes(alloc: Global, messages: &Messages, names: &str) -> Result<St
     Ok(bytes_told(alloc, last_name(names).1, &message)?)
 }
 
+/// `written_texts NAMES`: the same, once the columns of dictionaries are copied to texts.
+pub fn texts_bytes(alloc: Global, messages: &Messages, names: &str) -> Result<String> {
+    let message = hear_last(alloc, messages, names)?.written_texts(alloc)?;
+    Ok(bytes_told(alloc, last_name(names).1, &message)?)
+}
+
 // `ROWS VALIDITY OFFSETS BYTES`: texts over these buffers.
 fn texts(alloc: Global, words: &str) -> Result<Texts> {
     let (rows, words) = first_word(words)?;

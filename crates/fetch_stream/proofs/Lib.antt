@@ -5,6 +5,7 @@ pub mod MadeAhead
 pub mod Meaning
 pub mod Padding
 pub mod Parts
+pub mod Plain
 pub mod Scanned
 pub mod Short
 pub mod Sizes

@@ -1,7 +1,7 @@
 -- How many bytes a message of one row has.
 use Rattle.std.proofs.Common.{◌≡◌, ◌≤◌, ◌==◌, ℕ, ◌+◌, ◌-◌, ◌*◌, ◌%◌, ◌^◌, None, Bool, true, false, if◌then◌else◌, List, [], ◌∷◌, ◌++◌, length, map, take, drop, get_or, refl, ap, subst, ◌∙◌, arith, rules, length-append}
 use Rattle.std.specs.Int.{div_ceil}
-use Rattle.std.specs.List.{list_any, range_with_len, AllByRecursion}
+use Rattle.std.specs.List.{flat_map, list_any, range_with_len, AllByRecursion}
 use Rattle.std.proofs.lemmas.List.{length-take, length-map}
 use Rattle.std.proofs.lemmas.List.FromFn.{length-map-range_with_len}
 use Rattle.scan_base.specs.declared.value.Value.{Value}
@@ -15,15 +15,18 @@ use Rattle.arrays.specs.Batch.{BatchAt, BatchSlicesKeepRows, row_of, rows_of, cu
 use Rattle.arrays.specs.Column.{ColumnAt, slot_of, cut}
 use Rattle.arrays.specs.Nulls.{null_count, valid_slots}
 use Rattle.arrays.specs.Number.{byte_width}
-use Rattle.array_buffers.specs.Written.{packed_bits, validity_written, written_by, values_written, buffers_written as column_written}
+use Rattle.array_buffers.specs.Written.{packed_bits, validity_written}
+use Rattle.plain_batches.specs.Plain.{plain_by, plain_written, plain_length}
 use Rattle.arrays.specs.Written.{elements, text_bytes, texts_joined, offsets_from}
 use Rattle.arrays.proofs.NullSlots.{length-valid_slots}
 use Rattle.flight_proto.specs.FlightData.{data_bytes, body_head, data_head}
 use Rattle.flight_proto.specs.Message.{set_fields, spelled}
 use Rattle.proto_wire.specs.Calls.{chunk_entry}
 use Rattle.proto_wire.specs.Writing.{varint, spelling, chunk_head}
-use Rattle.ipc_batch.specs.Written.{body_of, buffers_written, body_length, most_header_bytes}
-use Rattle.ipc_batch.proofs.WriterLoops.{buffer_more, length_more}
+use Rattle.ipc_batch.specs.Written.{body_of, most_header_bytes}
+use Rattle.ipc_batch.proofs.WriterLoops.{buffer_more}
+use Rattle.flatbuf.specs.Block.{padded}
+use Rattle.std.proofs.lemmas.Grind.{flat_map-append}
 use Rattle.scan_base.specs.Limits.{most_message_bytes, most_text_bytes}
 use Rattle.table_versions.specs.Table.{is_long_text}
 use Rattle.table_versions.proofs.Storable.{first_false, second_false}
@@ -93,7 +96,7 @@ texts_written v h =
 abbrev column_of : Layout → ℕ → ℕ → ColumnAt
 column_of known first len = record { layout = known; first = first; len = len }
 
-values_by : (known : Layout) (first : ℕ) → is_long_text (slot_of (column_of known first 1) 0) ≡ false → length (body_of (written_by known (column_of known first 1))) ≤ 65560
+values_by : (known : Layout) (first : ℕ) → is_long_text (slot_of (column_of known first 1) 0) ≡ false → length (body_of (plain_by known (column_of known first 1))) ≤ 65560
 values_by (layout.Integers cells) first h =
     omega (arith, one_buffer (elements (byte_width cells.integer) cells.values first 1), short_elements (byte_width cells.integer) cells.values first, short_width cells.integer)
 values_by (layout.Decimals cells) first h =
@@ -105,23 +108,23 @@ values_by (layout.Texts cells) first h = texts_written (slot_of (column_of (layo
 values_by (layout.Indices cells) first h = texts_written (slot_of (column_of (layout.Indices cells) first 1) 0) h
 
 one_slot : (known : Layout) (first len : ℕ) → len ≡ 1 → is_long_text (slot_of (column_of known first len) 0) ≡ false
-    → length (body_of (column_written (column_of known first len))) ≤ most_cell_bytes
-unfolding values_written
+    → length (body_of (plain_written (column_of known first len))) ≤ most_cell_bytes
 one_slot known first len one h =
     let column = column_of known first 1 in
-    let all : length (body_of (column_written column)) ≤ length (validity_written column) + 7 + length (body_of (written_by known column)) =
-    buffer_first (validity_written column) (written_by known column) in
+    let all : length (body_of (plain_written column)) ≤ length (validity_written column) + 7 + length (body_of (plain_by known column)) =
+    buffer_first (validity_written column) (plain_by known column) in
     rw one (omega (arith, all, short_validity column refl, values_by known first h))
 
 -- ---- a batch of one row
 
 columns_behind : (column : ColumnAt) (columns : List ColumnAt) →
-    length (body_of (buffers_written (column ∷ columns))) ≡ length (body_of (column_written column)) + length (body_of (buffers_written columns))
+    length (body_of (flat_map plain_written (column ∷ columns))) ≡ length (body_of (plain_written column)) + length (body_of (flat_map plain_written columns))
 columns_behind column columns =
-    length_more (column ∷ columns) columns 0 column refl
+    ap length (flat_map-append padded (plain_written column) (flat_map plain_written columns))
+    ∙ length-append (body_of (plain_written column)) (body_of (flat_map plain_written columns))
 
 one_row : (columns : List ColumnAt) → AllByRecursion (λ (column : ColumnAt). column.len ≡ 1) columns → list_any is_long_text (row_of columns 0) ≡ false
-    → length (body_of (buffers_written columns)) ≤ most_cell_bytes * length columns
+    → length (body_of (flat_map plain_written columns)) ≤ most_cell_bytes * length columns
 one_row [] long h = omega arith
 one_row (column ∷ columns) long h =
     let first = one_slot column.layout column.first column.len long.0 (first_false (is_long_text (slot_of column 0)) (list_any is_long_text (row_of columns 0)) h) in
@@ -142,13 +145,13 @@ module _ (from to : ℕ) (one : to - from ≡ 1) where
       first_false (list_any is_long_text (row_of columns 0)) false all
 
 pub one_row_fits : BatchSlicesKeepRows → (batch : BatchAt) (from to : ℕ) → to - from ≡ 1 → to ≤ batch.rows → length batch.columns ≤ most_columns
-    → list_any (list_any is_long_text) (rows_of batch) ≡ false → body_length (cut_batch batch from to) ≤ most_body_bytes
+    → list_any (list_any is_long_text) (rows_of batch) ≡ false → plain_length (cut_batch batch from to) ≤ most_body_bytes
 one_row_fits keep batch from to one within few short =
     let columns = map (λ (column : ColumnAt). cut column from to) batch.columns in
     let long = list_any is_long_text in
     let none = none-take long (to - from) (drop from (rows_of batch)) (none-drop long from (rows_of batch) short) in
     let row = first_short from to one columns (take (to - from) (drop from (rows_of batch))) (keep batch from to (omega (arith, one)) within) none in
-    let fits : body_length (cut_batch batch from to) ≤ most_cell_bytes * length columns = one_row columns (cut_long from to one batch.columns) row in
+    let fits : plain_length (cut_batch batch from to) ≤ most_cell_bytes * length columns = one_row columns (cut_long from to one batch.columns) row in
     let wide : length columns ≡ length batch.columns = length-map batch.columns (λ (column : ColumnAt). cut column from to) in
     omega (arith, few, fits, wide)
 

@@ -3,9 +3,9 @@ use Rattle.std.proofs.Common.{◌≡◌, ◌≤◌, ◌<◌, ℕ, zero, suc, ◌
 use Rattle.std.specs.List.{list_any}
 use Rattle.scan_base.specs.declared.fault.Fault.{Fault}
 use Rattle.scan_base.specs.Limits.{most_columns}
-use Rattle.ipc_batch.specs.Written.{body_length}
 use Rattle.arrays.specs.Batch.{BatchAt, BatchSlicesKeepRows, rows_of, cut_batch}
 use Rattle.table_versions.specs.Table.{Row, is_long_text}
+use Rattle.plain_batches.specs.Plain.{plain_length}
 use Rattle.flight_info.specs.Payloads.{Payload}
 use Rattle.fetch_stream.specs.Streams.{most_body_bytes}
 use Rattle.fetch_stream.specs.declared.cutter.Cutter.{Cutter}
@@ -39,9 +39,9 @@ new_cutter batch short = record { within = omega arith; some = omega arith; few 
 
 -- one row is always cut
 pub one_fits : BatchSlicesKeepRows → (cutter old : Cutter) → cutter ≡ old → IsCutter old → length old.batch.columns ≤ most_columns → (rows : ℕ) → old.at + rows ≤ old.batch.rows → rows ≡ 1
-    → body_length (cut_batch cutter.batch cutter.at (cutter.at + rows)) ≤ most_body_bytes
+    → plain_length (cut_batch cutter.batch cutter.at (cutter.at + rows)) ≤ most_body_bytes
 one_fits keep cutter old same is few rows within one =
-    subst (λ (c : Cutter). body_length (cut_batch c.batch c.at (c.at + rows)) ≤ most_body_bytes) (sym same)
+    subst (λ (c : Cutter). plain_length (cut_batch c.batch c.at (c.at + rows)) ≤ most_body_bytes) (sym same)
     (one_row_fits keep old.batch old.at (old.at + rows) (omega (arith, one)) within few is.short)
 
 pub more_than_one : (rows : ℕ) → 0 < rows → (rows ≡ 1 → ⊥) → 0 < rows / 2
@@ -50,7 +50,7 @@ more_than_one (suc zero) some not = absurd (not refl)
 more_than_one (suc (suc n)) some not = omega arith
 
 -- half of too many reach as far as they may
-pub half_reaches : (cutter old : Cutter) → cutter ≡ old → (rows : ℕ) → 0 < rows → old.at + rows ≤ old.batch.rows → most_body_bytes < body_length (cut_batch cutter.batch cutter.at (cutter.at + rows))
+pub half_reaches : (cutter old : Cutter) → cutter ≡ old → (rows : ℕ) → 0 < rows → old.at + rows ≤ old.batch.rows → most_body_bytes < plain_length (cut_batch cutter.batch cutter.at (cutter.at + rows))
     → ReachesFar old (rows / 2)
 half_reaches cutter old same rows some within over = inr (
   rows,
@@ -58,7 +58,7 @@ half_reaches cutter old same rows some within over = inr (
     more = omega (arith, some);
     near = omega arith;
     within = within;
-    long = subst (λ (c : Cutter). most_body_bytes < body_length (cut_batch c.batch c.at (c.at + rows))) same over;
+    long = subst (λ (c : Cutter). most_body_bytes < plain_length (cut_batch c.batch c.at (c.at + rows))) same over;
   },
 )
 

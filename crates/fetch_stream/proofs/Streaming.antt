@@ -31,7 +31,7 @@ use Rattle.scan_base.specs.Limits.{most_columns}
 use Rattle.table_versions.proofs.Storable.{length-typed}
 use Rattle.fetch_stream.specs.Streams.{most_body_bytes}
 use Rattle.fetch_stream.specs.inside.Ahead.{AnsweredAs}
-use Rattle.fetch_stream.specs.inside.Written.{Carries, SaysSchema, SaysBatchBehind}
+use Rattle.fetch_stream.specs.inside.Written.{Carries, SaysSchema, SaysWritten, SaysBatchBehind}
 
 -- ---- one payload
 
@@ -63,7 +63,7 @@ schema_said payload schema is e short =
 
 -- the payload of a batch
 pub batch_said : (payload header body : List ℕ) (batch : BatchAt) → payload ≡ data_head header (length body) ++ body → FitsMemory header → length body ≤ most_body_bytes
-    → SaysBatch (record { header = header; body = body }) batch → SaysBatchBehind payload batch
+    → SaysBatch (record { header = header; body = body }) batch → SaysWritten payload batch
 batch_said payload header body batch e long short said = record {
   message = record { header = header; body = body };
   carries = carried_back payload header body (e ∙ sym (bodies_follow_heads (record { data_header = header; data_body = body }))) long (omega (arith, short));

@@ -8,7 +8,7 @@ use Rattle.std.proofs.lemmas.Str.{IsUtf8-from_ascii}
 use Rattle.std.proofs.lemmas.List.{map-append, length-map, length-replicate, same_lists}
 use Rattle.std.proofs.lemmas.List.Concat.{flat_map-append}
 use Rattle.std.proofs.lemmas.List.Elements.{All-nil, All-cons, All-head, All-map, All-push, All-tail}
-use Rattle.std.proofs.lemmas.List.FromFn.{get_or-map-range_with_len, get_or-range_with_len, length-map-range_with_len, length-range_with_len}
+use Rattle.std.proofs.lemmas.List.FromFn.{get_or-map-range_with_len, get_or-range_with_len, length-map-range_with_len}
 use Rattle.std.proofs.lemmas.Nat.Bits.{bit_at-zero}
 use Rattle.std.proofs.lemmas.Option.{slice_get-get_or}
 use Rattle.byteorder.specs.Endian.{little_bytes, little_from}
@@ -20,14 +20,14 @@ use Rattle.scan_base.specs.declared.value.Value.{Value}
 use Rattle.scan_base.specs.declared.value.Value.TheVariants.{Null, Text}
 use Rattle.scan_base.specs.Limits.{most_name_bytes, most_text_bytes}
 use Rattle.scan_base.specs.Value.{is_null, IsTextOrNull}
-use Rattle.arrow_schema.specs.declared.data_type.DataType.TheVariants.{Utf8, Dictionary}
+use Rattle.arrow_schema.specs.declared.data_type.DataType.TheVariants.{Utf8}
 use Rattle.arrow_schema.specs.declared.data_type.IntegerType.TheVariants.{UInt8}
 use Rattle.arrow_schema.specs.Schema.{IsField, IsSchema}
 use Rattle.arrays.specs.declared.layout.Layout.{Layout}
 use Rattle.arrays.specs.declared.layout.Layout.TheVariants as layout
 use Rattle.arrays.specs.Batch.{AreLong, BatchAt, rows_of}
 use Rattle.arrays.specs.Buffers.{texts_layout}
-use Rattle.arrays.specs.Column.{ColumnAt, IsColumn, slot_of, values_of, whole}
+use Rattle.arrays.specs.Column.{ColumnAt, slot_of, values_of, whole}
 use Rattle.arrays.specs.Indices.{IndicesAt, entry_of}
 use Rattle.arrays.specs.Layout.{layout_slot}
 use Rattle.arrays.specs.Nulls.{null_count}
@@ -36,7 +36,8 @@ use Rattle.arrays.specs.Texts.{TextsAt, is_offset, text_at, text_stands, texts_o
 use Rattle.arrays.specs.Typed.{IsOfType}
 use Rattle.arrays.specs.Written.{text_bytes, offsets_from, texts_joined}
 use Rattle.array_buffers.specs.Written.{values_written, validity_read, SaySlots}
-use Rattle.array_buffers.proofs.ColumnsAgain.{columns_again}
+use Rattle.arrays.proofs.OfType.{index_is_text}
+use Rattle.array_buffers.proofs.ColumnsAgain.{texts_read_again}
 use Rattle.array_buffers.proofs.Packed.{map_same}
 use Rattle.ipc_batch.proofs.Lengths.{both}
 use Rattle.table_versions.specs.Table.{Name, Row, is_long_text}
@@ -151,18 +152,6 @@ values_back values =
     let within : k < length values = omega (arith, count) in
     get_or-map-range_with_len slot 0 (length values) k k d within (omega arith) ∙ slot_at values k d within)
 
-is_column : (values : List Value) → All IsTextOrNull values → length values < 2 ^ 64 → IsColumn (column_of values)
-is_column values texts few = record {
-  stands = record {
-    validity = tt;
-    values = omega (arith, length-range_with_len 0 (length values));
-    indices = λ place low. rw (entry_at_place values place Null low) refl;
-    texts = texts;
-  };
-  within = omega arith;
-  small = omega (arith, few);
-}
-
 none_null : (texts : List Name) → filter is_null (text_values texts) ≡ []
 none_null [] = refl
 none_null (text ∷ texts) = none_null texts
@@ -175,20 +164,19 @@ no_validity texts =
 abbrev Reads : List Name → List ℕ → List ℕ → ℕ → Type 0
 Reads texts offsets bytes len = (read : Layout) × (texts_layout None offsets bytes len ≡ Ok read) × (values_of (whole read) ≡ text_values texts) × IsOfType Utf8 read
 
-read_back : (texts : List Name) → All (λ (text : Name). is_utf8 text ≡ true) texts → length texts < 2 ^ 64 → length (texts_joined (text_values texts)) < 2 ^ 31
+read_back : (texts : List Name) → All (λ (text : Name). is_utf8 text ≡ true) texts → length (texts_joined (text_values texts)) < 2 ^ 31
     → Reads texts (offsets_from 0 (text_values texts)) (texts_joined (text_values texts)) (length (text_values texts))
 unfolding values_written
-read_back texts utf8 few short =
+read_back texts utf8 short =
     let values = text_values texts in
     let column = column_of values in
     let back = values_back values in
     let are : All IsTextOrNull values = All-map IsTextOrNull Text texts utf8 in
-    let stands = is_column values are (omega (arith, few, length-map texts Text)) in
     let fits : length (texts_joined (values_of column)) < 2 ^ 31 = rw back short in
-    let said : SaySlots Utf8 (validity_read column) (offsets_from 0 (values_of column) ∷ texts_joined (values_of column) ∷ []) (length values) (values_of column) =
-    columns_again (Dictionary (record { id = 0; index = UInt8 })) column stands tt fits in
-    let own = subst (λ (vs : List Value). SaySlots Utf8 (validity_read column) (offsets_from 0 vs ∷ texts_joined vs ∷ []) (length values) vs) back said in
-    subst (λ (validity : Option (List ℕ)). SaySlots Utf8 validity (offsets_from 0 values ∷ texts_joined values ∷ []) (length values) values) (no_validity texts) own
+    let said : SaySlots Utf8 [] (validity_read column) (offsets_from 0 (values_of column) ∷ texts_joined (values_of column) ∷ []) (length values) (values_of column) =
+    texts_read_again column fits (λ j low. index_is_text (places values) (0 + j) are) in
+    let own = subst (λ (vs : List Value). SaySlots Utf8 [] (validity_read column) (offsets_from 0 vs ∷ texts_joined vs ∷ []) (length values) vs) back said in
+    subst (λ (validity : Option (List ℕ)). SaySlots Utf8 [] validity (offsets_from 0 values ∷ texts_joined values ∷ []) (length values) values) (no_validity texts) own
 
 -- ---- the column of some texts
 
@@ -207,7 +195,7 @@ text_slots offsets bytes texts len held counted few =
     let values = text_values texts in
     let all : length values ≡ len = omega (arith, counted, ap length held.cut, length-offsets 0 values) in
     let short : length (texts_joined values) < 2 ^ 31 = omega (arith, held.short, ap length held.joined) in
-    let back = read_back texts held.utf8 (omega (arith, few, all, length-map texts Text)) short in
+    let back = read_back texts held.utf8 short in
     let mine : Reads texts offsets bytes len = rw (held.cut, held.joined, ← all) back in
     let found = both (texts_of None offsets bytes len) (λ (cells : TextsAt). good (layout.Texts cells)) mine.0 mine.1 in
     let same : mine.0 ≡ layout.Texts found.0 = let last = found.2 in cc in

@@ -29,9 +29,9 @@ pub if_ok : {T E : Type 0} (P Q : T → Type 0) → ((x : T) → P x → Q x) �
 if_ok P Q f (Ok x) h = f x h
 if_ok P Q f (Err e) h = tt
 
-counts_all : (tallies : List Tally) → map (value_or_null Int) (map count_or_none tallies) ≡ map (λ (tally : Tally). Int (pos tally.count)) tallies
+counts_all : (counts : List ℕ) → map (value_or_null Int) (map count_or_none counts) ≡ map (λ (count : ℕ). Int (pos count)) counts
 counts_all [] = refl
-counts_all (tally ∷ tallies) = ap (λ rest. Int (pos tally.count) ∷ rest) (counts_all tallies)
+counts_all (count ∷ counts) = ap (λ rest. Int (pos count) ∷ rest) (counts_all counts)
 
 sum_one : (tally : Tally) → value_or_null Int (sum_or_none tally) ≡ (if tally.count == 0 then Null else Int tally.sum)
 sum_one tally = by (tally.count == 0)
@@ -47,10 +47,10 @@ sums_all (tally ∷ tallies) =
     ∙ ap (λ rest. (if tally.count == 0 then Null else Int tally.sum) ∷ rest) (sums_all tallies)
 
 -- the values of a column of counts
-pub counts_of : (tallies : List Tally) (index : ℕ) (values : List (Option ℤ)) → length tallies ≤ index → values ≡ map count_or_none (take index tallies) →
-    map (value_or_null Int) values ≡ map (λ (tally : Tally). Int (pos tally.count)) tallies
-counts_of tallies index values long is =
-    ap (map (value_or_null Int)) (is ∙ ap (map count_or_none) (take_all index tallies long)) ∙ counts_all tallies
+pub counts_of : (counts : List ℕ) (index : ℕ) (values : List (Option ℤ)) → length counts ≤ index → values ≡ map count_or_none (take index counts) →
+    map (value_or_null Int) values ≡ map (λ (count : ℕ). Int (pos count)) counts
+counts_of counts index values long is =
+    ap (map (value_or_null Int)) (is ∙ ap (map count_or_none) (take_all index counts long)) ∙ counts_all counts
 
 -- the values of a column of sums
 pub sums_of : (tallies : List Tally) (index : ℕ) (values : List (Option ℤ)) → length tallies ≤ index → values ≡ map sum_or_none (take index tallies) →

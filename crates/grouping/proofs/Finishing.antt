@@ -1,7 +1,6 @@
 -- Batches of the answer.
-use Rattle.std.proofs.Common.{◌≡◌, ◌≤◌, ◌<◌, ℕ, zero, suc, ◌+◌, ◌-◌, ◌*◌, pos, Bool, true, false, if◌then◌else◌, nat_lt, List, [], ◌∷◌, ◌++◌, All, length, map, get_or, take, drop, Result, Ok, Err, IfOk, refl, sym, ap, ◌∙◌, subst, arith, Vec, ◌⊎◌, inl, inr}
+use Rattle.std.proofs.Common.{◌≡◌, ◌≤◌, ◌<◌, ℕ, zero, suc, ◌+◌, ◌-◌, ◌*◌, pos, Bool, true, false, if◌then◌else◌, nat_lt, List, [], ◌∷◌, ◌++◌, All, length, map, get_or, take, drop, Result, Ok, Err, IfOk, refl, sym, ap, ◌∙◌, subst, arith, ◌⊎◌, inl, inr}
 use Rattle.std.specs.Prelude.{◌==◌}
-use Rattle.std.specs.Global.{Global}
 use Rattle.std.specs.List.{range_with_len}
 use Rattle.std.proofs.lemmas.List.{get_or-map, get_or-take, get_or-drop, get_or_default, get_or_append_left, get_or_push, length-take-le, length-drop, length-map}
 use Rattle.std.proofs.lemmas.List.FromFn.{get_or-map-range_with_len, length-map-range_with_len}
@@ -26,6 +25,7 @@ use Rattle.typed_plan.specs.Typed.{has_item, item_type, type_at}
 use Rattle.typed_plan.specs.declared.plan.Aggregate.{Aggregate}
 use Rattle.typed_plan.specs.declared.plan.Aggregate.TheVariants.{Key, CountRows, Count, Sum}
 use Rattle.grouping.specs.declared.batches.Answer.{Answer}
+use Rattle.grouping.specs.declared.item_tallies.ItemTallies.{ItemTallies}
 use Rattle.grouping.specs.declared.key.Place.{Place}
 use Rattle.grouping.specs.declared.tally.Tally.{Tally}
 use Rattle.grouping.specs.Answered.{cell_at, row_at, answer_rows}
@@ -42,6 +42,7 @@ use Rattle.batch_room.proofs.Shares.{fewer_cells, shared_texts}
 use Rattle.grouping.specs.inside.Answering.{first_cell}
 use Rattle.grouping.specs.inside.Counting.{AreWithin}
 use Rattle.grouping.specs.inside.Finishing.{groups_in, CanAnswer, item_cells, AllFit, IsItemColumn, IsBatchOf, IsNextOf}
+use Rattle.grouping.specs.inside.Held.{tallies_in}
 use Rattle.grouping.proofs.Batching.{ranged_any, rows_of_cells}
 use Rattle.grouping.proofs.Feeding.{has_each}
 use Rattle.grouping.proofs.KeyCells.{key_there}
@@ -76,24 +77,18 @@ pub record AreTallies (answer : Answer) (item : ℕ) (tallies : List Tally) : Ty
   pub few : All (λ (tally : Tally). tally.count ≤ most_rows) tallies
 
 -- the item at a place has tallies
-pub item_tallies : (answer : Answer) (item : ℕ) (list : Vec Tally Global) (slice : List Tally) → CanAnswer answer → item < length answer.items.now →
-    slice ≡ (get_or answer.tallies.now item list).items → AreTallies answer item slice
-item_tallies answer item list slice can there is =
-    let low : item < length answer.tallies.now = omega (arith, can.kept.many, length-map answer.tallies.now (λ (list : Vec Tally Global). list.items)) in
-    let whole : slice ≡ get_or (lists_of answer.tallies.now) item [] = is ∙ sym (get_or-map (λ (list : Vec Tally Global). list.items) answer.tallies.now item list [] low) in
+pub item_tallies : (answer : Answer) (item : ℕ) (d : ItemTallies) → CanAnswer answer → item < length answer.items.now →
+    AreTallies answer item (tallies_in (get_or answer.tallies.now item d))
+item_tallies answer item d can there =
+    let slice = tallies_in (get_or answer.tallies.now item d) in
+    let low : item < length answer.tallies.now = omega (arith, can.kept.many, length-map answer.tallies.now tallies_in) in
+    let whole : slice ≡ get_or (lists_of answer.tallies.now) item [] = sym (get_or-map tallies_in answer.tallies.now item d [] low) in
     let small : AreWithin can.count slice = subst (AreWithin can.count) (sym whole) (can.kept.small item there) in
     record {
       whole = whole;
       long = ap length whole ∙ can.kept.long item there;
       few = λ k d within. let few = one_within can.count slice k d small within in omega (arith, few, can.few);
     }
-
--- so is a part of them
-pub part_few : (slice part : List Tally) (from many : ℕ) → part ≡ take many (drop from slice) → All (λ (tally : Tally). tally.count ≤ most_rows) slice →
-    All (λ (tally : Tally). tally.count ≤ most_rows) part
-part_few slice part from many cut few =
-    subst (All (λ (tally : Tally). tally.count ≤ most_rows)) (sym cut)
-    (All-take (λ (tally : Tally). tally.count ≤ most_rows) many (drop from slice) (All-drop (λ (tally : Tally). tally.count ≤ most_rows) from slice few))
 
 -- the values of a part of the tallies of an item are its cells
 tally_cells : (groups : GroupsAt) (item from many : ℕ) (slice : List Tally) (f : Tally → Value) → slice ≡ get_or groups.tallies item [] →
@@ -106,18 +101,18 @@ tally_cells groups item from many slice f is within same =
     ∙ ap f (get_or_default slice group no_rows d low))
 
 -- the column of tallies is that of the item
-pub tally_column : (groups : GroupsAt) (item from to : ℕ) (slice part : List Tally) (f : Tally → Value) (t : DataType) (column : ColumnAt) →
+pub tally_column : (groups : GroupsAt) (item from to : ℕ) (slice : List Tally) (f : Tally → Value) (t : DataType) (column : ColumnAt) →
     slice ≡ get_or groups.tallies item [] → length slice ≡ length groups.found → from ≤ to → to ≤ length groups.found →
     ((key : List Value) (tally : Tally) → item_value key (get_or groups.items item (Key 0)) tally ≡ f tally) →
     answer_type (item_type groups.keys groups.types (get_or groups.items item (Key 0))) ≡ t →
-    part ≡ take (to - from) (drop from slice) → values_of column ≡ map f part → IsOfType t column.layout → column.len ≡ length part →
+    values_of column ≡ map f (take (to - from) (drop from slice)) → IsOfType t column.layout → column.len ≡ to - from →
     IsItemColumn groups item from (to - from) column
-tally_column groups item from to slice part f t column is all ordered within same kind cut values typed long =
+tally_column groups item from to slice f t column is all ordered within same kind values typed long =
     let inside : from + (to - from) ≤ length slice = omega (arith, all) in
     record {
-      values = values ∙ ap (map f) cut ∙ tally_cells groups item from (to - from) slice f is inside same;
+      values = values ∙ tally_cells groups item from (to - from) slice f is inside same;
       typed = subst (λ (t : DataType). IsOfType t column.layout) (sym kind) typed;
-      long = long ∙ ap length cut ∙ part_long slice from (to - from) inside;
+      long = long;
     }
 
 -- an item that counts gives the count
@@ -131,23 +126,24 @@ count_type keys types item (inl is) = ap (λ (item : Aggregate). answer_type (it
 count_type keys types item (inr (column, is)) = ap (λ (item : Aggregate). answer_type (item_type keys types item)) is
 
 -- the column of counts is that of an item that counts
-pub counted_column : (answer : Answer) (item from to : ℕ) (slice part : List Tally) (column : ColumnAt) → AreTallies answer item slice →
+pub counted_column : (answer : Answer) (item from to : ℕ) (slice : List Tally) (column : ColumnAt) → AreTallies answer item slice →
     (get_or answer.items.now item (Key 0) ≡ CountRows) ⊎ ((counted : ℕ) × (get_or answer.items.now item (Key 0) ≡ Count counted)) →
-    from ≤ to → to ≤ length (groups_in answer).found → part ≡ take (to - from) (drop from slice) →
-    values_of column ≡ map (λ (tally : Tally). Int (pos tally.count)) part → IsOfType (Integer Int64) column.layout → column.len ≡ length part →
+    from ≤ to → to ≤ length (groups_in answer).found →
+    values_of column ≡ map (λ (tally : Tally). Int (pos tally.count)) (take (to - from) (drop from slice)) → IsOfType (Integer Int64) column.layout → column.len ≡ to - from →
     IsItemColumn (groups_in answer) item from (to - from) column
-counted_column answer item from to slice part column are is ordered within cut values typed long =
-    tally_column (groups_in answer) item from to slice part (λ (tally : Tally). Int (pos tally.count)) (Integer Int64) column are.whole are.long ordered within
-    (count_value (get_or answer.items.now item (Key 0)) is) (count_type answer.keys.now answer.types.now (get_or answer.items.now item (Key 0)) is) cut values typed long
+counted_column answer item from to slice column are is ordered within values typed long =
+    tally_column (groups_in answer) item from to slice (λ (tally : Tally). Int (pos tally.count)) (Integer Int64) column are.whole are.long ordered within
+    (count_value (get_or answer.items.now item (Key 0)) is) (count_type answer.keys.now answer.types.now (get_or answer.items.now item (Key 0)) is) values typed long
 
 -- the column of sums is that of an item that sums
-pub summed_column : (answer : Answer) (item from to summed : ℕ) (slice part : List Tally) (column : ColumnAt) → AreTallies answer item slice →
-    get_or answer.items.now item (Key 0) ≡ Sum summed → from ≤ to → to ≤ length (groups_in answer).found → part ≡ take (to - from) (drop from slice) →
-    values_of column ≡ map (λ (tally : Tally). if tally.count == 0 then Null else Int tally.sum) part → IsOfType Decimal128 column.layout → column.len ≡ length part →
+pub summed_column : (answer : Answer) (item from to summed : ℕ) (slice : List Tally) (column : ColumnAt) → AreTallies answer item slice →
+    get_or answer.items.now item (Key 0) ≡ Sum summed → from ≤ to → to ≤ length (groups_in answer).found →
+    values_of column ≡ map (λ (tally : Tally). if tally.count == 0 then Null else Int tally.sum) (take (to - from) (drop from slice)) →
+    IsOfType Decimal128 column.layout → column.len ≡ to - from →
     IsItemColumn (groups_in answer) item from (to - from) column
-summed_column answer item from to summed slice part column are is ordered within cut values typed long =
-    tally_column (groups_in answer) item from to slice part (λ (tally : Tally). if tally.count == 0 then Null else Int tally.sum) Decimal128 column are.whole are.long ordered within
-    (λ key tally. ap (λ (item : Aggregate). item_value key item tally) is) (ap (λ (item : Aggregate). answer_type (item_type answer.keys.now answer.types.now item)) is) cut values typed long
+summed_column answer item from to summed slice column are is ordered within values typed long =
+    tally_column (groups_in answer) item from to slice (λ (tally : Tally). if tally.count == 0 then Null else Int tally.sum) Decimal128 column are.whole are.long ordered within
+    (λ key tally. ap (λ (item : Aggregate). item_value key item tally) is) (ap (λ (item : Aggregate). answer_type (item_type answer.keys.now answer.types.now item)) is) values typed long
 
 -- ---- the column of a key
 

@@ -1,14 +1,15 @@
 -- Tallies of the items, each with those of others.
-use Rattle.std.proofs.Common.{◌≡◌, ◌≢◌, ◌≤◌, ◌<◌, ℕ, ◌+◌, add-one, List, [], length, take, get_or, slice_set, sym, ap, ◌∙◌, subst, arith, below_more, get_or-set_other, get_or-set_same, Vec}
-use Rattle.std.specs.Global.{Global}
+use Rattle.std.proofs.Common.{◌≡◌, ◌≢◌, ◌≤◌, ◌<◌, ℕ, ◌+◌, add-one, List, [], length, take, get_or, slice_set, sym, ap, ◌∙◌, subst, arith, below_more, get_or-set_other, get_or-set_same}
 use Rattle.std.proofs.Math.ListN.{length-set}
 use Rattle.std.proofs.lemmas.List.{get_or-map, length-map}
 use Rattle.std.proofs.lemmas.List.Sums.{sum_by_more, sum_by_more_le}
 use Rattle.typed_plan.specs.declared.plan.Aggregate.{Aggregate}
+use Rattle.grouping.specs.declared.item_tallies.ItemTallies.{ItemTallies}
 use Rattle.grouping.specs.declared.tally.Tally.{Tally}
 use Rattle.grouping.specs.Tallies.{no_rows, both}
 use Rattle.grouping.specs.inside.Adding.{IsKept, lists_of}
 use Rattle.grouping.specs.inside.Counting.{AreWithin, IsSmall, counted_in}
+use Rattle.grouping.specs.inside.Held.{tallies_in}
 use Rattle.grouping.specs.inside.Merging.{AllJoined, IsJoined, joined}
 use Rattle.grouping.proofs.AddingAll.{item_left}
 use Rattle.grouping.proofs.JoinedTallies.{joined_long}
@@ -58,7 +59,7 @@ pub within_own : (most : ℕ) (tallies : List Tally) → AreWithin most tallies 
 within_own most tallies within = record { few = omega arith; small = within.small }
 
 -- the tallies of an item, and the others of it
-pub record IsItem (old fed many more place : ℕ) (tallies others : List (Vec Tally Global)) (own other : List Tally) : Type 0 where
+pub record IsItem (old fed many more place : ℕ) (tallies others : List ItemTallies) (own other : List Tally) : Type 0 where
   pub same : get_or (lists_of tallies) place [] ≡ own
   pub long : length own ≡ old
   pub small : AreWithin fed own
@@ -66,16 +67,15 @@ pub record IsItem (old fed many more place : ℕ) (tallies others : List (Vec Ta
   pub long_others : length other ≡ many
   pub small_others : AreWithin more other
 
-pub item_at : (items : List Aggregate) (place old fed many more : ℕ) (d e : Vec Tally Global) (start tallies others : List (Vec Tally Global)) → place < length items →
+pub item_at : (items : List Aggregate) (place old fed many more : ℕ) (d e : ItemTallies) (start tallies others : List ItemTallies) → place < length items →
     get_or (lists_of tallies) place [] ≡ get_or (lists_of start) place [] → length tallies ≡ length start →
     IsKept items old fed (lists_of start) → IsKept items many more (lists_of others) →
-    IsItem old fed many more place tallies others (get_or tallies place d).items (get_or others place e).items
+    IsItem old fed many more place tallies others (tallies_in (get_or tallies place d)) (tallies_in (get_or others place e))
 item_at items place old fed many more d e start tallies others low left same kept other =
-    let list : Vec Tally Global → List Tally = λ list. list.items in
-    let there : place < length tallies = let all = kept.many in omega (arith, all, low, same, length-map start list) in
-    let there_too : place < length others = let all = other.many in omega (arith, all, low, length-map others list) in
-    let is = get_or-map list tallies place d [] there in
-    let is_other = get_or-map list others place e [] there_too in
+    let there : place < length tallies = let all = kept.many in omega (arith, all, low, same, length-map start tallies_in) in
+    let there_too : place < length others = let all = other.many in omega (arith, all, low, length-map others tallies_in) in
+    let is = get_or-map tallies_in tallies place d [] there in
+    let is_other = get_or-map tallies_in others place e [] there_too in
     let at = item_left items old fed place (lists_of start) (lists_of tallies) left kept low in
     record {
       same = is;

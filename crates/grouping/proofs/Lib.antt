@@ -15,6 +15,8 @@ pub mod Giving
 pub mod JoinedKeys
 pub mod JoinedTallies
 pub mod JoiningAll
+pub mod Counted
+pub mod Padded
 pub mod Merging
 pub mod Slotted
 pub mod Knowing

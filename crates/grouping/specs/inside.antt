@@ -3,6 +3,7 @@ pub mod Adding
 pub mod Answering
 pub mod Counting
 pub mod Finishing
+pub mod Held
 pub mod Kept
 pub mod Knowing
 pub mod Merging

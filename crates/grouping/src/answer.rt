@@ -1,6 +1,6 @@
 //! Columns of the answer.
 
-ghost use Rattle.std.specs.Prelude.{◌≡◌, ◌≤◌, ◌==◌, pos, All, IfOk, length, map, if◌then◌else◌};
+ghost use Rattle.std.specs.Prelude.{◌≡◌, ◌≤◌, ◌==◌, ◌-◌, pos, All, IfOk, length, map, take, drop, if◌then◌else◌};
 ghost use Rattle.scan_base.specs.Limits.{most_rows};
 ghost use Rattle.scan_base.specs.declared.value.Value.TheVariants as value;
 ghost use Rattle.arrow_schema.specs.declared.data_type.DataType.TheVariants as type;
@@ -8,36 +8,85 @@ ghost use Rattle.arrow_schema.specs.declared.data_type.IntegerType.TheVariants a
 ghost use Rattle.arrays.specs.Column.{values_of};
 ghost use Rattle.arrays.specs.Typed.{IsOfType};
 ghost use Rattle.grouping.specs.inside.Answering.{sum_or_none};
+ghost use Rattle.grouping.specs.inside.Held.{tallies_in};
 
+use crate::item_tallies::{ItemTallies, narrowed, widened};
 use crate::tally::Tally;
 use array_select::{column_of_decimals, column_of_int64s};
 use arrays::Column;
 use std::alloc::{AllocError, Global};
 
-/// The column of a count.
+/// The column of a count, of the groups `from` up to, not with, `to`.
 ///
 /// # Errors
 ///
 /// `AllocError` where memory is refused.
-pub(crate) fn count_column(alloc: Global, tallies: &[Tally]) -> Result<Column, AllocError>
-    requires { All (λ tally. tally.count ≤ most_rows) tallies.now }
-    ensures values { IfOk result (λ made. values_of made ≡ map (λ tally. value.Int (pos tally.count)) tallies.now) }
+pub(crate) fn count_column(
+    alloc: Global,
+    tallies: &ItemTallies,
+    from: usize,
+    to: usize,
+) -> Result<Column, AllocError>
+    requires ordered { from ≤ to }
+    requires within { to ≤ length (tallies_in tallies.now) }
+    requires few { All (λ tally. tally.count ≤ most_rows) (tallies_in tallies.now) }
+    ensures values { IfOk result (λ made. values_of made ≡ map (λ tally. value.Int (pos tally.count)) (take (to - from) (drop from (tallies_in tallies.now)))) }
     ensures typed { IfOk result (λ made. IsOfType (type.Integer integer.Int64) made.layout) }
-    ensures long { IfOk result (λ made. made.len ≡ length tallies.now) }
+    ensures long { IfOk result (λ made. made.len ≡ to - from) }
 {
-    let mut counts = Vec::with_capacity(alloc, tallies.len())?;
-    for tally in tallies {
-        counts.push(Some(tally.count as i64))?;
+    match tallies {
+        ItemTallies::Counts(counts) => column_of_counts(alloc, &counts.as_slice()[from..to]),
+        ItemTallies::Sums(sums) => {
+            let counts = narrowed(alloc, &sums.as_slice()[from..to])?;
+            column_of_counts(alloc, counts.as_slice())
+        }
     }
-    column_of_int64s(alloc, counts.as_slice())
 }
 
-/// The column of a sum: null where nothing is summed.
+/// The column of a sum, of the groups `from` up to, not with, `to`: null where nothing is summed.
 ///
 /// # Errors
 ///
 /// `AllocError` where memory is refused.
-pub(crate) fn sum_column(alloc: Global, tallies: &[Tally]) -> Result<Column, AllocError>
+#[tactic(auto, using(crate::proofs::Counted::counts_part))]
+pub(crate) fn sum_column(
+    alloc: Global,
+    tallies: &ItemTallies,
+    from: usize,
+    to: usize,
+) -> Result<Column, AllocError>
+    requires ordered { from ≤ to }
+    requires within { to ≤ length (tallies_in tallies.now) }
+    ensures values { IfOk result (λ made. values_of made
+        ≡ map (λ tally. if tally.count == 0 then value.Null else value.Int tally.sum) (take (to - from) (drop from (tallies_in tallies.now)))) }
+    ensures typed { IfOk result (λ made. IsOfType type.Decimal128 made.layout) }
+    ensures long { IfOk result (λ made. made.len ≡ to - from) }
+{
+    match tallies {
+        ItemTallies::Counts(counts) => {
+            let sums = widened(alloc, &counts.as_slice()[from..to])?;
+            column_of_sums(alloc, sums.as_slice())
+        }
+        ItemTallies::Sums(sums) => column_of_sums(alloc, &sums.as_slice()[from..to]),
+    }
+}
+
+// The column of counts.
+fn column_of_counts(alloc: Global, counts: &[u64]) -> Result<Column, AllocError>
+    requires { All (λ count. count ≤ most_rows) counts.now }
+    ensures values { IfOk result (λ made. values_of made ≡ map (λ count. value.Int (pos count)) counts.now) }
+    ensures typed { IfOk result (λ made. IsOfType (type.Integer integer.Int64) made.layout) }
+    ensures long { IfOk result (λ made. made.len ≡ length counts.now) }
+{
+    let mut numbers = Vec::with_capacity(alloc, counts.len())?;
+    for count in counts {
+        numbers.push(Some(*count as i64))?;
+    }
+    column_of_int64s(alloc, numbers.as_slice())
+}
+
+// The column of sums: null where nothing is summed.
+fn column_of_sums(alloc: Global, tallies: &[Tally]) -> Result<Column, AllocError>
     ensures values { IfOk result (λ made. values_of made ≡ map (λ tally. if tally.count == 0 then value.Null else value.Int tally.sum) tallies.now) }
     ensures typed { IfOk result (λ made. IsOfType type.Decimal128 made.layout) }
     ensures long { IfOk result (λ made. made.len ≡ length tallies.now) }

@@ -10,9 +10,9 @@ ghost use Rattle.grouping.specs.inside.Placing.{found_by, place_of};
 
 use crate::batches::Answer;
 use crate::groups::Grouping;
+use crate::item_tallies::ItemTallies;
 use crate::kept::Kept;
 use crate::key::{Place, RowKey};
-use crate::tally::Tally;
 use array_select::MOST_BATCH_ROWS;
 use arrays::Batch;
 use arrow_schema::DataType;
@@ -29,7 +29,7 @@ pub struct Answers {
     keys: Vec<usize>,
     items: Vec<Aggregate>,
     firsts: Vec<Place>,
-    tallies: Vec<Vec<Tally>>,
+    tallies: Vec<ItemTallies>,
     given: usize,
     // As many groups as the next batch is tried with.
     most: usize,

@@ -11,8 +11,8 @@ ghost use Rattle.grouping.specs.inside.Answering.{first_cell};
 ghost use Rattle.grouping.specs.inside.Finishing.{groups_in, AllFit, CanAnswer, IsItemColumn, IsBatchOf, IsNextOf, item_cells};
 
 use crate::answer::{count_column, sum_column};
+use crate::item_tallies::ItemTallies;
 use crate::key::Place;
-use crate::tally::Tally;
 use array_select::{SlotRef, column_of_slots, has_texts};
 use arrays::{Batch, Column};
 use arrow_schema::DataType;
@@ -28,7 +28,7 @@ pub(crate) struct Answer<'a> {
     pub(crate) keys: &'a [usize],
     pub(crate) items: &'a [Aggregate],
     pub(crate) firsts: &'a [Place],
-    pub(crate) tallies: &'a [Vec<Tally>],
+    pub(crate) tallies: &'a [ItemTallies],
 }
 
 // The elements `from` up to, not with, `to`.
@@ -162,11 +162,9 @@ impl<'a> Answer<'a> {
                 column_of_slots(alloc, self.types[column], slots.as_slice())
             }
             Aggregate::CountRows | Aggregate::Count(_) => {
-                count_column(alloc, part(self.tallies[item].as_slice(), from, to))
+                count_column(alloc, &self.tallies[item], from, to)
             }
-            Aggregate::Sum(_) => {
-                sum_column(alloc, part(self.tallies[item].as_slice(), from, to))
-            }
+            Aggregate::Sum(_) => sum_column(alloc, &self.tallies[item], from, to),
         }
     }
 

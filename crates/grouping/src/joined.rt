@@ -7,9 +7,11 @@ ghost use Rattle.typed_plan.specs.Grouped.{same_key};
 ghost use Rattle.grouping.specs.RowKeys.{key_of};
 ghost use Rattle.grouping.specs.inside.Adding.{IsKept, lists_of};
 ghost use Rattle.grouping.specs.inside.Counting.{AreWithin, counted_in};
+ghost use Rattle.grouping.specs.inside.Held.{count_tallies, tallies_in};
 ghost use Rattle.grouping.specs.inside.Merging.{AllJoined, AreJoined, FirstsJoin, IsJoined, joined};
 ghost use Rattle.grouping.specs.inside.Placing.{found_by};
 
+use crate::item_tallies::{ItemTallies, widened};
 use crate::key::RowKey;
 use crate::table::group_of;
 use crate::tally::Tally;
@@ -21,7 +23,7 @@ use typed_plan::Aggregate;
 /// The tallies of other groups, the group that each joins, and how many rows were fed here and there.
 #[derive(Clone, Copy, Drop)]
 pub(crate) struct Others<'p> {
-    pub(crate) tallies: &'p [Vec<Tally>],
+    pub(crate) tallies: &'p [ItemTallies],
     pub(crate) groups: &'p [usize],
     pub(crate) fed: usize,
     pub(crate) more: usize,
@@ -75,7 +77,7 @@ fn join_each<'t>(
 ///
 /// `AllocError` where memory is refused.
 pub(crate) fn join_all(
-    tallies: &mut [Vec<Tally>],
+    tallies: &mut [ItemTallies],
     items: &[Aggregate],
     others: &Others<'_>,
     found: usize,
@@ -89,35 +91,91 @@ pub(crate) fn join_all(
     ensures kept { OnOk result (IsKept items.now found (others.now.fed + others.now.more) (lists_of tallies.new)) }
 {
     for item in 0..items.len() {
-        let more = others.tallies[item].as_slice();
-        join_item(&mut tallies[item], more, others.groups, found)?;
+        join_item(
+            &mut tallies[item],
+            &others.tallies[item],
+            others.groups,
+            found,
+        )?;
     }
     Ok(())
 }
 
 // Adds each of other tallies to the tally of its group, of so many groups that were found.
 fn join_item(
-    tallies: &mut Vec<Tally>,
-    others: &[Tally],
+    tallies: &mut ItemTallies,
+    others: &ItemTallies,
     groups: &[usize],
     found: usize,
 ) -> Result<(), AllocError>
     requires grouped { All (λ group. group < found) groups.now }
-    requires long { length groups.now ≡ length others.now }
-    requires grown { length tallies.old.items ≤ found }
-    requires few { counted_in tallies.old.items + counted_in others.now ≤ most_rows }
-    requires small { AreWithin (counted_in tallies.old.items) tallies.old.items }
-    requires others { AreWithin (counted_in others.now) others.now }
-    ensures joined { OnOk result (IsJoined groups.now others.now found tallies.old.items tallies.new.items) }
-    ensures small { OnOk result (AreWithin (counted_in tallies.old.items + counted_in others.now) tallies.new.items) }
+    requires long { length groups.now ≡ length (tallies_in others.now) }
+    requires grown { length (tallies_in tallies.old) ≤ found }
+    requires few { counted_in (tallies_in tallies.old) + counted_in (tallies_in others.now) ≤ most_rows }
+    requires small { AreWithin (counted_in (tallies_in tallies.old)) (tallies_in tallies.old) }
+    requires others { AreWithin (counted_in (tallies_in others.now)) (tallies_in others.now) }
+    ensures joined { OnOk result (IsJoined groups.now (tallies_in others.now) found (tallies_in tallies.old) (tallies_in tallies.new)) }
+    ensures small { OnOk result (AreWithin (counted_in (tallies_in tallies.old) + counted_in (tallies_in others.now)) (tallies_in tallies.new)) }
 {
-    tallies.resize(found, Tally::new())?;
-    join_tallies(tallies.as_mut_slice(), others, groups);
+    tallies.resize(found)?;
+    join_tallies(tallies, others, groups)
+}
+
+// Adds each of other tallies to the tally of its group. Counts stay counts where nothing was summed on either side.
+fn join_tallies(
+    tallies: &mut ItemTallies,
+    others: &ItemTallies,
+    groups: &[usize],
+) -> Result<(), AllocError>
+    requires grouped { All (λ group. group < length (tallies_in tallies.old)) groups.now }
+    requires long { length groups.now ≡ length (tallies_in others.now) }
+    requires few { counted_in (tallies_in tallies.old) + counted_in (tallies_in others.now) ≤ most_rows }
+    requires small { AreWithin (counted_in (tallies_in tallies.old)) (tallies_in tallies.old) }
+    requires others { AreWithin (counted_in (tallies_in others.now)) (tallies_in others.now) }
+    ensures joined { OnOk result (tallies_in tallies.new ≡ joined groups.now (tallies_in others.now) (tallies_in tallies.old) (length groups.now)) }
+    ensures small { OnOk result (AreWithin (counted_in (tallies_in tallies.old) + counted_in (tallies_in others.now)) (tallies_in tallies.new)) }
+{
+    match tallies {
+        ItemTallies::Counts(counts) => match others {
+            ItemTallies::Counts(more) => {
+                join_counts(counts.as_mut_slice(), more.as_slice(), groups);
+            }
+            ItemTallies::Sums(more) => {
+                let mut sums = widened(*counts.allocator(), counts.as_slice())?;
+                join_sums(sums.as_mut_slice(), more.as_slice(), groups);
+                *tallies = ItemTallies::Sums(sums);
+            }
+        },
+        ItemTallies::Sums(sums) => match others {
+            ItemTallies::Counts(more) => {
+                let more = widened(*more.allocator(), more.as_slice())?;
+                join_sums(sums.as_mut_slice(), more.as_slice(), groups);
+            }
+            ItemTallies::Sums(more) => {
+                join_sums(sums.as_mut_slice(), more.as_slice(), groups);
+            }
+        },
+    }
     Ok(())
 }
 
+// Adds each of other counts to the count of its group.
+fn join_counts(counts: &mut [u64], others: &[u64], groups: &[usize])
+    requires grouped { All (λ group. group < length counts.old) groups.now }
+    requires long { length groups.now ≡ length others.now }
+    requires few { counted_in (count_tallies counts.old) + counted_in (count_tallies others.now) ≤ most_rows }
+    requires small { AreWithin (counted_in (count_tallies counts.old)) (count_tallies counts.old) }
+    ensures joined { count_tallies counts.new ≡ joined groups.now (count_tallies others.now) (count_tallies counts.old) (length groups.now) }
+    ensures small { AreWithin (counted_in (count_tallies counts.old) + counted_in (count_tallies others.now)) (count_tallies counts.new) }
+{
+    for k in 0..groups.len() {
+        let group = groups[k];
+        counts[group] += others[k];
+    }
+}
+
 // Adds each of other tallies to the tally of its group.
-fn join_tallies(tallies: &mut [Tally], others: &[Tally], groups: &[usize])
+fn join_sums(tallies: &mut [Tally], others: &[Tally], groups: &[usize])
     requires grouped { All (λ group. group < length tallies.old) groups.now }
     requires long { length groups.now ≡ length others.now }
     requires few { counted_in tallies.old + counted_in others.now ≤ most_rows }

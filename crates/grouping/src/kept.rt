@@ -8,18 +8,19 @@ ghost use Rattle.arrays.specs.Batch.{row_of};
 ghost use Rattle.grouping.specs.Found.{found_then};
 ghost use Rattle.grouping.specs.RowKeys.{key_of};
 ghost use Rattle.grouping.specs.inside.Adding.{CanCountAll, IsKept, IsGrown, lists_of};
+ghost use Rattle.grouping.specs.inside.Held.{tallies_in};
 ghost use Rattle.grouping.specs.inside.Kept.{AreBlank};
 ghost use Rattle.grouping.specs.inside.Knowing.{AreKnown, value_tagged};
 ghost use Rattle.grouping.specs.inside.Merging.{FirstsJoin, IsMerged};
 ghost use Rattle.grouping.specs.inside.Placing.{found_by, ArePlaced, FirstsStay};
 
 use crate::groups::Grouping;
+use crate::item_tallies::ItemTallies;
 use crate::joined::{Others, join_all, join_firsts};
 use crate::key::RowKey;
 use crate::known::{Known, know_nothing, known_count};
 use crate::part::{Part, add_all};
 use crate::table::{Chosen, place_rows};
-use crate::tally::Tally;
 use hash_seed::HashSeed;
 use indexmap::IndexSet;
 use std::alloc::{AllocError, Global};
@@ -36,7 +37,7 @@ const LEAST_GROUPS: usize = 256;
 #[derive(Drop)]
 pub(crate) struct Kept<'t> {
     pub(crate) firsts: IndexSet<RowKey<'t>, HashSeed>,
-    pub(crate) tallies: Vec<Vec<Tally>>,
+    pub(crate) tallies: Vec<ItemTallies>,
     pub(crate) count: usize,
     pub(crate) known: Vec<Known>,
 }
@@ -176,15 +177,13 @@ pub(crate) fn blank(
     alloc: Global,
     items: usize,
     groups: usize,
-) -> Result<Vec<Vec<Tally>>, AllocError>
+) -> Result<Vec<ItemTallies>, AllocError>
     ensures many { IfOk result (λ tallies. length tallies.items ≡ items) }
-    ensures blank { IfOk result (λ tallies. All (λ list. AreBlank groups list.items) tallies.items) }
+    ensures blank { IfOk result (λ tallies. All (λ list. AreBlank groups (tallies_in list)) tallies.items) }
 {
     let mut tallies = Vec::with_capacity(alloc, items)?;
     for _item in 0..items {
-        let mut list = Vec::new(alloc);
-        list.resize(groups, Tally::new())?;
-        tallies.push(list)?;
+        tallies.push(ItemTallies::blank(alloc, groups)?)?;
     }
     Ok(tallies)
 }

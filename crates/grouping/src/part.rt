@@ -2,10 +2,12 @@
 
 ghost use Rattle.std.specs.Prelude.{◌≡◌, ◌≤◌, ◌<◌, ℕ, ◌+◌, All, OnOk, length};
 ghost use Rattle.scan_base.specs.Limits.{most_rows};
-ghost use Rattle.typed_plan.specs.declared.plan.Aggregate.TheVariants.{CountRows as CountAll};
 ghost use Rattle.grouping.specs.inside.Adding.{IsAdded, AreAdded, CanCountAll, IsKept, lists_of};
 ghost use Rattle.grouping.specs.inside.Counting.{AreWithin, CanCount, stepped};
+ghost use Rattle.grouping.specs.inside.Held.{tallies_in};
 
+use crate::counts::{count_rows, count_values};
+use crate::item_tallies::{ItemTallies, widened};
 use crate::sums::sum_rows;
 use crate::tally::Tally;
 use arrays::Batch;
@@ -21,38 +23,35 @@ pub(crate) struct Part<'p> {
     pub(crate) fed: usize,
 }
 
-/// Adds each row to the tally of its group. Of a key nothing is kept, so its tallies stay.
-pub(crate) fn add_rows(tallies: &mut [Tally], item: Aggregate, part: &Part<'_>)
+// Adds each row to the tally of its group. Of a key nothing is kept, so its tallies stay.
+fn add_rows(tallies: &mut ItemTallies, item: Aggregate, part: &Part<'_>) -> Result<(), AllocError>
     requires there { CanCount item part.now.batch.now.columns }
     requires within { All (λ row. row < part.now.batch.now.rows) part.now.rows.now }
-    requires grouped { All (λ group. group < length tallies.old) part.now.groups.now }
+    requires grouped { All (λ group. group < length (tallies_in tallies.old)) part.now.groups.now }
     requires long { length part.now.groups.now ≡ length part.now.rows.now }
     requires few { part.now.fed + length part.now.rows.now ≤ most_rows }
-    requires small { AreWithin part.now.fed tallies.old }
-    ensures stepped { tallies.new ≡ stepped item part.now.batch.now.columns part.now.groups.now part.now.rows.now tallies.old (length part.now.rows.now) }
-    ensures small { AreWithin (part.now.fed + length part.now.rows.now) tallies.new }
+    requires small { AreWithin part.now.fed (tallies_in tallies.old) }
+    ensures stepped { OnOk result (tallies_in tallies.new
+        ≡ stepped item part.now.batch.now.columns part.now.groups.now part.now.rows.now (tallies_in tallies.old) (length part.now.rows.now)) }
+    ensures small { OnOk result (AreWithin (part.now.fed + length part.now.rows.now) (tallies_in tallies.new)) }
 {
-    match item {
-        Aggregate::Key(_) => {}
-        Aggregate::CountRows => count_rows(tallies, part),
-        Aggregate::Count(_) => add_each(tallies, item, part),
-        Aggregate::Sum(column) => sum_rows(tallies, column, part),
+    match tallies {
+        ItemTallies::Counts(counts) => match item {
+            Aggregate::Key(_) => {}
+            Aggregate::CountRows => count_rows(counts.as_mut_slice(), part),
+            Aggregate::Count(column) => count_values(counts.as_mut_slice(), column, part),
+            Aggregate::Sum(column) => {
+                let mut sums = widened(*counts.allocator(), counts.as_slice())?;
+                sum_rows(sums.as_mut_slice(), column, part);
+                *tallies = ItemTallies::Sums(sums);
+            }
+        },
+        ItemTallies::Sums(sums) => match item {
+            Aggregate::Sum(column) => sum_rows(sums.as_mut_slice(), column, part),
+            _ => add_each(sums.as_mut_slice(), item, part),
+        },
     }
-}
-
-// Adds a row more to the tally of each row's group.
-fn count_rows(tallies: &mut [Tally], part: &Part<'_>)
-    requires grouped { All (λ group. group < length tallies.old) part.now.groups.now }
-    requires long { length part.now.groups.now ≡ length part.now.rows.now }
-    requires few { part.now.fed + length part.now.rows.now ≤ most_rows }
-    requires small { AreWithin part.now.fed tallies.old }
-    ensures stepped { tallies.new ≡ stepped CountAll part.now.batch.now.columns part.now.groups.now part.now.rows.now tallies.old (length part.now.rows.now) }
-    ensures small { AreWithin (part.now.fed + length part.now.rows.now) tallies.new }
-{
-    for k in 0..part.rows.len() {
-        let group = part.groups[k] as usize;
-        tallies[group].add_one();
-    }
+    Ok(())
 }
 
 /// Adds each row to the tally of its group, one by one.
@@ -78,7 +77,7 @@ pub(crate) fn add_each(tallies: &mut [Tally], item: Aggregate, part: &Part<'_>)
 ///
 /// `AllocError` where memory is refused.
 pub(crate) fn add_to(
-    tallies: &mut Vec<Tally>,
+    tallies: &mut ItemTallies,
     item: Aggregate,
     part: &Part<'_>,
     found: usize,
@@ -88,14 +87,13 @@ pub(crate) fn add_to(
     requires grouped { All (λ group. group < found) part.now.groups.now }
     requires long { length part.now.groups.now ≡ length part.now.rows.now }
     requires few { part.now.fed + length part.now.rows.now ≤ most_rows }
-    requires grown { length tallies.old.items ≤ found }
-    requires small { AreWithin part.now.fed tallies.old.items }
-    ensures added { OnOk result (IsAdded item part.now.batch.now.columns part.now.rows.now part.now.groups.now found tallies.old.items tallies.new.items) }
-    ensures small { OnOk result (AreWithin (part.now.fed + length part.now.rows.now) tallies.new.items) }
+    requires grown { length (tallies_in tallies.old) ≤ found }
+    requires small { AreWithin part.now.fed (tallies_in tallies.old) }
+    ensures added { OnOk result (IsAdded item part.now.batch.now.columns part.now.rows.now part.now.groups.now found (tallies_in tallies.old) (tallies_in tallies.new)) }
+    ensures small { OnOk result (AreWithin (part.now.fed + length part.now.rows.now) (tallies_in tallies.new)) }
 {
-    tallies.resize(found, Tally::new())?;
-    add_rows(tallies.as_mut_slice(), item, part);
-    Ok(())
+    tallies.resize(found)?;
+    add_rows(tallies, item, part)
 }
 
 /// Adds each row to the tallies of its group, one for each item.
@@ -104,7 +102,7 @@ pub(crate) fn add_to(
 ///
 /// `AllocError` where memory is refused.
 pub(crate) fn add_all(
-    tallies: &mut [Vec<Tally>],
+    tallies: &mut [ItemTallies],
     items: &[Aggregate],
     part: &Part<'_>,
     found: usize,

@@ -24,12 +24,20 @@ impl Tally {
     ghost use Rattle.grouping.specs.Tallies.{no_rows, added, both, summed};
     ghost use Rattle.grouping.specs.inside.Slots.{number_or_null};
     ghost use Rattle.grouping.specs.inside.Counting.{IsSmall, IsShort, CanCount};
+    ghost use Rattle.grouping.specs.inside.Held.{count_tally};
 
     /// Of no rows.
     pub(crate) fn new() -> Tally
         ensures { result ≡ no_rows }
     {
         Tally { count: 0, sum: 0 }
+    }
+
+    /// Of a count, and of no sum.
+    pub(crate) fn of_count(count: u64) -> Tally
+        ensures { result ≡ count_tally count }
+    {
+        Tally { count, sum: 0 }
     }
 
     /// With a row of a batch more.
@@ -54,17 +62,6 @@ impl Tally {
                 Some(number) => self.with_number(number),
             },
         }
-    }
-
-    /// Adds a row.
-    pub(crate) fn add_one(&mut self)
-        requires few { self.old.count < most_rows }
-        requires small { IsSmall self.old }
-        ensures added { self.new ≡ record self.old { count = self.old.count + 1 } }
-        ensures few { self.new.count ≤ self.old.count + 1 }
-        ensures small { IsSmall self.new }
-    {
-        self.count += 1;
     }
 
     /// Adds a slot: its number counts where it is valid.

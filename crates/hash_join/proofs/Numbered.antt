@@ -1,13 +1,12 @@
 -- The rows of the right side by their numbers.
-use Rattle.std.proofs.Common.{◌≡◌, ◌<◌, ℕ, true, [], length, get_or, ap, ◌∙◌, nat_lt}
+use Rattle.std.proofs.Common.{◌≡◌, ◌<◌, ℕ, true, [], length, get_or, ap, sym, subst, ◌∙◌, nat_lt}
 use Rattle.std.specs.List.{list_all}
 use Rattle.std.proofs.lemmas.List.{get_or_read}
 use Rattle.arrays.specs.Batch.{BatchAt, row_of}
 use Rattle.hash_join.specs.declared.rights.Rights.{Rights}
 use Rattle.hash_join.specs.Pairs.{key_in, row_at}
 use Rattle.hash_join.specs.Places.{IsPlace}
-use Rattle.hash_join.specs.Codes.{code_at, code_from, key_code}
-use Rattle.hash_join.specs.Rights.{place_at, key_at, AreRights}
+use Rattle.hash_join.specs.Rights.{place_at, key_at, key_from, AreRights}
 use Rattle.hash_join.proofs.Places.{place_there}
 
 -- no columns and no rows
@@ -44,6 +43,19 @@ module _ (rights : Rights) (number : ℕ) (place : ℕ × ℕ) (whole : AreRight
     key_found = ap (λ (b : BatchAt). key_in rights.key.items (row_of b.columns place.1)) batch_found
         ∙ ap (λ (p : ℕ × ℕ). key_in rights.key.items (row_at rights.batches.items p)) found
 
-    pub code_found : key_code batch.columns rights.key.items place.1 ≡ code_at rights number
-    code_found = ap (λ (b : BatchAt). key_code b.columns rights.key.items place.1) batch_found
-        ∙ ap (λ (p : ℕ × ℕ). code_from rights p) found
+    -- it is the batch of the row's place
+    pub batch_is : batch ≡ get_or rights.batches.items (place_at rights number).0 nothing
+    batch_is = batch_found ∙ ap (λ (p : ℕ × ℕ). get_or rights.batches.items p.0 nothing) found
+
+module _ (rights : Rights) (number other : ℕ) (place : ℕ × ℕ) (same : (place_at rights number).0 ≡ (place_at rights other).0) (is : place ≡ place_at rights other) where
+  -- a row of the same batch, by the batch of the first
+  pub beside_there : AreRights rights → other < length rights.places.items → place.1 < (get_or rights.batches.items (place_at rights number).0 nothing).rows
+  beside_there whole within =
+      let there = (place_is rights other whole within).row in
+      subst (λ (batch : ℕ). place.1 < (get_or rights.batches.items batch nothing).rows) (sym same)
+      (subst (λ (p : ℕ × ℕ). p.1 < (get_or rights.batches.items (place_at rights other).0 nothing).rows) (sym is) there)
+
+  -- its key
+  pub beside_found : key_from rights ((place_at rights number).0, place.1) ≡ key_at rights other
+  beside_found = ap (λ (batch : ℕ). key_from rights (batch, place.1)) same
+      ∙ ap (λ (p : ℕ × ℕ). key_from rights ((place_at rights other).0, p.1)) is

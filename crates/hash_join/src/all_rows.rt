@@ -5,7 +5,7 @@ ghost use Rattle.hash_join.specs.declared.look.Told.TheVariants as known;
 ghost use Rattle.hash_join.specs.Searches.{IsSearch};
 
 use crate::buckets::Buckets;
-use crate::key_codes::{are_one, has_codes};
+use crate::key_codes::has_codes;
 use crate::look::Told;
 use crate::search::Search;
 use crate::seen::{BucketRows, SeenRows};
@@ -39,8 +39,7 @@ impl<'a> BucketRows for AllRows<'a> {
     }
 
     fn have_one_code(&self, row: usize, other: usize) -> bool {
-        let code = self.search.left_row(row).code();
-        are_one(code, self.search.left_row(other).code())
+        self.search.left_row(row).has_code_of(other)
     }
 
     fn bucket(&self, row: usize) -> Option<usize> {

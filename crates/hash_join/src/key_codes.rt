@@ -1,23 +1,39 @@
-//! Codes of dictionaries that are keys.
+//! Codes of dictionaries, and numbers, that stand for values of a key.
 
-ghost use Rattle.std.specs.Prelude.{◌≡◌, ◌<◌, All, IsTrue, Some, length, nat_lt, true};
+ghost use Rattle.std.specs.Prelude.{◌≡◌, ◌<◌, All, IsTrue, length, nat_lt, true};
 ghost use Rattle.std.specs.List.{list_all};
+ghost use Rattle.scan_base.specs.Value.{value_of};
 ghost use Rattle.arrays.specs.Batch.{BatchAt};
+ghost use Rattle.arrays.specs.Column.{slot_of};
 ghost use Rattle.arrays.specs.declared.layout.Layout.TheVariants as layout;
-ghost use Rattle.hash_join.specs.Codes.{column_code, layout_code, AreOne};
+ghost use Rattle.hash_join.specs.Codes.{column_code, column_number, layout_code, value_number, AreOne};
 
 use crate::key_element::{is_known, packed_number};
 use arrays::{Batch, Cells, Column, Indices, Layout};
+use scan_base::ValueRef;
 
 // The code at a row of a column: none where the column has no codes, or it is not valid.
 pub(crate) fn code_at(column: &Column, row: usize) -> Option<i128>
     requires { row < column.now.len }
-    ensures { result ≡ column_code (Some column.now) row }
+    ensures { result ≡ column_code column.now row }
 {
     let _count = column.len();
     match column.layout() {
         Layout::Indices(cells) => valid_code(&cells, column.first() + row),
         _ => None,
+    }
+}
+
+// The same, and the number at the row where the column has numbers or truth values: none where it is null, or a text that lies in
+// the column itself.
+pub(crate) fn number_at(column: &Column, row: usize) -> Option<i128>
+    requires { row < column.now.len }
+    ensures { result ≡ column_number column.now row }
+{
+    let _count = column.len();
+    match column.layout() {
+        Layout::Indices(cells) => valid_code(&cells, column.first() + row),
+        _ => number_of(column.value_at(row)),
     }
 }
 
@@ -34,8 +50,38 @@ fn valid_code(cells: &Indices<'_>, place: usize) -> Option<i128>
     }
 }
 
+// The number that a value is, or that a truth value stands for.
+fn number_of(value: ValueRef<'_>) -> Option<i128>
+    ensures { result ≡ value_number (value_of value.entry) }
+{
+    match value {
+        ValueRef::Null => None,
+        ValueRef::Bool(flag) => Some(i128::from(flag)),
+        ValueRef::Int(number) => Some(number),
+        ValueRef::Text(_) => None,
+    }
+}
+
+// Whether two rows of a column have the same code of its dictionary.
+pub(crate) fn have_one_code(column: &Column, row: usize, other: usize) -> bool
+    requires row { row < column.now.len }
+    requires other { other < column.now.len }
+    ensures { result ≡ true → slot_of column.now row ≡ slot_of column.now other }
+{
+    are_one(code_at(column, row), code_at(column, other))
+}
+
+// The same, or whether they have the same number.
+pub(crate) fn have_one_number(column: &Column, row: usize, other: usize) -> bool
+    requires row { row < column.now.len }
+    requires other { other < column.now.len }
+    ensures { result ≡ true → slot_of column.now row ≡ slot_of column.now other }
+{
+    are_one(number_at(column, row), number_at(column, other))
+}
+
 // Whether two codes are there and are the same.
-pub(crate) fn are_one(code: Option<i128>, other: Option<i128>) -> bool
+fn are_one(code: Option<i128>, other: Option<i128>) -> bool
     ensures { result ≡ true → AreOne code other }
 {
     match (code, other) {
@@ -44,21 +90,23 @@ pub(crate) fn are_one(code: Option<i128>, other: Option<i128>) -> bool
     }
 }
 
-// Whether the key is one column of codes.
+// Whether rows may be told by their codes: a column of the key has codes, and none has texts of its own.
 pub(crate) fn has_codes(batch: &Batch, key: &[usize]) -> bool
     requires { IsTrue (list_all (λ column. nat_lt column (length batch.now.columns)) key.now) }
 {
-    if key.len() != 1 {
-        return false;
-    }
     let columns = batch.columns();
-    match columns[key[0]].layout() {
-        Layout::Indices(_) => true,
-        _ => false,
+    let mut found = false;
+    for number in 0..key.len() {
+        match columns[key[number]].layout() {
+            Layout::Texts(_) => return false,
+            Layout::Indices(_) => found = true,
+            _ => {}
+        }
     }
+    found
 }
 
-// Whether the key of one of these batches is one column of codes.
+// Whether rows of one of these batches may be told by their codes.
 pub(crate) fn any_has_codes(batches: &[Batch], key: &[usize]) -> bool
     requires { All (λ (batch : BatchAt). IsTrue (list_all (λ column. nat_lt column (length batch.columns)) key.now)) batches.now }
 {

@@ -1,6 +1,6 @@
 //! A row of a batch by its key.
 
-ghost use Rattle.std.specs.Prelude.{◌≡◌, ◌<◌, get_or, length, not};
+ghost use Rattle.std.specs.Prelude.{◌≡◌, ◌<◌, get_or, length, not, true};
 ghost use Rattle.std.specs.List.{list_any};
 ghost use Rattle.scan_base.specs.Comparison.{compared};
 ghost use Rattle.scan_base.specs.Truth.{keeps};
@@ -8,14 +8,16 @@ ghost use Rattle.scan_base.specs.Value.{value_of, is_null};
 ghost use Rattle.scan_base.specs.declared.comparison.Comparison.TheVariants.{Equal};
 ghost use Rattle.scan_base.specs.declared.value.Value.TheVariants.{Null};
 ghost use Rattle.hash_join.specs.Pairs.{keys_join};
-ghost use Rattle.hash_join.specs.Codes.{code_of};
 ghost use Rattle.hash_join.specs.Hashes.{fed, hash_of, number_of};
-ghost use Rattle.hash_join.specs.KeyRows.{key_of, IsKeyRow};
+ghost use Rattle.hash_join.specs.KeyRows.{key_beside, key_of, IsKeyRow};
 
-use crate::key_codes::code_at;
+use crate::key_codes::{code_at, have_one_code, have_one_number, number_at};
 use arrays::{Batch, Cells};
 use scan_base::{Comparison, Truth, ValueRef};
 use std::hash::{DefaultHasher, Hash, Hasher};
+
+// What the code of a part weighs against that of the next one, so that both halves of a sum tell of both. No contract rests on it.
+const PART_WEIGHT: i128 = 0x1_9E37_79B9_7F4A_7C15;
 
 // A row of a batch, and the numbers of the columns that are its key.
 #[derive(Clone, Copy, Drop)]
@@ -63,26 +65,70 @@ impl<'a> KeyRow<'a> {
         }
     }
 
-    // The code that is the key: none where the key has several parts, or is no valid code of a dictionary.
+    // A number that rows of a batch with the same codes have, and others may have too. It is the code that is the key, or a sum of
+    // the codes and the numbers of several parts; none where it is no code, or a part has neither.
     pub(crate) fn code(&self) -> Option<i128>
         requires { IsKeyRow self.now }
-        ensures { result ≡ code_of self.now }
     {
-        if self.key.len() == 1 {
-            self.single_code()
-        } else {
-            None
+        if self.key.len() != 1 {
+            return self.sum_of_codes();
         }
-    }
-
-    // The same, where the key is one column.
-    fn single_code(&self) -> Option<i128>
-        requires row { IsKeyRow self.now }
-        requires single { length self.now.key.now ≡ 1 }
-        ensures { result ≡ code_of self.now }
-    {
         let columns = self.batch.columns();
         code_at(&columns[self.key[0]], self.row)
+    }
+
+    // The sum of several parts, in which each has a weight of its own.
+    fn sum_of_codes(&self) -> Option<i128>
+        requires { IsKeyRow self.now }
+    {
+        let columns = self.batch.columns();
+        let mut sum = 0i128;
+        for part in 0..self.key.len() {
+            let Some(code) = number_at(&columns[self.key[part]], self.row) else {
+                return None;
+            };
+            sum = sum.wrapping_mul(PART_WEIGHT).wrapping_add(code);
+        }
+        Some(sum)
+    }
+
+    // Whether another row of the batch surely has the same key, without a look at a text: the same code of one dictionary, or in
+    // each of several parts the same code or number.
+    pub(crate) fn has_code_of(&self, other: usize) -> bool
+        requires row { IsKeyRow self.now }
+        requires other { other < self.now.batch.now.rows }
+        ensures { result ≡ true → key_of self.now ≡ key_beside self.now other }
+    {
+        if self.key.len() != 1 {
+            return self.has_parts_of(other);
+        }
+        let columns = self.batch.columns();
+        have_one_code(&columns[self.key[0]], self.row, other)
+    }
+
+    // The same of several parts.
+    fn has_parts_of(&self, other: usize) -> bool
+        requires row { IsKeyRow self.now }
+        requires other { other < self.now.batch.now.rows }
+        ensures { result ≡ true → key_of self.now ≡ key_beside self.now other }
+    {
+        for part in 0..self.key.len() {
+            if !self.has_part_of(part, other) {
+                return false;
+            }
+        }
+        true
+    }
+
+    // Whether a part of the key is surely the same in another row of the batch.
+    fn has_part_of(&self, part: usize, other: usize) -> bool
+        requires row { IsKeyRow self.now }
+        requires there { part < length self.now.key.now }
+        requires other { other < self.now.batch.now.rows }
+        ensures { result ≡ true → get_or (key_of self.now) part Null ≡ get_or (key_beside self.now other) part Null }
+    {
+        let columns = self.batch.columns();
+        have_one_number(&columns[self.key[part]], self.row, other)
     }
 
     // The hash of the key's values, begun with what a hasher has taken in; none where one is null.

@@ -1,18 +1,17 @@
 //! The rows of the right side of a join, by their numbers over all batches.
 
-ghost use Rattle.std.specs.Prelude.{◌≡◌, ◌≤◌, ◌<◌, ◌++◌, ◌^◌, All, IfOk, IfSome, IsTrue, OnOk, length, map, nat_lt, true};
+ghost use Rattle.std.specs.Prelude.{◌≡◌, ◌≤◌, ◌<◌, ◌++◌, ◌^◌, ℕ, [], All, IfOk, IfSome, IsTrue, OnOk, get_or, length, map, nat_lt, true};
 ghost use Rattle.std.specs.List.{list_all, range_with_len};
 ghost use Rattle.scan_base.specs.Limits.{most_rows};
 ghost use Rattle.arrays.specs.Batch.{BatchAt};
 ghost use Rattle.hash_join.specs.Pairs.{places};
 ghost use Rattle.hash_join.specs.Hashes.{last_of};
-ghost use Rattle.hash_join.specs.KeyRows.{key_of, IsKeyRow};
-ghost use Rattle.hash_join.specs.Rights.{key_at, bucket_at, AreRights};
-ghost use Rattle.hash_join.specs.Codes.{code_at, code_of};
+ghost use Rattle.hash_join.specs.KeyRows.{key_beside, key_of, IsKeyRow};
+ghost use Rattle.hash_join.specs.Rights.{key_at, key_from, bucket_at, place_at, AreRights};
 ghost use Rattle.hash_join.specs.Seen.{AreSeen};
 
 use crate::buckets::{Buckets, Hashing};
-use crate::key_codes::{any_has_codes, are_one};
+use crate::key_codes::any_has_codes;
 use crate::key_row::KeyRow;
 use crate::numbers::are_numbers;
 use crate::product::Product;
@@ -85,7 +84,8 @@ impl Rights {
         requires within { number < length self.now.places.items }
         ensures row { IsKeyRow result }
         ensures key { key_of result ≡ key_at self.now number }
-        ensures code { code_of result ≡ code_at self.now number }
+        ensures others { (row : ℕ) → key_beside result row ≡ key_from self.now ((place_at self.now number).0, row) }
+        ensures rows { result.batch.now.rows ≡ (get_or self.now.batches.items (place_at self.now number).0 (record { columns = []; rows = 0 })).rows }
         ensures parts { length result.key.now ≡ length self.now.key.items }
     {
         let (batch, row) = self.places[number];
@@ -118,8 +118,8 @@ impl Rights {
         }
     }
 
-    // Whether another row is there and surely has the same key: the same code of one dictionary, which takes no look at its
-    // text, or the same values.
+    // Whether another row is there and surely has the same key: the same codes of dictionaries, which takes no look at their
+    // texts, or the same values.
     pub(crate) fn is_repeat(&self, number: usize, other: usize) -> bool
         requires whole { AreRights self.now }
         requires within { number < length self.now.places.items }
@@ -131,7 +131,7 @@ impl Rights {
         self.have_one_code(number, other) || self.key_row(number).joins(&self.key_row(other))
     }
 
-    // Whether the keys of two rows are the same code of one dictionary.
+    // Whether two rows of one batch have a key of the same code, or of several parts with the same codes and numbers.
     pub(crate) fn have_one_code(&self, number: usize, other: usize) -> bool
         requires whole { AreRights self.now }
         requires within { number < length self.now.places.items }
@@ -141,7 +141,8 @@ impl Rights {
         if self.places[number].0 != self.places[other].0 {
             return false;
         }
-        are_one(self.key_row(number).code(), self.key_row(other).code())
+        self.key_row(number)
+            .has_code_of(self.places[other].1 as usize)
     }
 
     // The bucket of the row of this number; none where a part of its key is null.

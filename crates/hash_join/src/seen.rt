@@ -37,11 +37,11 @@ pub(crate) trait BucketRows {
     fn count(&self) -> usize
         ensures { result ≡ count self.now };
 
-    // The code that is a row's key; none where that is no code of a dictionary.
+    // A number that rows with the same codes have, and others may have too; none where the key has a part without a code.
     fn code(&self, row: usize) -> Option<i128>
         requires { row < count self.now };
 
-    // Whether the keys of two rows are the same code of one dictionary.
+    // Whether the keys of two rows are the same by their codes alone.
     fn have_one_code(&self, row: usize, other: usize) -> bool
         requires row { row < count self.now }
         requires other { other < count self.now }

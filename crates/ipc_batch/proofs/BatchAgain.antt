@@ -62,7 +62,7 @@ length-each body (place ∷ more) buffers e =
 -- the message of a batch says its rows
 pub batch_said : (batch : BatchAt) → FitsBatch batch → SaysBatch (message_written (parts_written batch)) batch
 unfolding news_of batch_sent batch_parts counts_agree
-batch_said batch w known fields of answered =
+batch_said batch w known of led =
     let parts = parts_written batch in
     let fit = fit_parts batch w in
     let body = body_of parts.buffers in
@@ -70,14 +70,14 @@ batch_said batch w known fields of answered =
     let m = message_reads parts fit in
     let kind = m.kind_again in
     let same = parts_read parts m.message bytes m.place fit m.stands m.body_length_again in
-    let answers = known.schema.fields in
-    let wanted = wanted_again fields answers batch.columns of answered in
-    let nodes : length (map node_written batch.columns) ≡ length answers = length-map batch.columns node_written ∙ wanted.0 in
-    let places : length same.places ≡ buffers_wanted answers = length-each body same.places parts.buffers same.buffers ∙ wanted.1 in
+    let fields = known.schema.fields in
+    let wanted = wanted_again fields batch.columns of in
+    let nodes : length (map node_written batch.columns) ≡ length fields = length-map batch.columns node_written ∙ wanted.0 in
+    let places : length same.places ≡ buffers_wanted fields = length-each body same.places parts.buffers same.buffers ∙ wanted.1 in
     let writable = columns_writable batch w in
-    let again = columns_again fields answers known.dictionaries batch.rows body same.places batch.columns of answered writable same.buffers in (
+    let again = columns_again fields known.dictionaries batch.rows body same.places batch.columns of led writable same.buffers in (
       record { columns = again.read; rows = batch.rows },
-      rw (m.found, kind, m.header_again, same.said, eq-eqb (length (map node_written batch.columns)) (length answers) nodes, eq-eqb (length same.places) (buffers_wanted answers) places, again.is) refl,
+      rw (m.found, kind, m.header_again, same.said, eq-eqb (length (map node_written batch.columns)) (length fields) nodes, eq-eqb (length same.places) (buffers_wanted fields) places, again.is) refl,
       rows_again batch.rows again.read batch.columns writable again.values,
     )
 

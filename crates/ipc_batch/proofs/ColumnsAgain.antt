@@ -8,11 +8,12 @@ use Rattle.scan_base.specs.declared.value.Value.TheVariants.{Null}
 use Rattle.scan_base.specs.declared.fault.Fault.TheVariants.{BadBatch}
 use Rattle.scan_base.specs.Reading.{◌>>=◌, demand}
 use Rattle.scan_base.specs.Lists.{each}
+use Rattle.arrow_schema.specs.declared.data_type.DictionaryEncoding.{DictionaryEncoding}
 use Rattle.arrow_schema.specs.declared.data_type.IntegerType.{IntegerType}
 use Rattle.arrow_schema.specs.declared.data_type.DataType.{DataType}
 use Rattle.arrow_schema.specs.declared.data_type.DataType.TheVariants.{Integer, Utf8, Bool, Decimal128, Date, Dictionary}
 use Rattle.arrow_schema.specs.declared.schema.Field.{Field}
-use Rattle.arrow_schema.specs.Answer.{answer_type}
+use Rattle.arrow_schema.specs.Written.{encoding_of}
 use Rattle.arrays.specs.declared.layout.Layout.{Layout}
 use Rattle.arrays.specs.declared.layout.Layout.TheVariants as layout
 use Rattle.arrays.specs.Texts.{TextsAt, texts_of}
@@ -24,14 +25,14 @@ use Rattle.arrays.specs.Column.{ColumnAt, IsColumn, slot_of, values_of, whole}
 use Rattle.arrays.specs.Batch.{row_of, rows_of}
 use Rattle.arrays.specs.Typed.{IsOfType, AreOfTypes}
 use Rattle.arrays.specs.Nulls.{null_count}
-use Rattle.array_buffers.specs.Written.{validity_written, validity_read, values_written, written_by, HasShortTexts, SaySlots, buffers_written as column_written}
+use Rattle.array_buffers.specs.Written.{validity_written, validity_read, values_written, written_by, HasShortTexts, IsLedBy, SaySlots, buffers_written as column_written}
 use Rattle.array_buffers.proofs.ColumnsAgain.{columns_again as slots_again}
 use Rattle.array_buffers.proofs.Packed.{map_same}
 use Rattle.ipc_batch.specs.declared.parts.BufferPlace.{BufferPlace}
 use Rattle.ipc_batch.specs.Parts.{placed_in, buffer_at}
-use Rattle.ipc_batch.specs.State.{Dictionaries}
-use Rattle.ipc_batch.specs.Columns.{FrontAt, validity_at, texts_at, values_at, front_of, columns_from, buffers_wanted}
-use Rattle.ipc_batch.specs.Written.{node_written, buffers_written}
+use Rattle.ipc_batch.specs.State.{Dictionaries, values_under}
+use Rattle.ipc_batch.specs.Columns.{FrontAt, validity_at, texts_at, values_at, values_led_to, front_of, columns_from, buffers_wanted}
+use Rattle.ipc_batch.specs.Written.{node_written, buffers_written, AreLedBy}
 use Rattle.ipc_batch.proofs.Lengths.{fine, both}
 
 -- what is read of buffers that lie in a body
@@ -95,7 +96,7 @@ texts_found dictionaries body column places offsets bytes others cells made valu
     }
 
 texts_front_again : (dictionaries : Dictionaries) (body : List ℕ) (column : ColumnAt) (places : List BufferPlace) (buffers others : List (List ℕ)) →
-    SaySlots Utf8 (validity_read column) buffers column.len (values_of column) → each (buffer_at body) places ≡ Ok (validity_written column ∷ (buffers ++ others)) →
+    SaySlots Utf8 [] (validity_read column) buffers column.len (values_of column) → each (buffer_at body) places ≡ Ok (validity_written column ∷ (buffers ++ others)) →
     Front Utf8 dictionaries column.len body column places others
 unfolding texts_layout values_layout
 texts_front_again dictionaries body column places [] others say found = absurd say
@@ -107,21 +108,21 @@ texts_front_again dictionaries body column places (offsets ∷ bytes ∷ []) oth
 texts_front_again dictionaries body column places (offsets ∷ bytes ∷ more ∷ buffers) others say found = absurd say
 
 -- the same of a type with one buffer of values
-pub record Values (answered : DataType) (body : List ℕ) (column : ColumnAt) (places : List BufferPlace) (others : List (List ℕ)) : Type 0 where
+pub record Values (answered : DataType) (dictionary : List Value) (body : List ℕ) (column : ColumnAt) (places : List BufferPlace) (others : List (List ℕ)) : Type 0 where
   pub validity : BufferPlace
   pub packed : BufferPlace
   pub more : List BufferPlace
   pub is : places ≡ validity ∷ packed ∷ more
   pub layout : Layout
-  pub read : values_at answered [] column.len body (node_written column) validity packed ≡ Ok layout
+  pub read : values_at answered dictionary column.len body (node_written column) validity packed ≡ Ok layout
   pub behind : each (buffer_at body) more ≡ Ok others
   pub values : values_of (whole layout) ≡ values_of column
 
-values_again : (answered : DataType) (body : List ℕ) (column : ColumnAt) (places : List BufferPlace) (packed : List ℕ) (others : List (List ℕ)) (read : Layout) →
-    values_layout answered [] (validity_read column) packed column.len ≡ Ok read → values_of (whole read) ≡ values_of column →
-    each (buffer_at body) places ≡ Ok (validity_written column ∷ packed ∷ others) → Values answered body column places others
+values_again : (answered : DataType) (dictionary : List Value) (body : List ℕ) (column : ColumnAt) (places : List BufferPlace) (packed : List ℕ) (others : List (List ℕ)) (read : Layout) →
+    values_layout answered dictionary (validity_read column) packed column.len ≡ Ok read → values_of (whole read) ≡ values_of column →
+    each (buffer_at body) places ≡ Ok (validity_written column ∷ packed ∷ others) → Values answered dictionary body column places others
 unfolding values_at
-values_again answered body column places packed others read is values found =
+values_again answered dictionary body column places packed others read is values found =
     let first = each_first body places (validity_written column) (packed ∷ others) found in
     let second = each_first body first.more packed others first.behind in
     record {
@@ -136,60 +137,70 @@ values_again answered body column places packed others read is values found =
     }
 
 integers_front : (integer : IntegerType) (dictionaries : Dictionaries) (body : List ℕ) (column : ColumnAt) (places : List BufferPlace) (buffers others : List (List ℕ)) →
-    SaySlots (Integer integer) (validity_read column) buffers column.len (values_of column) → each (buffer_at body) places ≡ Ok (validity_written column ∷ (buffers ++ others)) →
+    SaySlots (Integer integer) [] (validity_read column) buffers column.len (values_of column) → each (buffer_at body) places ≡ Ok (validity_written column ∷ (buffers ++ others)) →
     Front (Integer integer) dictionaries column.len body column places others
 unfolding front_of
 integers_front integer dictionaries body column places [] others say found = absurd say
 integers_front integer dictionaries body column places (packed ∷ []) others say found =
-    let v = values_again (Integer integer) body column places packed others say.0 say.1 say.2 found in
+    let v = values_again (Integer integer) [] body column places packed others say.0 say.1 say.2 found in
     record { front = record { layout = v.layout; behind = v.more }; read = subst (λ (xs : List BufferPlace). front_of (Integer integer) dictionaries column.len body (node_written column) xs ≡ Ok (record { layout = v.layout; behind = v.more })) (sym v.is) (rw v.read refl); behind = v.behind; values = v.values }
 integers_front integer dictionaries body column places (packed ∷ more ∷ buffers) others say found = absurd say
 
 bools_front : (dictionaries : Dictionaries) (body : List ℕ) (column : ColumnAt) (places : List BufferPlace) (buffers others : List (List ℕ)) →
-    SaySlots Bool (validity_read column) buffers column.len (values_of column) → each (buffer_at body) places ≡ Ok (validity_written column ∷ (buffers ++ others)) →
+    SaySlots Bool [] (validity_read column) buffers column.len (values_of column) → each (buffer_at body) places ≡ Ok (validity_written column ∷ (buffers ++ others)) →
     Front Bool dictionaries column.len body column places others
 unfolding front_of
 bools_front dictionaries body column places [] others say found = absurd say
 bools_front dictionaries body column places (packed ∷ []) others say found =
-    let v = values_again Bool body column places packed others say.0 say.1 say.2 found in
+    let v = values_again Bool [] body column places packed others say.0 say.1 say.2 found in
     record { front = record { layout = v.layout; behind = v.more }; read = subst (λ (xs : List BufferPlace). front_of Bool dictionaries column.len body (node_written column) xs ≡ Ok (record { layout = v.layout; behind = v.more })) (sym v.is) (rw v.read refl); behind = v.behind; values = v.values }
 bools_front dictionaries body column places (packed ∷ more ∷ buffers) others say found = absurd say
 
 decimals_front : (dictionaries : Dictionaries) (body : List ℕ) (column : ColumnAt) (places : List BufferPlace) (buffers others : List (List ℕ)) →
-    SaySlots Decimal128 (validity_read column) buffers column.len (values_of column) → each (buffer_at body) places ≡ Ok (validity_written column ∷ (buffers ++ others)) →
+    SaySlots Decimal128 [] (validity_read column) buffers column.len (values_of column) → each (buffer_at body) places ≡ Ok (validity_written column ∷ (buffers ++ others)) →
     Front Decimal128 dictionaries column.len body column places others
 unfolding front_of
 decimals_front dictionaries body column places [] others say found = absurd say
 decimals_front dictionaries body column places (packed ∷ []) others say found =
-    let v = values_again Decimal128 body column places packed others say.0 say.1 say.2 found in
+    let v = values_again Decimal128 [] body column places packed others say.0 say.1 say.2 found in
     record { front = record { layout = v.layout; behind = v.more }; read = subst (λ (xs : List BufferPlace). front_of Decimal128 dictionaries column.len body (node_written column) xs ≡ Ok (record { layout = v.layout; behind = v.more })) (sym v.is) (rw v.read refl); behind = v.behind; values = v.values }
 decimals_front dictionaries body column places (packed ∷ more ∷ buffers) others say found = absurd say
 
 dates_front : (dictionaries : Dictionaries) (body : List ℕ) (column : ColumnAt) (places : List BufferPlace) (buffers others : List (List ℕ)) →
-    SaySlots Date (validity_read column) buffers column.len (values_of column) → each (buffer_at body) places ≡ Ok (validity_written column ∷ (buffers ++ others)) →
+    SaySlots Date [] (validity_read column) buffers column.len (values_of column) → each (buffer_at body) places ≡ Ok (validity_written column ∷ (buffers ++ others)) →
     Front Date dictionaries column.len body column places others
 unfolding front_of
 dates_front dictionaries body column places [] others say found = absurd say
 dates_front dictionaries body column places (packed ∷ []) others say found =
-    let v = values_again Date body column places packed others say.0 say.1 say.2 found in
+    let v = values_again Date [] body column places packed others say.0 say.1 say.2 found in
     record { front = record { layout = v.layout; behind = v.more }; read = subst (λ (xs : List BufferPlace). front_of Date dictionaries column.len body (node_written column) xs ≡ Ok (record { layout = v.layout; behind = v.more })) (sym v.is) (rw v.read refl); behind = v.behind; values = v.values }
 dates_front dictionaries body column places (packed ∷ more ∷ buffers) others say found = absurd say
 
+indices_front : (encoding : DictionaryEncoding) (dictionaries : Dictionaries) (body : List ℕ) (column : ColumnAt) (places : List BufferPlace) (buffers others : List (List ℕ)) →
+    SaySlots (Dictionary encoding) (values_under dictionaries encoding.id) (validity_read column) buffers column.len (values_of column) → each (buffer_at body) places ≡ Ok (validity_written column ∷ (buffers ++ others)) →
+    Front (Dictionary encoding) dictionaries column.len body column places others
+unfolding front_of
+indices_front encoding dictionaries body column places [] others say found = absurd say
+indices_front encoding dictionaries body column places (packed ∷ []) others say found =
+    let v = values_again (Dictionary encoding) (values_under dictionaries encoding.id) body column places packed others say.0 say.1 say.2 found in
+    record { front = record { layout = v.layout; behind = v.more }; read = subst (λ (xs : List BufferPlace). front_of (Dictionary encoding) dictionaries column.len body (node_written column) xs ≡ Ok (record { layout = v.layout; behind = v.more })) (sym v.is) (rw v.read refl); behind = v.behind; values = v.values }
+indices_front encoding dictionaries body column places (packed ∷ more ∷ buffers) others say found = absurd say
+
 pub front_again : (data_type : DataType) (dictionaries : Dictionaries) (body : List ℕ) (column : ColumnAt) (places : List BufferPlace) (others : List (List ℕ)) →
-    IsColumn column → IsOfType data_type column.layout → HasShortTexts column → each (buffer_at body) places ≡ Ok (column_written column ++ others) →
-    Front (answer_type data_type) dictionaries column.len body column places others
-front_again (Integer integer) dictionaries body column places others stands of short found =
-    integers_front integer dictionaries body column places (values_written column) others (slots_again (Integer integer) column stands of short) found
-front_again Bool dictionaries body column places others stands of short found =
-    bools_front dictionaries body column places (values_written column) others (slots_again Bool column stands of short) found
-front_again Decimal128 dictionaries body column places others stands of short found =
-    decimals_front dictionaries body column places (values_written column) others (slots_again Decimal128 column stands of short) found
-front_again Date dictionaries body column places others stands of short found =
-    dates_front dictionaries body column places (values_written column) others (slots_again Date column stands of short) found
-front_again Utf8 dictionaries body column places others stands of short found =
-    texts_front_again dictionaries body column places (values_written column) others (slots_again Utf8 column stands of short) found
-front_again (Dictionary encoding) dictionaries body column places others stands of short found =
-    texts_front_again dictionaries body column places (values_written column) others (slots_again (Dictionary encoding) column stands of short) found
+    IsColumn column → IsOfType data_type column.layout → IsLedBy data_type (values_led_to data_type dictionaries) column.layout column → HasShortTexts column →
+    each (buffer_at body) places ≡ Ok (column_written column ++ others) → Front data_type dictionaries column.len body column places others
+front_again (Integer integer) dictionaries body column places others stands of led short found =
+    integers_front integer dictionaries body column places (values_written column) others (slots_again (Integer integer) [] column stands of led short) found
+front_again Bool dictionaries body column places others stands of led short found =
+    bools_front dictionaries body column places (values_written column) others (slots_again Bool [] column stands of led short) found
+front_again Decimal128 dictionaries body column places others stands of led short found =
+    decimals_front dictionaries body column places (values_written column) others (slots_again Decimal128 [] column stands of led short) found
+front_again Date dictionaries body column places others stands of led short found =
+    dates_front dictionaries body column places (values_written column) others (slots_again Date [] column stands of led short) found
+front_again Utf8 dictionaries body column places others stands of led short found =
+    texts_front_again dictionaries body column places (values_written column) others (slots_again Utf8 [] column stands of led short) found
+front_again (Dictionary encoding) dictionaries body column places others stands of led short found =
+    indices_front encoding dictionaries body column places (values_written column) others (slots_again (Dictionary encoding) (values_under dictionaries encoding.id) column stands of led short) found
 
 -- what a column that is written is
 pub record IsWritable (rows : ℕ) (column : ColumnAt) : Type 0 where
@@ -203,27 +214,22 @@ SameValues [] [] = Unit {0}
 SameValues (one ∷ more) (other ∷ others) = (values_of one ≡ values_of other) × SameValues more others
 SameValues _ _ = ⊥
 
-pub record Again (answers : List Field) (dictionaries : Dictionaries) (rows : ℕ) (body : List ℕ) (places : List BufferPlace) (columns : List ColumnAt) : Type 0 where
+pub record Again (fields : List Field) (dictionaries : Dictionaries) (rows : ℕ) (body : List ℕ) (places : List BufferPlace) (columns : List ColumnAt) : Type 0 where
   pub read : List ColumnAt
-  pub is : columns_from answers dictionaries rows body (map node_written columns) places ≡ Ok read
+  pub is : columns_from fields dictionaries rows body (map node_written columns) places ≡ Ok read
   pub values : SameValues read columns
 
 -- the columns that were written are read again
-pub columns_again : (fields answers : List Field) (dictionaries : Dictionaries) (rows : ℕ) (body : List ℕ) (places : List BufferPlace) (columns : List ColumnAt) → AreOfTypes fields columns →
-    map (λ (field : Field). field.data_type) answers ≡ map (λ (field : Field). answer_type field.data_type) fields →
-    AllByRecursion (IsWritable rows) columns → each (buffer_at body) places ≡ Ok (buffers_written columns) → Again answers dictionaries rows body places columns
-columns_again [] [] dictionaries rows body places [] of same are found = record { read = []; is = refl; values = tt }
-columns_again [] (answer ∷ answers) dictionaries rows body places [] of same are found = absurd (let no : ⊥ = cc in no)
-columns_again [] answers dictionaries rows body places (column ∷ columns) of same are found = absurd of
-columns_again (field ∷ fields) answers dictionaries rows body places [] of same are found = absurd of
-columns_again (field ∷ fields) [] dictionaries rows body places (column ∷ columns) of same are found = absurd (let no : ⊥ = cc in no)
-columns_again (field ∷ fields) (answer ∷ answers) dictionaries rows body places (column ∷ columns) of same are found =
-    let type_is : answer.data_type ≡ answer_type field.data_type = cc in
-    let others : map (λ (f : Field). f.data_type) answers ≡ map (λ (f : Field). answer_type f.data_type) fields = cc in
-    let front = front_again field.data_type dictionaries body column places (buffers_written columns) are.0.stands of.0 are.0.short found in
-    let read : front_of answer.data_type dictionaries rows body (node_written column) places ≡ Ok front.front =
-    rw (type_is, ← are.0.len) front.read in
-    let more = columns_again fields answers dictionaries rows body front.front.behind columns of.1 others are.1 front.behind in
+pub columns_again : (fields : List Field) (dictionaries : Dictionaries) (rows : ℕ) (body : List ℕ) (places : List BufferPlace) (columns : List ColumnAt) → AreOfTypes fields columns →
+    AreLedBy fields dictionaries columns → AllByRecursion (IsWritable rows) columns → each (buffer_at body) places ≡ Ok (buffers_written columns) → Again fields dictionaries rows body places columns
+columns_again [] dictionaries rows body places [] of led are found = record { read = []; is = refl; values = tt }
+columns_again [] dictionaries rows body places (column ∷ columns) of led are found = absurd of
+columns_again (field ∷ fields) dictionaries rows body places [] of led are found = absurd of
+columns_again (field ∷ fields) dictionaries rows body places (column ∷ columns) of led are found =
+    let front = front_again field.data_type dictionaries body column places (buffers_written columns) are.0.stands of.0 led.0 are.0.short found in
+    let read : front_of field.data_type dictionaries rows body (node_written column) places ≡ Ok front.front =
+    rw (← are.0.len) front.read in
+    let more = columns_again fields dictionaries rows body front.front.behind columns of.1 led.1 are.1 front.behind in
     record { read = whole front.front.layout ∷ more.read; is = rw (read, more.is) refl; values = (front.values, more.values) }
 
 -- a slot is that of another column with the same values
@@ -247,8 +253,8 @@ pub rows_again : (rows : ℕ) (read columns : List ColumnAt) → AllByRecursion 
     rows_of (record { columns = read; rows = rows }) ≡ rows_of (record { columns = columns; rows = rows })
 rows_again rows read columns are same = map_same (row_of read) (row_of columns) 0 rows (λ j first low. row_again rows j read columns are same (omega arith))
 
--- a column has as many buffers as one of its answer's type wants
-type_buffers : (data_type : DataType) (known : Layout) (column : ColumnAt) → IsOfType data_type known → suc (length (written_by known column)) ≡ buffer_count (answer_type data_type)
+-- a column has as many buffers as its type wants
+type_buffers : (data_type : DataType) (known : Layout) (column : ColumnAt) → IsOfType data_type known → suc (length (written_by known column)) ≡ buffer_count data_type
 type_buffers (Integer integer) (layout.Integers cells) column of = refl
 type_buffers Decimal128 (layout.Decimals cells) column of = refl
 type_buffers Date (layout.Integers cells) column of = refl
@@ -257,25 +263,34 @@ type_buffers Utf8 (layout.Texts cells) column of = refl
 type_buffers (Dictionary encoding) (layout.Indices cells) column of = refl
 type_buffers data_type known column of = absurd of
 
-column_buffers : (data_type : DataType) (column : ColumnAt) → IsOfType data_type column.layout → length (column_written column) ≡ buffer_count (answer_type data_type)
+column_buffers : (data_type : DataType) (column : ColumnAt) → IsOfType data_type column.layout → length (column_written column) ≡ buffer_count data_type
 unfolding values_written
 column_buffers data_type column of = type_buffers data_type column.layout column of
 
-pub wanted_again : (fields answers : List Field) (columns : List ColumnAt) → AreOfTypes fields columns →
-    map (λ (field : Field). field.data_type) answers ≡ map (λ (field : Field). answer_type field.data_type) fields →
-    (length columns ≡ length answers) × (length (buffers_written columns) ≡ buffers_wanted answers)
-wanted_again [] [] [] of same = (refl, refl)
-wanted_again [] (answer ∷ answers) [] of same = absurd (let no : ⊥ = cc in no)
-wanted_again [] answers (column ∷ columns) of same = absurd of
-wanted_again (field ∷ fields) answers [] of same = absurd of
-wanted_again (field ∷ fields) [] (column ∷ columns) of same = absurd (let no : ⊥ = cc in no)
-wanted_again (field ∷ fields) (answer ∷ answers) (column ∷ columns) of same =
-    let type_is : answer.data_type ≡ answer_type field.data_type = cc in
-    let others : map (λ (f : Field). f.data_type) answers ≡ map (λ (f : Field). answer_type f.data_type) fields = cc in
-    let more = wanted_again fields answers columns of.1 others in
-    let step : buffers_wanted (answer ∷ answers) ≡ buffer_count answer.data_type + buffers_wanted answers = sum_by-cons (λ (x : Field). buffer_count x.data_type) answer answers in
+pub wanted_again : (fields : List Field) (columns : List ColumnAt) → AreOfTypes fields columns →
+    (length columns ≡ length fields) × (length (buffers_written columns) ≡ buffers_wanted fields)
+wanted_again [] [] of = (refl, refl)
+wanted_again [] (column ∷ columns) of = absurd of
+wanted_again (field ∷ fields) [] of = absurd of
+wanted_again (field ∷ fields) (column ∷ columns) of =
+    let more = wanted_again fields columns of.1 in
+    let step : buffers_wanted (field ∷ fields) ≡ buffer_count field.data_type + buffers_wanted fields = sum_by-cons (λ (x : Field). buffer_count x.data_type) field fields in
     let all = length-append (column_written column) (buffers_written columns) in
-    (omega (arith, more.0), omega (arith, step, all, more.1, column_buffers field.data_type column of.0, ap buffer_count type_is))
+    (omega (arith, more.0), omega (arith, step, all, more.1, column_buffers field.data_type column of.0))
+
+-- where no field is a dictionary, nothing leads anywhere
+pub plain_led : (fields : List Field) (dictionaries : Dictionaries) (columns : List ColumnAt) → AllByRecursion (λ (field : Field). encoding_of field.data_type ≡ None) fields → AreLedBy fields dictionaries columns
+plain_led [] dictionaries columns plain = tt
+plain_led (field ∷ fields) dictionaries [] plain = tt
+plain_led (field ∷ fields) dictionaries (column ∷ columns) plain = (by field.data_type plain.0, plain_led fields dictionaries columns plain.1)
+  where
+    by : (data_type : DataType) → encoding_of data_type ≡ None → IsLedBy data_type (values_led_to data_type dictionaries) column.layout column
+    by (Integer integer) none = tt
+    by Utf8 none = tt
+    by Bool none = tt
+    by Decimal128 none = tt
+    by Date none = tt
+    by (Dictionary encoding) none = absurd (let no : ⊥ = cc in no)
 
 -- and no more than three
 pub few_buffers : (columns : List ColumnAt) → length (buffers_written columns) ≤ 3 * length columns

@@ -72,18 +72,6 @@ place_added old new buffers at next i n whole low long ends e all =
     ∙ ap (λ (m : ℕ). old ++ (place_bytes (record { offset = at; length = length buffer }) ++ flat_map place_bytes (places_from m rest))) end
     ∙ ap (λ (left : List (List ℕ)). old ++ flat_map place_bytes (places_from at left)) (sym (dropped_buffer buffers i low)) ∙ all
 
--- no text has bytes where there is none
-no_texts : (slot : ℕ → Value) (a n : ℕ) → ((j : ℕ) → text_bytes (slot j) ≡ []) → length (texts_joined (map slot (range_with_len a n))) ≡ 0
-no_texts slot a zero none = refl
-no_texts slot a (suc n) none = rw (none a) (no_texts slot (a + 1) n none)
-
-no_text : (validity : Option (List Bool)) (value : ℕ → Value) (place : ℕ) → text_bytes (value place) ≡ [] → text_bytes (where_valid validity value place) ≡ []
-no_text validity value place none = by (is_valid validity place)
-  where
-    by : (valid : Bool) → text_bytes (if valid then value place else Null) ≡ []
-    by true = none
-    by false = refl
-
 -- a padded buffer is no shorter
 padded-le : (buffer : List ℕ) → length buffer ≤ length (padded buffer)
 padded-le buffer = omega (arith, length_with_zeros buffer)
@@ -97,21 +85,13 @@ third_long first second third =
 
 short_of : (known : Layout) (first len : ℕ) → length (body_of (column_written (record { layout = known; first = first; len = len }))) < 2 ^ 31 → HasShortTexts (record { layout = known; first = first; len = len })
 unfolding values_written
-short_of (layout.Integers cells) first len short =
-    let none = no_texts (slot_of (record { layout = layout.Integers cells; first = first; len = len })) 0 len (λ j. no_text cells.validity (λ at. Int (integer_at cells.integer cells.values at)) (first + j) refl) in
-    omega (arith, none)
-short_of (layout.Decimals cells) first len short =
-    let none = no_texts (slot_of (record { layout = layout.Decimals cells; first = first; len = len })) 0 len (λ j. no_text cells.validity (λ at. Int (decimal_at cells.values at)) (first + j) refl) in
-    omega (arith, none)
-short_of (layout.Bools cells) first len short =
-    let none = no_texts (slot_of (record { layout = layout.Bools cells; first = first; len = len })) 0 len (λ j. no_text cells.validity (λ at. Flag (get_or cells.values at false)) (first + j) refl) in
-    omega (arith, none)
+short_of (layout.Integers cells) first len short = omega arith
+short_of (layout.Decimals cells) first len short = omega arith
+short_of (layout.Bools cells) first len short = omega arith
 short_of (layout.Texts cells) first len short =
     let column : ColumnAt = record { layout = layout.Texts cells; first = first; len = len } in
     omega (arith, third_long (validity_written column) (offsets_from 0 (values_of column)) (texts_joined (values_of column)))
-short_of (layout.Indices cells) first len short =
-    let column : ColumnAt = record { layout = layout.Indices cells; first = first; len = len } in
-    omega (arith, third_long (validity_written column) (offsets_from 0 (values_of column)) (texts_joined (values_of column)))
+short_of (layout.Indices cells) first len short = omega arith
 
 -- the texts of a column have no more bytes than its part of a body
 pub short_texts : (column : ColumnAt) → length (body_of (column_written column)) < 2 ^ 31 → HasShortTexts column

@@ -8,7 +8,6 @@ use Rattle.scan_base.specs.declared.value.Value.{Value}
 use Rattle.scan_base.specs.Reading.{◌>>=◌, demand}
 use Rattle.flatbuf.specs.Place.{TableAt}
 use Rattle.arrow_schema.specs.declared.schema.Field.{Field}
-use Rattle.arrow_schema.specs.Answer.{answer_type}
 use Rattle.arrow_schema.specs.Header.{MessageAt, message_of, header_of, body_length_of}
 use Rattle.scan_base.specs.Limits.{most_columns}
 use Rattle.arrays.specs.declared.layout.Layout.TheVariants.{Texts}
@@ -18,9 +17,10 @@ use Rattle.arrays.specs.Column.{ColumnAt, IsColumn, whole}
 use Rattle.arrays.specs.Batch.{BatchAt, AreLong, rows_of}
 use Rattle.arrays.specs.Typed.{AreOfTypes}
 use Rattle.arrays.specs.Nulls.{null_count}
-use Rattle.array_buffers.specs.Written.{buffers_written as column_written}
+use Rattle.array_buffers.specs.Written.{IsLedBy, buffers_written as column_written}
 use Rattle.ipc_batch.specs.declared.parts.FieldNode.{FieldNode}
 use Rattle.ipc_batch.specs.Parts.{dictionary_parts}
+use Rattle.ipc_batch.specs.Columns.{values_led_to}
 use Rattle.ipc_batch.specs.State.{Known, Dictionaries, values_under, with_values}
 use Rattle.ipc_batch.specs.Said.{Sent, News, leads_to, kept_of, news_of}
 pub use Rattle.ipc_batch.specs.WrittenParts.{WrittenParts, node_bytes, place_bytes, body_of, places_from, FitsNode, most_buffers, FitParts, SaysSame, PartsReadBack}
@@ -75,10 +75,19 @@ pub record SaysParts (sent : Sent) (parts : WrittenParts) : Type 0 where
   pub claimed : body_length_of message ≡ Ok (length sent.body)
   pub same : SaysSame message table sent.body parts
 
--- behind a schema of the types that a batch's columns are answered as, a message says a batch with its rows
+-- Each column of indices is of the type of indices that its field says, and the id of its field leads to the values into
+-- which the column leads. Under a null it may lead anywhere.
+abbrev pub AreLedBy : List Field → Dictionaries → List ColumnAt → Type 0
+AreLedBy (field ∷ fields) dictionaries (column ∷ columns) =
+    IsLedBy field.data_type (values_led_to field.data_type dictionaries) column.layout column
+    × AreLedBy fields dictionaries columns
+AreLedBy _ _ _ = Unit {0}
+
+-- Behind a schema of the types of a batch's columns, and dictionaries into which these lead, a message says a batch with
+-- its rows.
 abbrev pub SaysBatch : Sent → BatchAt → Type 0
-SaysBatch sent batch = (known : Known) (fields : List Field) → AreOfTypes fields batch.columns →
-    map (λ field. field.data_type) known.schema.fields ≡ map (λ field. answer_type field.data_type) fields →
+SaysBatch sent batch = (known : Known) → AreOfTypes known.schema.fields batch.columns →
+    AreLedBy known.schema.fields known.dictionaries batch.columns →
     (read : BatchAt) × (news_of (Some known) sent ≡ Ok (record { state = Some known; batch = Some read }))
     × (rows_of read ≡ rows_of batch)
 

@@ -1,12 +1,12 @@
 -- Why a stream was not written.
-use Rattle.std.proofs.Common.{◌≡◌, ◌<◌, ◌^◌, ℕ, ◌+◌, List, [], ◌∷◌, length, get_or, All, Result, Ok, Err, refl, sym, subst, arith}
+use Rattle.std.proofs.Common.{◌≡◌, ◌<◌, ◌^◌, ℕ, List, [], ◌∷◌, length, get_or, All, Result, Ok, Err, sym, subst, arith}
 use Rattle.std.specs.Prelude.{MatchResult}
 use Rattle.std.proofs.lemmas.List.Elements.{All-nil, All-cons}
 use Rattle.scan_base.specs.declared.fault.Fault.{Fault}
 use Rattle.scan_base.specs.declared.fault.Fault.TheVariants.{LimitReached, OutOfMemory, Transport}
 use Rattle.arrays.specs.Batch.{BatchAt}
 use Rattle.grpc_frame.specs.Ends.{CountsFailure, FailsByTransport}
-use Rattle.ipc_batch.specs.Written.{body_length}
+use Rattle.plain_batches.specs.Plain.{plain_length}
 use Rattle.row_stream.specs.Stream.{CountsTransport, IsCause}
 
 -- a failed transport is counted
@@ -23,10 +23,10 @@ by_memory batches fault e = subst (IsCause batches) (sym e) tt
 
 -- the body of a batch is not too long
 abbrev IsShort : BatchAt → Type 0
-IsShort batch = body_length batch < 2 ^ 31
+IsShort batch = plain_length batch < 2 ^ 31
 
 -- the cause of some batches is one of all
-cause_of : (some all : List BatchAt) (fault : Fault) → (All (λ batch. body_length batch < 2 ^ 31) all → All (λ batch. body_length batch < 2 ^ 31) some) → IsCause some fault → IsCause all fault
+cause_of : (some all : List BatchAt) (fault : Fault) → (All (λ batch. plain_length batch < 2 ^ 31) all → All (λ batch. plain_length batch < 2 ^ 31) some) → IsCause some fault → IsCause all fault
 cause_of some all Transport less cause = tt
 cause_of some all OutOfMemory less cause = tt
 cause_of some all LimitReached less cause = λ each. cause (less each)

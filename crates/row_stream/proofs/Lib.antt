@@ -1,4 +1,5 @@
 pub mod Parts
 pub mod Messages
+pub mod Plain
 pub mod Causes
 pub mod SoFar

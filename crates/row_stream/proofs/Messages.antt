@@ -20,11 +20,12 @@ use Rattle.arrays.specs.Typed.{AreOfTypes}
 use Rattle.ipc_batch.specs.State.{Known}
 use Rattle.ipc_batch.specs.Parts.{body_claimed}
 use Rattle.ipc_batch.specs.Said.{Sent, News, Rows, schema_sent, news_of, Follows, Says}
-use Rattle.ipc_batch.specs.Written.{WrittenParts, SaysBatch, SaysParts, most_header_bytes}
+use Rattle.ipc_batch.specs.Written.{WrittenParts, SaysParts, most_header_bytes}
+use Rattle.plain_batches.specs.Plain.{SaysAnswered}
 use Rattle.ipc_batch.proofs.Lengths.{fine, both}
 use Rattle.ipc_batch.proofs.Messages.{joined}
 use Rattle.ipc_stream.specs.declared.message.IpcMessage.{IpcMessage}
-use Rattle.ipc_stream.specs.Stream.{announced, frame, ClaimsBody, IsMessage}
+use Rattle.ipc_stream.specs.Stream.{announced, frame, IsMessage}
 use Rattle.row_stream.specs.Stream.{sent_in}
 use Rattle.row_stream.specs.inside.Frames.{SaysSchema}
 
@@ -96,7 +97,7 @@ types_answered [] = refl
 types_answered (field ∷ fields) = ap (λ l. answer_type field.data_type ∷ l) (types_answered fields)
 
 -- one batch more says its rows behind the others
-pub more_said : (messages : List IpcMessage) (message : IpcMessage) (schema : Schema) (rows : Rows) (batch : BatchAt) → SaysBatch (sent_in message) batch → AreOfTypes schema.fields batch.columns
+pub more_said : (messages : List IpcMessage) (message : IpcMessage) (schema : Schema) (rows : Rows) (batch : BatchAt) → SaysAnswered (sent_in message) batch → AreOfTypes schema.fields batch.columns
     → Says (map sent_in messages) (answer_schema schema) rows → Says (map sent_in (messages ++ message ∷ [])) (answer_schema schema) (rows ++ rows_of batch)
 more_said messages message schema rows batch tells typed said =
     let sent = map sent_in messages in

@@ -1,7 +1,6 @@
 -- What was sent so far of a stream.
 use Rattle.std.proofs.Common.{◌≡◌, ◌⊎◌, inl, inr, ℕ, List, [], ◌∷◌, ◌++◌, map, All, Option, Result, Ok, Err, refl, sym, ap, subst, ◌∙◌, append-nil, append_assoc}
 use Rattle.std.specs.List.{flat_map}
-use Rattle.std.specs.Io.KnownBytes.{Appends}
 use Rattle.std.proofs.KnownBytes.{Appends-nil}
 use Rattle.std.proofs.lemmas.Grind.{flat_map-append}
 use Rattle.std.proofs.lemmas.List.Elements.{All-append, All-nil, All-cons}
@@ -14,11 +13,11 @@ use Rattle.grpc_frame.specs.Ends.{AppendsBeginning, Writes}
 use Rattle.grpc_frame.specs.Sending.{Sent, NotSent, Sends}
 use Rattle.grpc_frame.proofs.Sending.{both_sent, second_not_sent, begun_alone, flushed}
 use Rattle.ipc_batch.specs.Said.{Rows, Says, Sent as SentMessage}
-use Rattle.ipc_batch.specs.Written.{SaysBatch}
+use Rattle.plain_batches.specs.Plain.{SaysAnswered}
 use Rattle.ipc_stream.specs.declared.message.IpcMessage.{IpcMessage}
-use Rattle.ipc_stream.specs.Stream.{frame, IsMessage, Framed, end_marker}
+use Rattle.ipc_stream.specs.Stream.{frame, IsMessage, end_marker}
 use Rattle.row_stream.specs.Stream.{sent_in, StreamSays, IsWhole, SaysSome, WritesStream}
-use Rattle.row_stream.specs.inside.Frames.{SaysSchema, FrameSent, FrameNotSent, SendsMessage}
+use Rattle.row_stream.specs.inside.Frames.{SaysSchema, FrameSent, SendsMessage}
 use Rattle.row_stream.proofs.Messages.{first_said, more_said}
 
 -- messages that say these rows were sent, from an outbox with nothing gathered
@@ -72,7 +71,7 @@ not_begun schema rows a b before after fault none (inr same) =
 -- ---- a batch more
 
 pub went_on : (schema : Schema) (rows : Rows) (batch : BatchAt) (a b c : Option (List ℕ)) (mid after : List ℕ) → SoFar (answer_schema schema) rows a b mid → AreOfTypes schema.fields batch.columns
-    → FrameSent (λ sent. SaysBatch sent batch) b c mid after → SoFar (answer_schema schema) (rows ++ rows_of batch) a c after
+    → FrameSent (λ sent. SaysAnswered sent batch) b c mid after → SoFar (answer_schema schema) (rows ++ rows_of batch) a c after
 went_on schema rows batch a b c mid after so typed sends = record {
   messages = so.messages ++ sends.message ∷ [];
   each = each_more so.messages sends.message so.each sends.fits;
@@ -90,7 +89,7 @@ stopped_here schema rows some others a b mid splits so = (
 
 pub stopped : (schema : Schema) (rows some others : Rows) (batch : BatchAt) (a b c : Option (List ℕ)) (mid after : List ℕ) (fault : Fault) → rows ≡ (some ++ rows_of batch) ++ others
     → SoFar (answer_schema schema) some a b mid → AreOfTypes schema.fields batch.columns
-    → SendsMessage {A = Unit {0}} (λ sent. SaysBatch sent batch) (Err fault) b c mid after → Stopped (answer_schema schema) rows a c
+    → SendsMessage {A = Unit {0}} (λ sent. SaysAnswered sent batch) (Err fault) b c mid after → Stopped (answer_schema schema) rows a c
 stopped schema rows some others batch a b c mid after fault splits so typed (inl sends) =
     let messages = so.messages ++ sends.message ∷ [] in
     let says = messages_alone messages (answer_schema schema) (some ++ rows_of batch) (each_more so.messages sends.message so.each sends.fits) (more_said so.messages sends.message schema some batch sends.tells typed so.said) in

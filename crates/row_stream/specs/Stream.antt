@@ -6,7 +6,7 @@ use Rattle.scan_base.specs.declared.fault.Fault.TheVariants.{LimitReached, OutOf
 use Rattle.arrow_schema.specs.declared.schema.Schema.{Schema}
 use Rattle.arrays.specs.Batch.{BatchAt}
 use Rattle.ipc_batch.specs.Said.{Sent, Rows, Says}
-use Rattle.ipc_batch.specs.Written.{body_length}
+use Rattle.plain_batches.specs.Plain.{plain_length}
 use Rattle.ipc_stream.specs.declared.message.IpcMessage.{IpcMessage}
 use Rattle.ipc_stream.specs.Stream.{Framed, end_marker}
 use Rattle.grpc_frame.specs.Ends.{AppendsBeginning}
@@ -49,5 +49,5 @@ CountsTransport (Err fault) old new = new ≡ old
 abbrev pub IsCause : List BatchAt → Fault → Type 0
 IsCause batches Transport = Unit {0}
 IsCause batches OutOfMemory = Unit {0}
-IsCause batches LimitReached = ¬ All (λ batch. body_length batch < 2 ^ 31) batches
+IsCause batches LimitReached = ¬ All (λ batch. plain_length batch < 2 ^ 31) batches
 IsCause batches _ = ⊥

@@ -4,6 +4,7 @@ ghost use Rattle.std.specs.Prelude.{◌≡◌, ◌↔◌, ◌≤◌, ◌<◌, �
 ghost use Rattle.arrow_schema.specs.Schema.{IsSchema};
 ghost use Rattle.scan_base.specs.Limits.{most_columns};
 ghost use Rattle.ipc_batch.specs.Written.{body_length, SaysBatch};
+ghost use Rattle.plain_batches.specs.Plain.{plain_length, SaysAnswered};
 ghost use Rattle.ipc_stream.specs.Stream.{IsMessage};
 ghost use Rattle.row_stream.specs.Stream.{sent_in};
 ghost use Rattle.row_stream.specs.inside.Frames.{SaysSchema};
@@ -12,8 +13,12 @@ use arrays::Batch;
 use arrow_schema::{Schema, write_schema};
 use bytes::Bytes;
 use ipc_batch::SizedBatch;
+use plain_batches::plain_batch;
 use std::alloc::{AllocError, Global};
 use std::marker::Model;
+
+// The most bytes of a message's body.
+const MOST_BODY_BYTES: usize = (1 << 31) - 1;
 
 /// A message of a stream: its header, and the buffers of its body, of which no copy is made. A contract sees the message.
 #[derive(Drop)]
@@ -43,8 +48,24 @@ pub(crate) fn schema_message(alloc: Global, schema: &Schema) -> Result<Ready, Al
     })
 }
 
-/// The message of a batch, or nothing where its body would have 2 to the 31 bytes or more.
+/// The message of a batch, or nothing where its body would have 2 to the 31 bytes or more. Columns of dictionaries are
+/// copied to their texts, since the schema says that these come.
 pub(crate) fn batch_message(alloc: Global, batch: &Batch) -> Result<Option<Ready>, AllocError>
+    requires { length batch.now.columns ≤ most_columns }
+    ensures found { IfOk result (λ found. IsSome found ↔ (plain_length batch.now < 2 ^ 31)) }
+    ensures fits { IfOk result (λ found. IfSome found IsMessage) }
+    ensures says { IfOk result (λ found. IfSome found (λ message. SaysAnswered (sent_in message) batch.now)) }
+{
+    let _columns = batch.columns();
+    let whole = batch.slice(alloc, 0, batch.rows())?;
+    match plain_batch(alloc, whole, MOST_BODY_BYTES)? {
+        Some(plain) => written_message(alloc, &plain),
+        None => Ok(None),
+    }
+}
+
+// The message of a batch that has no dictionary.
+fn written_message(alloc: Global, batch: &Batch) -> Result<Option<Ready>, AllocError>
     requires { length batch.now.columns ≤ most_columns }
     ensures found { IfOk result (λ found. IsSome found ↔ (body_length batch.now < 2 ^ 31)) }
     ensures fits { IfOk result (λ found. IfSome found IsMessage) }

@@ -4,7 +4,8 @@ ghost use Rattle.std.specs.Prelude.{◌≡◌, ◌≤◌, ◌<◌, ◌^◌, [], 
 ghost use Rattle.flatbuf.specs.Block.{padded};
 ghost use Rattle.arrow_schema.specs.Schema.{IsSchema};
 ghost use Rattle.scan_base.specs.Limits.{most_columns};
-ghost use Rattle.ipc_batch.specs.Written.{body_of, SaysBatch};
+ghost use Rattle.ipc_batch.specs.Written.{body_of};
+ghost use Rattle.plain_batches.specs.Plain.{SaysAnswered};
 ghost use Rattle.ipc_stream.specs.Stream.{announced, frame};
 ghost use Rattle.grpc_frame.specs.Ends.{CanFail, CountsFailure, FailsByTransport};
 ghost use Rattle.grpc_frame.specs.Sending.{Sends};
@@ -106,7 +107,7 @@ pub(crate) fn send_batch<W: Output>(
 ) -> Result<(), Fault>
     requires failures { CanFail (W.failures writer.old) }
     requires few { length batch.now.columns ≤ most_columns }
-    ensures bytes { SendsMessage (λ sent. SaysBatch sent batch.now) result
+    ensures bytes { SendsMessage (λ sent. SaysAnswered sent batch.now) result
         (W.contents writer.old) (W.contents writer.new) outbox.old outbox.new }
     ensures counted { CountsTransport result (W.failures writer.old) (W.failures writer.new) }
     ensures cause { MatchResult result (λ _. Unit {0}) (IsCause (batch.now ∷ [])) }

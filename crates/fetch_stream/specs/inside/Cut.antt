@@ -3,7 +3,7 @@ use Rattle.std.specs.Prelude.{◌≡◌, ◌≤◌, ◌<◌, ◌⊎◌, ℕ, ◌
 use Rattle.arrays.specs.Batch.{cut_batch}
 use Rattle.scan_base.specs.Limits.{most_message_bytes}
 use Rattle.flight_info.specs.Payloads.{Payload}
-use Rattle.ipc_batch.specs.Written.{body_length}
+use Rattle.plain_batches.specs.Plain.{plain_length}
 use Rattle.fetch_stream.specs.Streams.{most_message_rows, most_body_bytes}
 use Rattle.fetch_stream.specs.declared.cutter.Cutter.{Cutter}
 use Rattle.fetch_stream.specs.inside.Ahead.{IsCutter}
@@ -14,7 +14,7 @@ pub record IsTooMany (cutter : Cutter) (some many : ℕ) : Type 0 where
   pub more : some < many
   pub near : many ≤ 2 * some + 1
   pub within : cutter.at + many ≤ cutter.batch.rows
-  pub long : most_body_bytes < body_length (cut_batch cutter.batch cutter.at (cutter.at + many))
+  pub long : most_body_bytes < plain_length (cut_batch cutter.batch cutter.at (cutter.at + many))
 
 -- A message of so many rows reaches as far as it may: they are as many as the next message may have, or all that are
 -- left; or else some twice as many would have been too many.

@@ -1,16 +1,17 @@
 -- Inside: what adding rows leaves of the tallies of an item.
-use Rattle.std.specs.Prelude.{◌≡◌, ◌<◌, ◌≤◌, ℕ, ◌+◌, List, [], length, map, get_or, Vec}
-use Rattle.std.specs.Global.{Global}
+use Rattle.std.specs.Prelude.{◌≡◌, ◌<◌, ◌≤◌, ℕ, ◌+◌, List, [], length, map, get_or}
 use Rattle.scan_base.specs.declared.value.Value.{Value}
 use Rattle.arrays.specs.Batch.{row_of}
 use Rattle.arrays.specs.Column.{ColumnAt}
 use Rattle.typed_plan.specs.declared.plan.Aggregate.{Aggregate}
 use Rattle.typed_plan.specs.declared.plan.Aggregate.TheVariants.{Key}
+use Rattle.grouping.specs.declared.item_tallies.ItemTallies.{ItemTallies}
 use Rattle.grouping.specs.declared.tally.Tally.{Tally}
 use Rattle.grouping.specs.Found.{found_then}
 use Rattle.grouping.specs.Tallies.{no_rows}
 use Rattle.grouping.specs.inside.Placing.{ArePlaced}
 use Rattle.grouping.specs.inside.Counting.{AreWithin, CanCount, stepped}
+use Rattle.grouping.specs.inside.Held.{tallies_in}
 
 -- the tallies are those of before, and of no rows for each new group, with the rows added
 pub record IsAdded (item : Aggregate) (columns : List ColumnAt) (rows groups : List ℕ) (found : ℕ) (before after : List Tally) : Type 0 where
@@ -20,8 +21,8 @@ pub record IsAdded (item : Aggregate) (columns : List ColumnAt) (rows groups : L
   pub stepped : after ≡ stepped item columns groups rows padded (length rows)
 
 -- the tallies of each item, as lists
-abbrev pub lists_of : List (Vec Tally Global) → List (List Tally)
-lists_of tallies = map (λ (list : Vec Tally Global). list.items) tallies
+abbrev pub lists_of : List ItemTallies → List (List Tally)
+lists_of tallies = map tallies_in tallies
 
 -- the column that each item reads is there, and a sum's has whole numbers of at most 64 bits
 pub record CanCountAll (items : List Aggregate) (columns : List ColumnAt) : Type 0 where

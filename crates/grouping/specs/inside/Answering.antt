@@ -7,9 +7,9 @@ use Rattle.grouping.specs.Answers.{row_in}
 use Rattle.grouping.specs.declared.key.Place.{Place}
 use Rattle.grouping.specs.declared.tally.Tally.{Tally}
 
--- the count of a tally, as a number of a column
-abbrev pub count_or_none : Tally → Option ℤ
-count_or_none tally = Some (pos tally.count)
+-- a count, as a number of a column
+abbrev pub count_or_none : ℕ → Option ℤ
+count_or_none count = Some (pos count)
 
 -- the sum of a tally, none where nothing is summed
 abbrev pub sum_or_none : Tally → Option ℤ

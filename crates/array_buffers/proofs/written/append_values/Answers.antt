@@ -3,7 +3,7 @@ use Rattle.arrays.specs.declared.layout.Layout.TheVariants as layout
 use Rattle.arrays.specs.Number.{byte_width}
 use Rattle.arrays.specs.Written.{elements}
 use Rattle.array_buffers.proofs.Appended.{on_ok_items}
-use Rattle.array_buffers.proofs.Lengths.{written_as, stands_as, written_texts, cut_bits}
+use Rattle.array_buffers.proofs.Lengths.{written_as, stands_as, written_texts, third_texts, cut_bits}
 use Rattle.array_buffers.proofs.written.append_values.Goals as goal
 
 pub returns-in-Integers-clause-ok : goal.returns-in-Integers-clause-ok
@@ -31,6 +31,19 @@ returns-in-Decimals-clause-ok c =
     on_ok_items c.extend_from_slice-in-Decimals.result c.args.out.now.items c.extend_from_slice-in-Decimals.new.self.items (elements 16 c.values-in-Decimals.result.now first len) _ c.extend_from_slice-in-Decimals.ensures.items
     (ap (λ (xs : List ℕ). c.args.out.now.items ++ xs) (part ∙ sym written))
 
+pub returns-in-Indices-clause-ok : goal.returns-in-Indices-clause-ok
+returns-in-Indices-clause-ok c =
+    let column = c.args.column.now in
+    let cells = c.in-Indices.cells in
+    let width = c.byte_width-width-in-Indices.result in
+    let first = c.first-first.result in
+    let len = c.len-len.result in
+    let written = ap (λ (all : List (List ℕ)). get_or all 0 []) (written_as column c.layout.result (layout.Indices cells) c.layout.ensures.value c.in-Indices.is) in
+    let part : elements width c.values-in-Indices.result.now first len ≡ elements (byte_width cells.index) cells.values column.first column.len =
+    rw (c.byte_width-width-in-Indices.ensures, c.index_type.ensures, c.first-first.ensures, c.len-len.ensures.count, c.values-in-Indices.ensures) refl in
+    on_ok_items c.extend_from_slice-in-Indices.result c.args.out.now.items c.extend_from_slice-in-Indices.new.self.items (elements width c.values-in-Indices.result.now first len) _ c.extend_from_slice-in-Indices.ensures.items
+    (ap (λ (xs : List ℕ). c.args.out.now.items ++ xs) (part ∙ sym written))
+
 pub returns-in-Bools-clause-ok : goal.returns-in-Bools-clause-ok
 returns-in-Bools-clause-ok c =
     let column = c.args.column.now in
@@ -42,5 +55,8 @@ returns-in-Bools-clause-ok c =
 
 pub returns-in-Texts-clause-ok : goal.returns-in-Texts-clause-ok
 returns-in-Texts-clause-ok c =
-    let written = ap (λ (all : List (List ℕ)). get_or all 0 []) (written_texts c.args.column.now c.layout.result c.layout.ensures.value c.in-Texts.is) in
+    let written = ap (λ (all : List (List ℕ)). get_or all 0 []) (written_texts c.args.column.now c.layout.result c.in-Texts.field-0 c.layout.ensures.value c.in-Texts.is) in
     rw written c.append_offsets.ensures.ok
+
+pub append_offsets-requires : goal.append_offsets-requires
+append_offsets-requires c = rw (third_texts c.args.column.now c.layout.result c.in-Texts.field-0 c.layout.ensures.value c.in-Texts.is) at c.requires

@@ -22,7 +22,7 @@ offsets_long column buffers is =
 
 pub returns-in_err-checked_add-in-Texts : goal.returns-in_err-checked_add-in-Texts
 returns-in_err-checked_add-in-Texts c =
-    let long = offsets_long c.args.column.now (values_written c.args.column.now) (written_texts c.args.column.now c.layout.result c.layout.ensures.value c.in-Texts.is) in
+    let long = offsets_long c.args.column.now (values_written c.args.column.now) (written_texts c.args.column.now c.layout.result c.in-Texts.field-0 c.layout.ensures.value c.in-Texts.is) in
     rw (c.from_residual.ensures, long) (λ small. c.in_err-checked_add-in-Texts.ensures (omega (arith, c.len-len.ensures.count)))
 
 pub returns-in-Integers : goal.returns-in-Integers
@@ -34,6 +34,16 @@ returns-in-Integers c =
     ap (λ (all : List (List ℕ)). length (get_or all 0 [])) (written_as column c.layout.result (layout.Integers cells) c.layout.ensures.value c.in-Integers.is)
     ∙ length-elements (byte_width cells.integer) cells.values column.first column.len cells.len stands.stands.values stands.within in
     rw long (rw (c.byte_width.ensures, c.integer_type.ensures, c.len-len.ensures.count) at c.checked_mul.ensures)
+
+pub returns-in-Indices : goal.returns-in-Indices
+returns-in-Indices c =
+    let column = c.args.column.now in
+    let cells = c.in-Indices.cells in
+    let stands = stands_as column c.layout.result (layout.Indices cells) c.layout.ensures.value c.in-Indices.is c.len-len.ensures.stands in
+    let long : length (get_or (values_written column) 0 []) ≡ byte_width cells.index * column.len =
+    ap (λ (all : List (List ℕ)). length (get_or all 0 [])) (written_as column c.layout.result (layout.Indices cells) c.layout.ensures.value c.in-Indices.is)
+    ∙ length-elements (byte_width cells.index) cells.values column.first column.len cells.len stands.stands.values stands.within in
+    rw long (rw (c.byte_width-in-Indices.ensures, c.index_type.ensures, c.len-len.ensures.count) at c.checked_mul-in-Indices.ensures)
 
 pub returns-in-Decimals : goal.returns-in-Decimals
 returns-in-Decimals c =
@@ -58,5 +68,5 @@ returns-in-Bools c =
 
 pub returns-in_ok-checked_add-in-Texts : goal.returns-in_ok-checked_add-in-Texts
 returns-in_ok-checked_add-in-Texts c =
-    let long = offsets_long c.args.column.now (values_written c.args.column.now) (written_texts c.args.column.now c.layout.result c.layout.ensures.value c.in-Texts.is) in
+    let long = offsets_long c.args.column.now (values_written c.args.column.now) (written_texts c.args.column.now c.layout.result c.in-Texts.field-0 c.layout.ensures.value c.in-Texts.is) in
     rw long (rw (c.in_ok-checked_add-in-Texts.ensures.1, c.len-len.ensures.count) at c.checked_mul-in-Texts.ensures)

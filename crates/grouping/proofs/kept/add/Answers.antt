@@ -1,7 +1,7 @@
 use Rattle.std.proofs.Common.{ℕ, length, map, sym, ap, subst, arith, Vec}
 use Rattle.std.specs.Global.{Global}
 use Rattle.arrays.specs.Batch.{row_of}
-use Rattle.grouping.specs.declared.tally.Tally.{Tally}
+use Rattle.grouping.specs.declared.item_tallies.ItemTallies.{ItemTallies}
 use Rattle.grouping.specs.inside.Adding.{IsKept, lists_of}
 use Rattle.grouping.specs.inside.Placing.{found_by}
 use Rattle.grouping.proofs.Sharing.{found_grows}
@@ -17,6 +17,6 @@ add_all-requires-clause-kept c =
       length before,
       omega (arith, grows, ap length placed.found, c.found_count-found.ensures),
       rw c.as_mut_slice.ensures.value
-          (subst (λ (tallies : Vec (Vec Tally Global) Global). IsKept items (length before) c.place_kept.new.kept.count (lists_of tallies.items)) (sym placed.tallies)
+          (subst (λ (tallies : Vec ItemTallies Global). IsKept items (length before) c.place_kept.new.kept.count (lists_of tallies.items)) (sym placed.tallies)
           (subst (λ (fed : ℕ). IsKept items (length before) fed (lists_of c.args.kept.now.tallies.items)) (sym placed.count) c.requires.kept)),
     )

@@ -1,11 +1,11 @@
-use Rattle.std.proofs.Common.{◌≡◌, length, All, Vec}
-use Rattle.std.specs.Global.{Global}
-use Rattle.grouping.specs.declared.tally.Tally.{Tally}
+use Rattle.std.proofs.Common.{◌≡◌, length, All}
+use Rattle.grouping.specs.declared.item_tallies.ItemTallies.{ItemTallies}
 use Rattle.grouping.specs.inside.Kept.{AreBlank}
+use Rattle.grouping.specs.inside.Held.{tallies_in}
 use Rattle.grouping.proofs.kept.blank.Given as goal
 
 abbrev pub invariant-loop-item : goal.invariant-loop-item
 invariant-loop-item l = record {
   many : length l.tallies.items ≡ l._item;
-  blank : All (λ (list : Vec Tally Global). AreBlank l.groups list.items) l.tallies.items;
+  blank : All (λ (list : ItemTallies). AreBlank l.groups (tallies_in list)) l.tallies.items;
 }

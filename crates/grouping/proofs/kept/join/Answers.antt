@@ -1,6 +1,5 @@
-use Rattle.std.proofs.Common.{◌<◌, ℕ, List, All, length, ap, sym, subst, arith, Vec}
-use Rattle.std.specs.Global.{Global}
-use Rattle.grouping.specs.declared.tally.Tally.{Tally}
+use Rattle.std.proofs.Common.{◌<◌, ℕ, List, All, length, ap, sym, subst, arith}
+use Rattle.grouping.specs.declared.item_tallies.ItemTallies.{ItemTallies}
 use Rattle.grouping.specs.inside.Adding.{IsKept, lists_of}
 use Rattle.grouping.specs.inside.Placing.{found_by}
 use Rattle.grouping.proofs.JoinedKeys.{all_there, keys_grow}
@@ -22,5 +21,5 @@ join_all-requires-clause-kept c =
 pub join_all-requires-clause-others : goal.join_all-requires-clause-others
 join_all-requires-clause-others c =
     let long = c.in_ok-groups.ensures.joined.long in
-    rw (c.as_slice-2.ensures.value, long) (subst (λ (tallies : List (Vec Tally Global)). IsKept c.args.shape.now.items.now
+    rw (c.as_slice-2.ensures.value, long) (subst (λ (tallies : List ItemTallies). IsKept c.args.shape.now.items.now
     (length (found_by c.args.shape.now.keys.now c.args.other.now.firsts.keys)) c.args.other.now.count (lists_of tallies)) (sym c.as_slice.ensures.value) c.requires.other)

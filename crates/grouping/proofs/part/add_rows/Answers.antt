@@ -1,6 +1,7 @@
 use Rattle.std.proofs.Common.{length, sym, ap, ◌∙◌}
 use Rattle.typed_plan.specs.declared.plan.Aggregate.{Aggregate}
 use Rattle.grouping.specs.inside.Counting.{stepped}
+use Rattle.grouping.specs.inside.Held.{tallies_in}
 use Rattle.grouping.proofs.Stepping.{stepped_key}
 use Rattle.grouping.proofs.part.add_rows.Goals as goal
 
@@ -8,5 +9,7 @@ pub returns-in-Key-clause-stepped : goal.returns-in-Key-clause-stepped
 returns-in-Key-clause-stepped c =
     let part = c.args.part.now in
     let columns = part.batch.now.columns in
-    sym (ap (λ (item : Aggregate). stepped item columns part.groups.now part.rows.now c.args.tallies.now (length part.rows.now)) c.in-Key.is
-    ∙ stepped_key c.in-Key.field-0 columns part.groups.now part.rows.now c.args.tallies.now (length part.rows.now))
+    let tallies = tallies_in c.args.tallies.now in
+    sym (ap (λ (item : Aggregate). stepped item columns part.groups.now part.rows.now tallies (length part.rows.now)) c.in-Key.is
+    ∙ stepped_key c.in-Key.field-0 columns part.groups.now part.rows.now tallies (length part.rows.now)
+    ∙ ap tallies_in c.in-Counts.is)

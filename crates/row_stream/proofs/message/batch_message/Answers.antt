@@ -1,14 +1,33 @@
-use Rattle.std.proofs.Common.{◌≡◌, ◌<◌, ◌^◌, ℕ, List, length, sym, ap, subst, arith}
-use Rattle.ipc_batch.specs.Written.{body_of, buffers_written, body_length, parts_written}
-use Rattle.ipc_stream.specs.Stream.{IsMessage}
-use Rattle.row_stream.proofs.Messages.{batch_fits}
+use Rattle.std.proofs.Common.{◌≡◌, ◌<◌}
+use Rattle.std.proofs.lemmas.Bool.{false≢true}
+use Rattle.plain_batches.specs.Plain.{IsPlainBatch, plain_length}
+use Rattle.row_stream.proofs.Plain.{whole_batch, answered_message, found_message, few_columns, none_found}
 use Rattle.row_stream.proofs.message.batch_message.Goals as goal
 
-pub returns-clause-fits : goal.returns-clause-fits
-returns-clause-fits c =
-    let batch = c.in-Some.sized in
-    let header = c.in_ok-write_header.field-0.items in
-    let body = body_of (buffers_written batch.columns) in
-    let small : length body < 2 ^ 31 = omega (arith, c.sized.invariant.small, c.sized.invariant.all_are, ap body_length c.sized.view_is) in
-    let fits = batch_fits header body (parts_written batch) c.in_ok-write_header.ensures.parts c.in_ok-write_header.ensures.short small in
-    subst (λ (buffers : List (List ℕ)). IsMessage (record { header = header; body = body_of buffers })) (sym c.in_ok-buffers.ensures) fits
+pub written_message-requires : goal.written_message-requires
+written_message-requires c =
+    let batch = c.args.batch.now in
+    let same : c.in_ok-whole.whole ≡ batch = whole_batch batch c.in_ok-whole.whole c.rows.result c.columns-columns.result.now c.columns-columns.ensures.columns c.columns-columns.ensures.long c.rows.ensures c.in_ok-whole.ensures in
+    let is : IsPlainBatch c.in_ok-whole.whole c.in-Some.plain = rw c.in-Some.is at c.in_ok-plain.ensures.plain in
+    few_columns batch c.in_ok-whole.whole c.in-Some.plain same is c.requires
+
+pub returns-in-Some-clause-found : goal.returns-in-Some-clause-found
+returns-in-Some-clause-found c =
+    let batch = c.args.batch.now in
+    let same : c.in_ok-whole.whole ≡ batch = whole_batch batch c.in_ok-whole.whole c.rows.result c.columns-columns.result.now c.columns-columns.ensures.columns c.columns-columns.ensures.long c.rows.ensures c.in_ok-whole.ensures in
+    let is : IsPlainBatch c.in_ok-whole.whole c.in-Some.plain = rw c.in-Some.is at c.in_ok-plain.ensures.plain in
+    found_message c.written_message.result batch c.in_ok-whole.whole c.in-Some.plain same is c.written_message.ensures.found
+
+pub returns-in-Some-clause-says : goal.returns-in-Some-clause-says
+returns-in-Some-clause-says c =
+    let batch = c.args.batch.now in
+    let same : c.in_ok-whole.whole ≡ batch = whole_batch batch c.in_ok-whole.whole c.rows.result c.columns-columns.result.now c.columns-columns.ensures.columns c.columns-columns.ensures.long c.rows.ensures c.in_ok-whole.ensures in
+    let is : IsPlainBatch c.in_ok-whole.whole c.in-Some.plain = rw c.in-Some.is at c.in_ok-plain.ensures.plain in
+    answered_message c.written_message.result batch c.in_ok-whole.whole c.in-Some.plain same is c.written_message.ensures.says
+
+pub returns-in-None-clause-found : goal.returns-in-None-clause-found
+returns-in-None-clause-found c =
+    let batch = c.args.batch.now in
+    let same : c.in_ok-whole.whole ≡ batch = whole_batch batch c.in_ok-whole.whole c.rows.result c.columns-columns.result.now c.columns-columns.ensures.columns c.columns-columns.ensures.long c.rows.ensures c.in_ok-whole.ensures in
+    let full : 2147483647 < plain_length c.in_ok-whole.whole = rw c.in-None.is at c.in_ok-plain.ensures.full in
+    (λ none. absurd (false≢true none), λ small. absurd (none_found batch c.in_ok-whole.whole same full small))

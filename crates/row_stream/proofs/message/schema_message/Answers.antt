@@ -1,4 +1,4 @@
-use Rattle.std.proofs.Common.{◌≡◌, ℕ, List, sym, subst}
+use Rattle.std.proofs.Common.{ℕ, List, sym, subst}
 use Rattle.ipc_batch.specs.Written.{body_of}
 use Rattle.ipc_stream.specs.Stream.{IsMessage}
 use Rattle.row_stream.specs.inside.Frames.{SaysSchema}

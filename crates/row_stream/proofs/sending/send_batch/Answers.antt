@@ -1,6 +1,6 @@
 use Rattle.std.proofs.Common.{[], ◌∷◌, inr, refl}
 use Rattle.std.proofs.lemmas.Result.{err_from_is_err_and}
-use Rattle.ipc_batch.specs.Written.{SaysBatch}
+use Rattle.plain_batches.specs.Plain.{SaysAnswered}
 use Rattle.row_stream.proofs.Causes.{counts, causes_by_transport}
 use Rattle.row_stream.proofs.SoFar.{sent_message}
 use Rattle.row_stream.proofs.sending.send_batch.Goals as goal
@@ -22,7 +22,7 @@ returns-in_err-message-clause-cause g c =
 
 pub returns-clause-bytes : goal.returns-clause-bytes
 returns-clause-bytes g c =
-    sent_message (λ sent. SaysBatch sent c.args.batch.now) c.send_frame.result _ _ _ _ c.in-Some.message (rw c.in-Some.is at c.in_ok-message.ensures.fits) (rw c.in-Some.is at c.in_ok-message.ensures.says) c.send_frame.ensures.bytes
+    sent_message (λ sent. SaysAnswered sent c.args.batch.now) c.send_frame.result _ _ _ _ c.in-Some.message (rw c.in-Some.is at c.in_ok-message.ensures.fits) (rw c.in-Some.is at c.in_ok-message.ensures.says) c.send_frame.ensures.bytes
 
 pub returns-clause-counted : goal.returns-clause-counted
 returns-clause-counted g c = counts c.send_frame.result _ _ c.send_frame.ensures.counted c.send_frame.ensures.fault

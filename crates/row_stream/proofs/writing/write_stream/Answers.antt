@@ -1,4 +1,4 @@
-use Rattle.std.proofs.Common.{◌≡◌, ◌+◌, ◌++◌, ◌<◌, ℕ, List, [], take, drop, Err, sym, ap, subst, refl, rules, ◌∙◌, append_assoc, take_all, arith}
+use Rattle.std.proofs.Common.{◌+◌, [], take, drop, Err, sym, subst, rules, ◌∙◌, append_assoc, take_all, arith}
 use Rattle.std.specs.List.{flat_map}
 use Rattle.std.proofs.lemmas.Result.{err_from_is_err_and}
 use Rattle.arrow_schema.specs.declared.schema.Schema.{Schema}
@@ -9,7 +9,7 @@ use Rattle.ipc_batch.specs.Said.{Rows}
 use Rattle.row_stream.proofs.Causes.{counts, by_transport, causes_by_transport, cause_of_none, cause_of_one}
 use Rattle.row_stream.proofs.Messages.{columns_many}
 use Rattle.row_stream.proofs.Parts.{items_more, items_split}
-use Rattle.row_stream.proofs.SoFar.{SoFar, Stopped, nothing_written, begun, not_begun, went_on, stopped, not_ended, flushed_whole}
+use Rattle.row_stream.proofs.SoFar.{SoFar, Stopped, begun, not_begun, went_on, stopped, not_ended, flushed_whole}
 use Rattle.row_stream.proofs.writing.write_stream.Goals as goal
 
 pub returns-in_err-send_schema-clause-bytes : goal.returns-in_err-send_schema-clause-bytes

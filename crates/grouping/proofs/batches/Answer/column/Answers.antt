@@ -11,7 +11,7 @@ use Rattle.arrays.specs.Typed.{IsOfType}
 use Rattle.arrays.specs.Written.{texts_joined}
 use Rattle.grouping.specs.inside.Answering.{first_cell}
 use Rattle.grouping.proofs.Answering.{type_there}
-use Rattle.grouping.proofs.Finishing.{IsKeyAt, key_at, item_tallies, part_few, first_column, counted_column, summed_column, if_ok_three}
+use Rattle.grouping.proofs.Finishing.{IsKeyAt, key_at, item_tallies, first_column, counted_column, summed_column, if_ok_three}
 use Rattle.grouping.proofs.batches.Answer.column.Goals as goal
 use Rattle.grouping.proofs.batches.Answer.column.Goals.{In-Key, After-as_slice}
 
@@ -57,33 +57,31 @@ returns-in_ok-slots-in-Key c =
     c.requires.ordered c.requires.within c.part.ensures (values ∙ cells) (subst (λ (t : DataType). IsOfType (answer_type t) made.layout) is typed) (many ∙ long))
     c.column_of_slots.result c.column_of_slots.ensures.values c.column_of_slots.ensures.typed c.column_of_slots.ensures.long
 
-pub part-requires-in-CountRows-clause-within : goal.part-requires-in-CountRows-clause-within
-part-requires-in-CountRows-clause-within c =
-    let are = item_tallies c.args.self.now c.args.item c.index-self-item.result c.as_slice-in-CountRows.result.now c.requires.can c.requires.there c.as_slice-in-CountRows.ensures.value in
+pub count_column-requires-clause-within : goal.count_column-requires-clause-within
+count_column-requires-clause-within c =
+    let are = item_tallies c.args.self.now c.args.item c.index-self-item.result c.requires.can c.requires.there in
     omega (arith, are.long, c.requires.within)
 
-pub count_column-requires : goal.count_column-requires
-count_column-requires c =
-    let are = item_tallies c.args.self.now c.args.item c.index-self-item.result c.as_slice-in-CountRows.result.now c.requires.can c.requires.there c.as_slice-in-CountRows.ensures.value in
-    part_few c.as_slice-in-CountRows.result.now c.part-in-CountRows.result.now c.args.from (c.args.to - c.args.from) c.part-in-CountRows.ensures are.few
+pub count_column-requires-clause-few : goal.count_column-requires-clause-few
+count_column-requires-clause-few c = (item_tallies c.args.self.now c.args.item c.index-self-item.result c.requires.can c.requires.there).few
 
-pub part-requires-in-Sum-clause-within : goal.part-requires-in-Sum-clause-within
-part-requires-in-Sum-clause-within c =
-    let are = item_tallies c.args.self.now c.args.item c.index-self-item-in-Sum.result c.as_slice-in-Sum.result.now c.requires.can c.requires.there c.as_slice-in-Sum.ensures.value in
+pub sum_column-requires-clause-within : goal.sum_column-requires-clause-within
+sum_column-requires-clause-within c =
+    let are = item_tallies c.args.self.now c.args.item c.index-self-item-in-Sum.result c.requires.can c.requires.there in
     omega (arith, are.long, c.requires.within)
 
 pub returns-in-CountRows : goal.returns-in-CountRows
 returns-in-CountRows c =
-    let are = item_tallies c.args.self.now c.args.item c.index-self-item.result c.as_slice-in-CountRows.result.now c.requires.can c.requires.there c.as_slice-in-CountRows.ensures.value in
+    let are = item_tallies c.args.self.now c.args.item c.index-self-item.result c.requires.can c.requires.there in
     if_ok_three _ _ _ _
-    (λ made values typed long. counted_column c.args.self.now c.args.item c.args.from c.args.to c.as_slice-in-CountRows.result.now c.part-in-CountRows.result.now made are c.in-CountRows.is
-    c.requires.ordered c.requires.within c.part-in-CountRows.ensures values typed long)
+    (λ made values typed long. counted_column c.args.self.now c.args.item c.args.from c.args.to _ made are c.in-CountRows.is
+    c.requires.ordered c.requires.within values typed long)
     c.count_column.result c.count_column.ensures.values c.count_column.ensures.typed c.count_column.ensures.long
 
 pub returns-in-Sum : goal.returns-in-Sum
 returns-in-Sum c =
-    let are = item_tallies c.args.self.now c.args.item c.index-self-item-in-Sum.result c.as_slice-in-Sum.result.now c.requires.can c.requires.there c.as_slice-in-Sum.ensures.value in
+    let are = item_tallies c.args.self.now c.args.item c.index-self-item-in-Sum.result c.requires.can c.requires.there in
     if_ok_three _ _ _ _
-    (λ made values typed long. summed_column c.args.self.now c.args.item c.args.from c.args.to c.in-Sum.field-0 c.as_slice-in-Sum.result.now c.part-in-Sum.result.now made are c.in-Sum.is
-    c.requires.ordered c.requires.within c.part-in-Sum.ensures values typed long)
+    (λ made values typed long. summed_column c.args.self.now c.args.item c.args.from c.args.to c.in-Sum.field-0 _ made are c.in-Sum.is
+    c.requires.ordered c.requires.within values typed long)
     c.sum_column.result c.sum_column.ensures.values c.sum_column.ensures.typed c.sum_column.ensures.long

@@ -1,9 +1,8 @@
 use Rattle.std.proofs.Common.{arith, ap, ◌∙◌, nat_lt, List, ℕ, length}
 use Rattle.std.specs.List.{list_all}
-use Rattle.arrays.specs.Batch.{row_of}
+use Rattle.arrays.specs.Batch.{BatchAt, row_of}
 use Rattle.hash_join.specs.Pairs.{key_in}
-use Rattle.hash_join.specs.Codes.{key_code}
-use Rattle.hash_join.proofs.Numbered.{batch_there, row_there, columns_there, key_found, code_found}
+use Rattle.hash_join.proofs.Numbered.{batch_there, row_there, columns_there, key_found, batch_is}
 use Rattle.hash_join.proofs.rights.Rights.key_row.Goals as goal
 
 pub index-requires-2 : goal.index-requires-2
@@ -27,9 +26,17 @@ returns-clause-key c =
     ap (λ (key : List ℕ). key_in key (row_of batch.columns place.1)) c.as_slice.ensures.value
     ∙ key_found c.args.self.now c.args.number place c.requires.whole c.requires.within c.index.ensures batch c.index-2.ensures
 
-pub returns-clause-code : goal.returns-clause-code
-returns-clause-code c =
+pub returns-clause-others : goal.returns-clause-others
+returns-clause-others c =
     let batch = c.index-2.result.now in
     let place = c.index.result.now in
-    ap (λ (key : List ℕ). key_code batch.columns key place.1) c.as_slice.ensures.value
-    ∙ code_found c.args.self.now c.args.number place c.requires.whole c.requires.within c.index.ensures batch c.index-2.ensures
+    λ row. ap (λ (key : List ℕ). key_in key (row_of batch.columns row)) c.as_slice.ensures.value
+    ∙ ap (λ (b : BatchAt). key_in c.args.self.now.key.items (row_of b.columns row))
+    (batch_is c.args.self.now c.args.number place c.requires.whole c.requires.within c.index.ensures batch c.index-2.ensures)
+
+pub returns-clause-rows : goal.returns-clause-rows
+returns-clause-rows c =
+    let batch = c.index-2.result.now in
+    let place = c.index.result.now in
+    ap (λ (b : BatchAt). b.rows)
+    (batch_is c.args.self.now c.args.number place c.requires.whole c.requires.within c.index.ensures batch c.index-2.ensures)

@@ -1,0 +1,98 @@
+-- More groups, and columns of counts.
+use Rattle.std.proofs.Common.{◌≡◌, ◌≤◌, ◌<◌, ◌-◌, ℕ, pos, All, List, [], ◌∷◌, ◌++◌, length, get_or, map, take, drop, replicate, refl, sym, ap, ◌∙◌, subst, arith, ◌⊎◌, inl, inr}
+use Rattle.std.proofs.lemmas.Bool.{cases_lt}
+use Rattle.std.proofs.lemmas.List.{get_or-append_right, get_or-map, get_or-replicate, get_or_append_left, get_or_past, length-append, length-map, length-replicate, take_all}
+use Rattle.std.proofs.lemmas.List.Elements.{All-drop, All-map, All-take}
+use Rattle.scan_base.specs.declared.value.Value.{Value}
+use Rattle.scan_base.specs.declared.value.Value.TheVariants.{Int}
+use Rattle.grouping.specs.declared.tally.Tally.{Tally}
+use Rattle.grouping.specs.Tallies.{no_rows}
+use Rattle.grouping.specs.inside.Held.{count_tally, count_tallies, padded}
+use Rattle.grouping.specs.inside.Kept.{AreBlank}
+use Rattle.grouping.specs.inside.Merging.{IsJoined, joined}
+use Rattle.grouping.proofs.Counted.{counts_part}
+
+-- ---- so many tallies
+
+-- there are so many
+pub padded_long : (groups : ℕ) (tallies : List Tally) → length tallies ≤ groups → length (padded groups tallies) ≡ groups
+padded_long groups tallies fits =
+    let back = replicate (groups - length tallies) no_rows in
+    omega (arith, fits, length-append (take groups tallies) back, ap length (take_all groups tallies fits), length-replicate (groups - length tallies) no_rows)
+
+-- and each is as it was, or of no rows
+pub padded_same : (groups : ℕ) (tallies : List Tally) → length tallies ≤ groups → (group : ℕ) → group < groups →
+    get_or (padded groups tallies) group no_rows ≡ get_or tallies group no_rows
+padded_same groups tallies fits group low =
+    ap (λ (front : List Tally). get_or (front ++ back) group no_rows) (take_all groups tallies fits) ∙ by (cases_lt group (length tallies))
+  where
+    back : List Tally
+    back = replicate (groups - length tallies) no_rows
+
+    by : (group < length tallies) ⊎ (length tallies ≤ group) → get_or (tallies ++ back) group no_rows ≡ get_or tallies group no_rows
+    by (inl here) = get_or_append_left tallies back no_rows group here
+    by (inr past) =
+        get_or-append_right tallies back (length tallies) group no_rows refl past
+        ∙ get_or-replicate (groups - length tallies) (group - length tallies) no_rows no_rows (omega (arith, past, low))
+        ∙ sym (get_or_past tallies group no_rows past)
+
+-- others are joined to them
+pub padded_joined : (groups : List ℕ) (others : List Tally) (found : ℕ) (before middle after : List Tally) → length before ≤ found →
+    middle ≡ padded found before → after ≡ joined groups others middle (length groups) → IsJoined groups others found before after
+padded_joined groups others found before middle after fits is made = record {
+  padded = padded found before;
+  long = padded_long found before fits;
+  same = padded_same found before fits;
+  is = made ∙ ap (λ (tallies : List Tally). joined groups others tallies (length groups)) is;
+}
+
+-- where there were none, all are of no rows
+pub padded_blank : (groups : ℕ) (counts : List ℕ) (after : List Tally) → counts ≡ [] → after ≡ padded groups (count_tallies counts) → AreBlank groups after
+padded_blank groups counts after none is =
+    subst (AreBlank groups) (sym (is ∙ ap (λ (counts : List ℕ). padded groups (count_tallies counts)) none))
+    (record {
+      long = padded_long groups [] (omega arith);
+      each = λ group low. padded_same groups [] (omega arith) group low ∙ get_or_past {X = Tally} [] group no_rows (omega arith);
+    })
+
+-- ---- columns of counts
+
+-- a part of counts are few
+pub part_few : (most from many : ℕ) (counts part : List ℕ) → part ≡ take many (drop from counts) →
+    All (λ (tally : Tally). tally.count ≤ most) (count_tallies counts) → All (λ (count : ℕ). count ≤ most) part
+part_few most from many counts part cut few =
+    let each : All (λ (count : ℕ). count ≤ most) counts =
+    λ k d low. omega (arith, few k no_rows (omega (arith, low, length-map counts count_tally)), ap (λ (tally : Tally). tally.count) (get_or-map count_tally counts k d no_rows low)) in
+    subst (All (λ (count : ℕ). count ≤ most)) (sym cut)
+    (All-take (λ (count : ℕ). count ≤ most) many (drop from counts) (All-drop (λ (count : ℕ). count ≤ most) from counts each))
+
+-- so are the counts of a part of tallies
+pub narrowed_few : (most from many : ℕ) (tallies part : List Tally) (counts : List ℕ) → part ≡ take many (drop from tallies) →
+    counts ≡ map (λ (tally : Tally). tally.count) part → All (λ (tally : Tally). tally.count ≤ most) tallies → All (λ (count : ℕ). count ≤ most) counts
+narrowed_few most from many tallies part counts cut is few =
+    subst (All (λ (count : ℕ). count ≤ most)) (sym is)
+    (All-map (λ (count : ℕ). count ≤ most) (λ (tally : Tally). tally.count) part
+    (subst (All (λ (tally : Tally). tally.count ≤ most)) (sym cut)
+    (All-take (λ (tally : Tally). tally.count ≤ most) many (drop from tallies) (All-drop (λ (tally : Tally). tally.count ≤ most) from tallies few))))
+
+counts_shown : (counts : List ℕ) → map (λ (count : ℕ). Int (pos count)) counts ≡ map (λ (tally : Tally). Int (pos tally.count)) (count_tallies counts)
+counts_shown [] = refl
+counts_shown (count ∷ counts) = ap (λ (values : List Value). Int (pos count) ∷ values) (counts_shown counts)
+
+-- the values of a part of counts
+pub part_shown : (from many : ℕ) (counts part : List ℕ) → part ≡ take many (drop from counts) →
+    map (λ (count : ℕ). Int (pos count)) part ≡ map (λ (tally : Tally). Int (pos tally.count)) (take many (drop from (count_tallies counts)))
+part_shown from many counts part cut =
+    ap (map (λ (count : ℕ). Int (pos count))) cut ∙ counts_shown (take many (drop from counts))
+    ∙ ap (map (λ (tally : Tally). Int (pos tally.count))) (sym (counts_part from many counts))
+
+tallies_shown : (tallies : List Tally) → map (λ (count : ℕ). Int (pos count)) (map (λ (tally : Tally). tally.count) tallies) ≡ map (λ (tally : Tally). Int (pos tally.count)) tallies
+tallies_shown [] = refl
+tallies_shown (tally ∷ tallies) = ap (λ (values : List Value). Int (pos tally.count) ∷ values) (tallies_shown tallies)
+
+-- and of the counts of a part of tallies
+pub narrowed_shown : (from many : ℕ) (tallies part : List Tally) (counts : List ℕ) → part ≡ take many (drop from tallies) →
+    counts ≡ map (λ (tally : Tally). tally.count) part →
+    map (λ (count : ℕ). Int (pos count)) counts ≡ map (λ (tally : Tally). Int (pos tally.count)) (take many (drop from tallies))
+narrowed_shown from many tallies part counts cut is =
+    ap (map (λ (count : ℕ). Int (pos count))) is ∙ tallies_shown part ∙ ap (map (λ (tally : Tally). Int (pos tally.count))) cut

@@ -1,0 +1,3 @@
+mod Slots
+pub mod Made
+pub mod Answered

@@ -1,0 +1,7 @@
+//! Batches without dictionaries.
+#![tactic(auto)]
+
+pub mod laws;
+mod plain;
+
+pub use crate::plain::plain_batch;
