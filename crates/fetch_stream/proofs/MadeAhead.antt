@@ -4,6 +4,9 @@ use Rattle.std.specs.List.{list_any, filter}
 use Rattle.std.proofs.lemmas.List.{drop-drop, drop_at, length-drop}
 use Rattle.scan_base.specs.declared.fault.Fault.{Fault}
 use Rattle.arrow_schema.specs.declared.schema.Schema.{Schema}
+use Rattle.row_sources.specs.declared.turn.Patience.{Patience}
+use Rattle.row_sources.specs.declared.turn.Turn.{Turn}
+use Rattle.row_sources.specs.declared.turn.Turn.TheVariants.{Given, Working, End}
 use Rattle.table_versions.specs.Table.{Row}
 use Rattle.table_versions.proofs.Storable.{first_false, second_false}
 use Rattle.flight_info.specs.Payloads.{Payload}
@@ -46,8 +49,8 @@ module _ (schema : Schema) (rows : List Row) (given : ℕ) (payload : Payload) (
   pub next_whole : after.given + length after.left ≡ length rows
   next_whole = omega (arith, gives.counted, gives.some refl, ap length gives.left, length-append gives.rows after.left, length-drop given rows)
 
-pub one_ahead : (schema : Schema) (rows : List Row) (given : ℕ) (next : Made) (after : StreamAt) → MakesNext (behind schema rows given) (Ok (Some next)) after → AreAhead schema rows given (next ∷ []) (Some after)
-one_ahead schema rows given next after makes =
+pub one_ahead : (patience : Patience) (schema : Schema) (rows : List Row) (given : ℕ) (next : Made) (after : StreamAt) → MakesNext patience (behind schema rows given) (Ok (Given next)) after → AreAhead schema rows given (next ∷ []) (Some after)
+one_ahead patience schema rows given next after makes =
     let gives : GivesPayload (behind schema rows given) next.payload after = makes.0 in
     let stands : after ≡ behind schema rows next.given = next_stands schema rows given next.payload after gives ∙ ap (λ (k : ℕ). behind schema rows k) (sym makes.1) in (
       subst (λ (s : StreamAt). GivesPayload (behind schema rows given) next.payload s) stands gives,
@@ -56,18 +59,24 @@ one_ahead schema rows given next after makes =
       inl stands,
     )
 
-pub more_ahead : (schema : Schema) (rows : List Row) (given : ℕ) (made : List Made) (before after : StreamAt) (next : Made) → AreAhead schema rows given made (Some before)
-    → MakesNext before (Ok (Some next)) after → AreAhead schema rows given (made ++ next ∷ []) (Some after)
-more_ahead schema rows given [] before after next (inl same) makes =
-    one_ahead schema rows given next after (subst (λ (s : StreamAt). MakesNext s (Ok (Some next)) after) same makes)
-more_ahead schema rows given [] before after next (inr refused) makes =
+pub more_ahead : (patience : Patience) (schema : Schema) (rows : List Row) (given : ℕ) (made : List Made) (before after : StreamAt) (next : Made) → AreAhead schema rows given made (Some before)
+    → MakesNext patience before (Ok (Given next)) after → AreAhead schema rows given (made ++ next ∷ []) (Some after)
+more_ahead patience schema rows given [] before after next (inl same) makes =
+    one_ahead patience schema rows given next after (subst (λ (s : StreamAt). MakesNext patience s (Ok (Given next)) after) same makes)
+more_ahead patience schema rows given [] before after next (inr refused) makes =
     absurd (let e = (stays_refused before after (Ok (Some next.payload)) refused.0 refused.1 makes.0).0 in cc)
-more_ahead schema rows given (made ∷ more) before after next all makes =
-    (all.0, all.1, all.2, more_ahead schema rows made.given more before after next all.3 makes)
+more_ahead patience schema rows given (made ∷ more) before after next all makes =
+    (all.0, all.1, all.2, more_ahead patience schema rows made.given more before after next all.3 makes)
 
 -- ---- none more
 
--- the rest gave nothing
+-- the rest gave nothing yet
+pub working_ahead : (patience : Patience) (schema : Schema) (rows : List Row) (given : ℕ) (made : List Made) (before after : StreamAt) → AreAhead schema rows given made (Some before)
+    → MakesNext patience before (Ok Working) after → AreAhead schema rows given made (Some after)
+working_ahead patience schema rows given made before after all makes =
+    subst (λ (s : StreamAt). AreAhead schema rows given made (Some s)) (sym makes.1) all
+
+-- or nothing at all
 pub ended_ahead : (schema : Schema) (rows : List Row) (given : ℕ) (made : List Made) (before after : StreamAt) → AreAhead schema rows given made (Some before)
     → Gives before (Ok None) after → AreAhead schema rows given made (Some after)
 ended_ahead schema rows given made before after all gives =
@@ -88,26 +97,29 @@ refused_ahead schema rows given (made ∷ more) before after fault all gives =
 -- ---- what is given
 
 -- the first payload that was made
-pub gives_first_made : (schema : Schema) (rows : List Row) (given : ℕ) (first : Made) (more : List Made) (rest : Option StreamAt) → AreAhead schema rows given (first ∷ more) rest
-    → GivesMade schema rows given (Ok (Some first)) more rest
-gives_first_made schema rows given first more rest all = all
+pub gives_first_made : (patience : Patience) (schema : Schema) (rows : List Row) (given : ℕ) (first : Made) (more : List Made) (rest : Option StreamAt) → AreAhead schema rows given (first ∷ more) rest
+    → GivesMade patience schema rows given (Ok (Given first)) more rest
+gives_first_made patience schema rows given first more rest all = all
 
 -- or that of the rest
-pub gives_rest : (schema : Schema) (rows : List Row) (given : ℕ) (before after : StreamAt) (result : Result (Option Made) Fault) → AreAhead schema rows given [] (Some before)
-    → MakesNext before result after → GivesMade schema rows given result [] (Some after)
-gives_rest schema rows given before after (Ok (Some next)) (inl same) makes =
-    one_ahead schema rows given next after (subst (λ (s : StreamAt). MakesNext s (Ok (Some next)) after) same makes)
-gives_rest schema rows given before after (Ok (Some next)) (inr refused) makes =
+pub gives_rest : (patience : Patience) (schema : Schema) (rows : List Row) (given : ℕ) (before after : StreamAt) (result : Result (Turn Made) Fault) → AreAhead schema rows given [] (Some before)
+    → MakesNext patience before result after → GivesMade patience schema rows given result [] (Some after)
+gives_rest patience schema rows given before after (Ok (Given next)) (inl same) makes =
+    one_ahead patience schema rows given next after (subst (λ (s : StreamAt). MakesNext patience s (Ok (Given next)) after) same makes)
+gives_rest patience schema rows given before after (Ok (Given next)) (inr refused) makes =
     absurd (let e = (stays_refused before after (Ok (Some next.payload)) refused.0 refused.1 makes.0).0 in cc)
-gives_rest schema rows given before after (Ok None) (inl same) makes =
+gives_rest patience schema rows given before after (Ok Working) (inl same) makes = (inl (makes.1 ∙ same), makes.2)
+gives_rest patience schema rows given before after (Ok Working) (inr refused) makes =
+    absurd (let e = refused.1 in let none = makes.0 in cc)
+gives_rest patience schema rows given before after (Ok End) (inl same) makes =
     let end = ended before after makes in
     (sym (ap (λ (s : StreamAt). s.left) same) ∙ end.1, inl (end.2 ∙ same))
-gives_rest schema rows given before after (Ok None) (inr refused) makes =
+gives_rest patience schema rows given before after (Ok End) (inr refused) makes =
     absurd (let e = (stays_refused before after (Ok None) refused.0 refused.1 makes).0 in cc)
-gives_rest schema rows given before after (Err fault) (inl same) makes =
+gives_rest patience schema rows given before after (Err fault) (inl same) makes =
     let refuses : MayRefuse (behind schema rows given) fault × (after.refused ≡ Some fault) = subst (λ (s : StreamAt). Gives s (Err fault) after) same makes in
     refuses.0
-gives_rest schema rows given before after (Err fault) (inr refused) makes =
+gives_rest patience schema rows given before after (Err fault) (inr refused) makes =
     let e = (stays_refused before after (Err fault) refused.0 refused.1 makes).0 in
     let same : fault ≡ refused.0 = cc in
     subst (λ (f : Fault). MayRefuse (behind schema rows given) f) (sym same) refused.2
@@ -118,13 +130,13 @@ none_dropped [] same = refl
 none_dropped (x ∷ xs) same = absurd (let long : length (x ∷ xs) ≡ length xs = ap length same in omega (arith, long))
 
 -- none was made, and the rest gives the next one
-pub gives_behind : (schema : Schema) (rows : List Row) (given : ℕ) (made more : List Made) (rest : Option StreamAt) (before after : StreamAt) (result : Result (Option Made) Fault)
-    → made ≡ more → more ≡ drop 1 made → rest ≡ Some before → MakesNext before result after → AreAhead schema rows given made rest → GivesMade schema rows given result more (Some after)
-gives_behind schema rows given made more rest before after result same none is makes all =
+pub gives_behind : (patience : Patience) (schema : Schema) (rows : List Row) (given : ℕ) (made more : List Made) (rest : Option StreamAt) (before after : StreamAt) (result : Result (Turn Made) Fault)
+    → made ≡ more → more ≡ drop 1 made → rest ≡ Some before → MakesNext patience before result after → AreAhead schema rows given made rest → GivesMade patience schema rows given result more (Some after)
+gives_behind patience schema rows given made more rest before after result same none is makes all =
     let empty : more ≡ [] = none_dropped more (none ∙ ap (λ (l : List Made). drop 1 l) same) in
     let there : AreAhead schema rows given made (Some before) = subst (λ (r : Option StreamAt). AreAhead schema rows given made r) is all in
     let begins : AreAhead schema rows given [] (Some before) = subst (λ (m : List Made). AreAhead schema rows given m (Some before)) (same ∙ empty) there in
-    subst (λ (m : List Made). GivesMade schema rows given result m (Some after)) (sym empty) (gives_rest schema rows given before after result begins makes)
+    subst (λ (m : List Made). GivesMade patience schema rows given result m (Some after)) (sym empty) (gives_rest patience schema rows given before after result begins makes)
 
 -- none is made at the beginning
 pub begins_ahead : (schema : Schema) (rows : List Row) (made : List Made) (rest : StreamAt) → made ≡ [] → rest ≡ behind schema rows 0 → AreAhead schema rows 0 made (Some rest)

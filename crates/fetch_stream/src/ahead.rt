@@ -5,12 +5,13 @@ ghost use Rattle.arrow_schema.specs.declared.schema.Schema.{Schema};
 ghost use Rattle.table_versions.specs.Table.{Row};
 ghost use Rattle.scan_exec.specs.Morsels.{morsel_rows};
 ghost use Rattle.fetch_stream.specs.Morsels.{behind_schema};
-ghost use Rattle.fetch_stream.specs.Streams.{Gives};
+ghost use Rattle.fetch_stream.specs.Streams.{Gives, GivesTurn};
 ghost use Rattle.fetch_stream.specs.inside.MadeAhead.{AreAhead, GivesMade, MakesNext};
 
 use crate::made::Made;
 use crate::payload::Payload;
 use crate::stream::FetchStream;
+use row_sources::{Patience, Turn};
 use scan_base::Fault;
 use scan_exec::Scan;
 use std::alloc::{AllocError, Global};
@@ -22,6 +23,12 @@ const MOST_MADE: usize = 16;
 
 const MOST_MADE_BYTES: usize = 8_388_608;
 
+// How many turns of a stream are one turn of making ahead at most, and for how many rows each has patience. So it looks at no more
+// than 1,048,576 rows.
+const TURNS_AHEAD: usize = 8;
+
+const ROWS_AHEAD: usize = 65_536;
+
 /// The payloads of a morsel: those that were made ahead, and behind them the others, each of which is made when it is asked
 /// for. A contract sees a stream that has begun: it says no schema.
 pub struct Ahead<'s> {
@@ -31,6 +38,8 @@ pub struct Ahead<'s> {
     taken: usize,
     refused: Option<Fault>,
     made: VecDeque<Made>,
+    // How many bytes the payloads have that were made ahead.
+    bytes: usize,
     // Nothing where memory was refused for it.
     rest: Option<FetchStream>,
 }
@@ -65,6 +74,7 @@ impl<'s> Drop for Ahead<'s> {
             taken: _,
             refused: _,
             made: _,
+            bytes: _,
             rest: _,
         } = self;
     }
@@ -96,73 +106,130 @@ impl<'s> Ahead<'s> {
     pub fn next(&mut self, alloc: Global) -> Result<Option<Payload>, Fault>
         ensures { Gives self.old result self.new }
     {
+        match self.turn(alloc, Patience::Endless)? {
+            Turn::Given(payload) => Ok(Some(payload)),
+            Turn::Working => Ok(None),
+            Turn::End => Ok(None),
+        }
+    }
+
+    /// A turn to the next payload. `Turn::Working` where none of the rows is given that the turn looked at: then the same is
+    /// still to come, and the next turn goes on behind them.
+    ///
+    /// # Errors
+    ///
+    /// Those of `next`.
+    pub fn turn(&mut self, alloc: Global, patience: Patience) -> Result<Turn<Payload>, Fault>
+        ensures { GivesTurn patience self.old result self.new }
+    {
         if let Some(fault) = self.refused {
             return Err(fault);
         }
-        match next_made(alloc, &mut self.made, &mut self.rest) {
-            Ok(Some(made)) => {
+        match turn_of_made(alloc, patience, &mut self.made, &mut self.rest) {
+            Ok(Turn::Given(made)) => {
                 self.given = made.given;
                 self.taken = made.taken;
-                Ok(Some(made.payload))
+                Ok(Turn::Given(made.payload))
             }
-            Ok(None) => Ok(None),
+            Ok(Turn::Working) => Ok(Turn::Working),
+            Ok(Turn::End) => Ok(Turn::End),
             Err(fault) => {
                 self.refused = Some(fault);
                 Err(fault)
             }
         }
     }
+
+    /// Makes payloads ahead for a while, until there are 16 or they have 8,388,608 bytes: it looks at 1,048,576 rows at most.
+    /// Whether there is more to be made ahead then. The same is still to come. What refuses a payload is answered behind those
+    /// that were made before.
+    pub fn go_on(&mut self, alloc: Global) -> bool
+        ensures { self.new ≡ self.old }
+    {
+        make_more(alloc, &mut self.made, &mut self.bytes, &mut self.rest)
+    }
 }
 
-// The next payload: the first one that was made ahead, or else that of the rest.
-fn next_made(
+// A turn to the next payload: the first one that was made ahead, or else that of the rest.
+fn turn_of_made(
     alloc: Global,
+    patience: Patience,
     made: &mut VecDeque<Made>,
     rest: &mut Option<FetchStream>,
-) -> Result<Option<Made>, Fault>
+) -> Result<Turn<Made>, Fault>
     ensures { (schema : Schema) (rows : List Row) (given : ℕ) → AreAhead schema rows given made.old.items rest.old →
-        GivesMade schema rows given result made.new.items rest.new }
+        GivesMade patience schema rows given result made.new.items rest.new }
 {
     if let Some(first) = made.pop_front() {
-        return Ok(Some(first));
+        return Ok(Turn::Given(first));
     }
     match rest {
-        Some(stream) => make_next(alloc, stream),
+        Some(stream) => make_next(alloc, patience, stream),
         None => Err(Fault::OutOfMemory),
     }
 }
 
-// The next payload of a stream, with how many rows are given with it, and taken.
-fn make_next(alloc: Global, stream: &mut FetchStream) -> Result<Option<Made>, Fault>
-    ensures { MakesNext stream.old result stream.new }
+// A turn to the next payload of a stream, with how many rows are given with it, and taken.
+fn make_next(
+    alloc: Global,
+    patience: Patience,
+    stream: &mut FetchStream,
+) -> Result<Turn<Made>, Fault>
+    ensures { MakesNext patience stream.old result stream.new }
 {
-    let Some(payload) = stream.next(alloc)? else {
-        return Ok(None);
+    let payload = match stream.turn(alloc, patience)? {
+        Turn::Given(payload) => payload,
+        Turn::Working => return Ok(Turn::Working),
+        Turn::End => return Ok(Turn::End),
     };
     let (given, taken) = (stream.given(), stream.taken());
-    Ok(Some(Made {
+    Ok(Turn::Given(Made {
         payload,
         given,
         taken,
     }))
 }
 
-// Makes payloads of a stream ahead, as many as there is room for.
-fn make_ahead(alloc: Global, made: &mut VecDeque<Made>, rest: &mut FetchStream)
-    requires { made.old.items ≡ [] }
-    ensures { (schema : Schema) (rows : List Row) → rest.old ≡ behind_schema schema rows →
-        AreAhead schema rows 0 made.new.items (Some rest.new) }
+// Makes payloads of a stream ahead for a while, as many as there is room for. Whether there is more to be made ahead then.
+fn make_ahead(
+    alloc: Global,
+    made: &mut VecDeque<Made>,
+    bytes: &mut usize,
+    rest: &mut FetchStream,
+) -> bool
+    ensures { (schema : Schema) (rows : List Row) (given : ℕ) → AreAhead schema rows given made.old.items (Some rest.old) →
+        AreAhead schema rows given made.new.items (Some rest.new) }
 {
-    let mut bytes = 0usize;
-    while made.len() < made.capacity() && bytes < MOST_MADE_BYTES {
-        match make_next(alloc, rest) {
-            Ok(Some(next)) => {
-                bytes = bytes.saturating_add(next.payload.len());
+    let patience = Patience::Rows(ROWS_AHEAD);
+    let mut turns = TURNS_AHEAD;
+    while turns > 0 && made.len() < made.capacity() && *bytes < MOST_MADE_BYTES {
+        turns -= 1;
+        match make_next(alloc, patience, rest) {
+            Ok(Turn::Given(next)) => {
+                *bytes = bytes.saturating_add(next.payload.len());
                 made.push_back_reserved(next);
             }
-            Ok(None) => return,
-            Err(_) => return,
+            Ok(Turn::Working) => {}
+            Ok(Turn::End) => return false,
+            Err(_) => return false,
         }
+    }
+    turns == 0
+}
+
+// The same, where there is memory for the rest.
+fn make_more(
+    alloc: Global,
+    made: &mut VecDeque<Made>,
+    bytes: &mut usize,
+    rest: &mut Option<FetchStream>,
+) -> bool
+    ensures { (schema : Schema) (rows : List Row) (given : ℕ) → AreAhead schema rows given made.old.items rest.old →
+        AreAhead schema rows given made.new.items rest.new }
+{
+    match rest {
+        Some(stream) => make_ahead(alloc, made, bytes, stream),
+        None => false,
     }
 }
 
@@ -186,11 +253,7 @@ pub(crate) fn made_ahead<'s>(
     requires { IfOk stream (λ stream. stream ≡ behind_schema scan.now.schema (morsel_rows scan.now number)) }
     ensures { result ≡ behind_schema scan.now.schema (morsel_rows scan.now number) }
 {
-    let mut made = room_ahead(alloc);
-    let mut rest = stream.ok();
-    if let Some(stream) = &mut rest {
-        make_ahead(alloc, &mut made, stream);
-    }
+    let made = room_ahead(alloc);
     Ahead {
         scan,
         number,
@@ -198,6 +261,7 @@ pub(crate) fn made_ahead<'s>(
         taken: 0,
         refused: None,
         made,
-        rest,
+        bytes: 0,
+        rest: stream.ok(),
     }
 }

@@ -70,9 +70,8 @@ impl<'s> Morsels<'s> {
         Ok(schema_payload(alloc, self.scan.schema())?)
     }
 
-    /// A morsel, counted from 0, as a stream of its own, behind the payload of the schema. Payloads of it are made here until
-    /// there are 16 or have 8,388,608 bytes, and the others when they are asked for. What refuses it, as memory that is
-    /// refused here, is answered behind the payloads that were made before.
+    /// A morsel, counted from 0, as a stream of its own, behind the payload of the schema. Its payloads are made when they are
+    /// asked for, or ahead (`Ahead::go_on`). What refuses it, as memory that is refused here, is answered by it.
     pub fn ahead(&self, alloc: Global, number: usize) -> Ahead<'s>
         requires { number < length self.now.rows }
         ensures { result ≡ morsel_stream self.now number }

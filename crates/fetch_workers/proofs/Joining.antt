@@ -1,14 +1,18 @@
 -- The streams of morsels, one behind the other, are the stream that they make up.
-use Rattle.std.proofs.Common.{◌≡◌, ◌≤◌, ◌<◌, ◌+◌, ℕ, Bool, true, false, List, [], ◌∷◌, ◌++◌, length, drop, Option, Some, None, Result, Ok, Err, inl, inr, refl, sym, ap, subst, ◌∙◌, append_assoc, length-append, arith}
+use Rattle.std.proofs.Common.{◌≡◌, ◌≢◌, ◌≤◌, ◌<◌, ◌+◌, ℕ, Bool, true, false, List, [], ◌∷◌, ◌++◌, length, drop, Option, Some, None, Result, Ok, Err, inl, inr, refl, sym, ap, subst, ◌∙◌, append_assoc, length-append, arith}
 use Rattle.std.specs.List.{flat_map}
 use Rattle.std.proofs.lemmas.List.{drop_more, drop_all}
 use Rattle.scan_base.specs.declared.fault.Fault.{Fault}
 use Rattle.scan_base.specs.declared.fault.Fault.TheVariants.{ResultTooLarge}
 use Rattle.scan_base.specs.Limits.{most_answer_rows}
 use Rattle.arrow_schema.specs.declared.schema.Schema.{Schema}
+use Rattle.row_sources.specs.declared.turn.Patience.{Patience}
+use Rattle.row_sources.specs.declared.turn.Patience.TheVariants.{Endless}
+use Rattle.row_sources.specs.declared.turn.Turn.{Turn}
+use Rattle.row_sources.specs.declared.turn.Turn.TheVariants.{Given, Working, End}
 use Rattle.table_versions.specs.Table.{Row}
 use Rattle.flight_info.specs.Payloads.{Payload, PayloadsSay}
-use Rattle.fetch_stream.specs.Streams.{StreamAt, Gives, GivesPayload, MayRefuse, SaySoFar}
+use Rattle.fetch_stream.specs.Streams.{StreamAt, Gives, GivesTurn, GivesPayload, MayRefuse, SaySoFar}
 use Rattle.fetch_stream.specs.Morsels.{MorselsAt, morsel_stream, whole_stream}
 use Rattle.fetch_stream.proofs.Answering.{gave, ended, was_refused}
 use Rattle.fetch_workers.specs.inside.Joined.{GivesCounted, GivesFirst, GivesJoined, GivesPresent, Goes, IsJoined, given_of, joined_stream, left_of}
@@ -20,24 +24,28 @@ rest_of morsels answered = flat_map (λ (rows : List Row). rows) (drop answered 
 -- ---- a morsel, counted
 
 -- where so many rows were taken
-pub counts_payload : (before after : StreamAt) (payload : Payload) (done taken : ℕ) → Gives before (Ok (Some payload)) after → after.given ≤ taken → done + taken ≤ most_answer_rows
-    → GivesCounted before done (Ok (Some payload)) after
-counts_payload before after payload done taken gives there few = (gave before after payload gives, omega (arith, there, few))
+pub counts_payload : (patience other : Patience) (before after : StreamAt) (payload : Payload) (done taken : ℕ) → GivesTurn other before (Ok (Given payload)) after → after.given ≤ taken → done + taken ≤ most_answer_rows
+    → GivesCounted patience before done (Ok (Given payload)) after
+counts_payload patience other before after payload done taken gives there few = (gave before after payload gives, omega (arith, there, few))
 
 -- where there are too many
-pub counts_too_many : (before after : StreamAt) (payload : Payload) (done taken : ℕ) → Gives before (Ok (Some payload)) after → taken ≤ after.given + length after.left → most_answer_rows < done + taken
-    → GivesCounted before done (Err ResultTooLarge) after
-counts_too_many before after payload done taken gives there many =
+pub counts_too_many : (patience other : Patience) (before after : StreamAt) (payload : Payload) (done taken : ℕ) → GivesTurn other before (Ok (Given payload)) after → taken ≤ after.given + length after.left → most_answer_rows < done + taken
+    → GivesCounted patience before done (Err ResultTooLarge) after
+counts_too_many patience other before after payload done taken gives there many =
     let payload_gives = gave before after payload gives in
     inr (refl, omega (arith, there, many, payload_gives.counted, ap length payload_gives.left, length-append payload_gives.rows after.left))
 
-pub counts_end : (before after : StreamAt) (done : ℕ) → Gives before (Ok None) after → GivesCounted before done (Ok None) after
-counts_end before after done gives = let end = ended before after gives in (end.1, end.2)
+-- where none of the rows is given that were looked at
+pub counts_working : (patience other : Patience) (before after : StreamAt) (done : ℕ) → GivesTurn other before (Ok Working) after → (patience ≡ Endless → other ≡ Endless) → GivesCounted patience before done (Ok Working) after
+counts_working patience other before after done gives endless = (gives.1, λ e. gives.2 (endless e))
 
-pub counts_refusal : (before after : StreamAt) (done : ℕ) (fault : Fault) → before.refused ≡ None → Gives before (Err fault) after → GivesCounted before done (Err fault) after
-counts_refusal before after done fault none gives = by (was_refused before after fault none gives)
+pub counts_end : (patience other : Patience) (before after : StreamAt) (done : ℕ) → GivesTurn other before (Ok End) after → GivesCounted patience before done (Ok End) after
+counts_end patience other before after done gives = let end = ended before after gives in (end.1, end.2)
+
+pub counts_refusal : (patience other : Patience) (before after : StreamAt) (done : ℕ) (fault : Fault) → before.refused ≡ None → GivesTurn other before (Err fault) after → GivesCounted patience before done (Err fault) after
+counts_refusal patience other before after done fault none gives = by (was_refused before after fault none gives)
   where
-    by : MayRefuse before fault → GivesCounted before done (Err fault) after
+    by : MayRefuse before fault → GivesCounted patience before done (Err fault) after
     by (inl memory) = inl memory
     by (inr large) = inr (large.0, omega (arith, large.2))
 
@@ -82,9 +90,9 @@ still_goes : (schema : Schema) (present after : StreamAt) (payload : Payload) �
 still_goes schema present after payload goes gives = (gives.schema ∙ goes.0, gives.begun, gives.refused)
 
 -- what refuses a morsel that is counted refuses the stream
-refuses_counted : (morsels : MorselsAt) (answered done : ℕ) (present : StreamAt) (fault : Fault) → GivesCounted present done (Err fault) present → MayRefuse (joined_stream morsels answered true (Some present) done None) fault
-refuses_counted morsels answered done present fault (inl memory) = inl memory
-refuses_counted morsels answered done present fault (inr large) =
+refuses_counted : (patience : Patience) (morsels : MorselsAt) (answered done : ℕ) (present : StreamAt) (fault : Fault) → GivesCounted patience present done (Err fault) present → MayRefuse (joined_stream morsels answered true (Some present) done None) fault
+refuses_counted patience morsels answered done present fault (inl memory) = inl memory
+refuses_counted patience morsels answered done present fault (inr large) =
     inr (large.0, refl, omega (arith, large.1, length-append present.left (rest_of morsels answered)))
 
 -- behind the end of the present morsel the stream is the same with none
@@ -98,27 +106,32 @@ none_present morsels answered done present none = by present.left present.given 
 
 -- ---- the present morsel
 
-module _ (morsels : MorselsAt) (answered done : ℕ) where
+module _ (patience : Patience) (morsels : MorselsAt) (answered done : ℕ) where
   -- none is present
-  pub present_none : (present next : Option StreamAt) → present ≡ None → next ≡ None → done + given_of present ≤ most_answer_rows → GivesPresent morsels answered present done (Ok None) next done
+  pub present_none : (present next : Option StreamAt) → present ≡ None → next ≡ None → done + given_of present ≤ most_answer_rows → GivesPresent patience morsels answered present done (Ok End) next done
   present_none present next none too few = rw (none, too) (refl, omega (arith, rw none at few), refl)
 
   -- a payload of it
-  pub present_payload : (present after : StreamAt) (payload : Payload) → Goes morsels.schema (Some present) → GivesCounted present done (Ok (Some payload)) after
-      → GivesPresent morsels answered (Some present) done (Ok (Some payload)) (Some after) done
+  pub present_payload : (present after : StreamAt) (payload : Payload) → Goes morsels.schema (Some present) → GivesCounted patience present done (Ok (Given payload)) after
+      → GivesPresent patience morsels answered (Some present) done (Ok (Given payload)) (Some after) done
   present_payload present after payload goes gives =
       (gives_present morsels answered done present after payload goes gives.0 gives.1, still_goes morsels.schema present after payload goes gives.0, gives.1)
 
+  -- it gives nothing yet
+  pub present_working : (present after : StreamAt) → GivesCounted patience present done (Ok Working) after
+      → GivesPresent patience morsels answered (Some present) done (Ok Working) (Some after) done
+  present_working present after gives = (ap (λ (s : StreamAt). Some s) gives.0, refl, gives.1)
+
   -- its end
-  pub present_ended : (present after : StreamAt) (all : ℕ) → done + present.given ≤ most_answer_rows → GivesCounted present done (Ok None) after → all ≡ done + after.given
-      → GivesPresent morsels answered (Some present) done (Ok None) None all
+  pub present_ended : (present after : StreamAt) (all : ℕ) → done + present.given ≤ most_answer_rows → GivesCounted patience present done (Ok End) after → all ≡ done + after.given
+      → GivesPresent patience morsels answered (Some present) done (Ok End) None all
   present_ended present after all few gives is =
       let same : all ≡ done + present.given = is ∙ ap (λ (s : StreamAt). done + s.given) gives.1 in
       rw same (refl, few, none_present morsels answered done present gives.0)
 
   -- it is refused
-  pub present_refused : (present after : StreamAt) (fault : Fault) (next : Option StreamAt) (all : ℕ) → GivesCounted present done (Err fault) after → GivesPresent morsels answered (Some present) done (Err fault) next all
-  present_refused present after fault next all gives = refuses_counted morsels answered done present fault gives
+  pub present_refused : (present after : StreamAt) (fault : Fault) (next : Option StreamAt) (all : ℕ) → GivesCounted patience present done (Err fault) after → GivesPresent patience morsels answered (Some present) done (Err fault) next all
+  present_refused present after fault next all gives = refuses_counted patience morsels answered done present fault gives
 
 -- ---- the next morsel
 
@@ -136,12 +149,16 @@ StoodSo morsels done first now = joined_stream morsels now true None done None �
 fresh_goes : (morsels : MorselsAt) (now : ℕ) (part : StreamAt) → part ≡ morsel_stream morsels now → Goes morsels.schema (Some part)
 fresh_goes morsels now part is = subst (λ (s : StreamAt). Goes morsels.schema (Some s)) (sym is) (refl, refl, refl)
 
-module _ (morsels : MorselsAt) (done first now : ℕ) (stood : StoodSo morsels done first now) where
+module _ (patience : Patience) (morsels : MorselsAt) (done first now : ℕ) (stood : StoodSo morsels done first now) where
   -- behind the last morsel nothing is left
-  pub later_none : done ≤ most_answer_rows → length morsels.rows ≤ now → GivesJoined morsels first None done (Ok None) now None done
+  pub later_none : done ≤ most_answer_rows → length morsels.rows ≤ now → GivesJoined patience morsels first None done (Ok End) now None done
   later_none few high =
       let none : (joined_stream morsels now true None done None).left ≡ [] = ap (flat_map (λ (rows : List Row). rows)) (drop_all now morsels.rows high) in
       (sym (ap (λ (s : StreamAt). s.left) stood) ∙ none, stood, tt, omega (arith, few))
+
+  -- none is there yet, or enough gave nothing
+  pub later_working : done ≤ most_answer_rows → patience ≢ Endless → GivesJoined patience morsels first None done (Ok Working) now None done
+  later_working few ends = (stood, tt, omega (arith, few), ends)
 
   module _ (part : StreamAt) (is : part ≡ morsel_stream morsels now) (there : now < length morsels.rows) where
     -- the stream with the next morsel present
@@ -149,16 +166,24 @@ module _ (morsels : MorselsAt) (done first now : ℕ) (stood : StoodSo morsels d
     with_next = ap (λ (s : StreamAt). joined_stream morsels (now + 1) true (Some s) done None) is ∙ sym (next_present morsels now done there) ∙ stood
 
     -- a payload of it
-    pub later_payload : (after : StreamAt) (payload : Payload) (next : ℕ) → next ≡ now + 1 → GivesCounted part done (Ok (Some payload)) after → GivesJoined morsels first None done (Ok (Some payload)) next (Some after) done
+    pub later_payload : (after : StreamAt) (payload : Payload) (next : ℕ) → next ≡ now + 1 → GivesCounted patience part done (Ok (Given payload)) after → GivesJoined patience morsels first None done (Ok (Given payload)) next (Some after) done
     later_payload after payload next more gives =
         let goes : Goes morsels.schema (Some part) = fresh_goes morsels now part is in
         let one : GivesPayload (joined_stream morsels (now + 1) true (Some part) done None) payload (joined_stream morsels (now + 1) true (Some after) done None) = gives_present morsels (now + 1) done part after payload goes gives.0 gives.1 in
         let all : GivesPayload (joined_stream morsels first true None done None) payload (joined_stream morsels (now + 1) true (Some after) done None) =
         subst (λ (s : StreamAt). GivesPayload s payload (joined_stream morsels (now + 1) true (Some after) done None)) with_next one in
-        subst (λ (k : ℕ). GivesJoined morsels first None done (Ok (Some payload)) k (Some after) done) (sym more) (all, still_goes morsels.schema part after payload goes gives.0, gives.1)
+        subst (λ (k : ℕ). GivesJoined patience morsels first None done (Ok (Given payload)) k (Some after) done) (sym more) (all, still_goes morsels.schema part after payload goes gives.0, gives.1)
+
+    -- nothing of it yet
+    pub later_waits : (after : StreamAt) (next : ℕ) → next ≡ now + 1 → done ≤ most_answer_rows → GivesCounted patience part done (Ok Working) after → GivesJoined patience morsels first None done (Ok Working) next (Some after) done
+    later_waits after next more few gives =
+        let same : joined_stream morsels (now + 1) true (Some after) done None ≡ joined_stream morsels first true None done None = ap (λ (s : StreamAt). joined_stream morsels (now + 1) true (Some s) done None) gives.0 ∙ with_next in
+        let goes : Goes morsels.schema (Some after) = subst (λ (s : StreamAt). Goes morsels.schema (Some s)) (sym gives.0) (fresh_goes morsels now part is) in
+        let none : done + after.given ≡ done = ap (λ (s : StreamAt). done + s.given) (gives.0 ∙ is) ∙ omega arith in
+        subst (λ (k : ℕ). GivesJoined patience morsels first None done (Ok Working) k (Some after) done) (sym more) (same, goes, omega (arith, few, none), gives.1)
 
     -- its end, where it gave nothing
-    pub later_ended : (after : StreamAt) (next : ℕ) → next ≡ now + 1 → GivesCounted part done (Ok None) after → StoodSo morsels done first next
+    pub later_ended : (after : StreamAt) (next : ℕ) → next ≡ now + 1 → GivesCounted patience part done (Ok End) after → StoodSo morsels done first next
     later_ended after next more gives =
         let nothing : done + part.given ≡ done = ap (λ (s : StreamAt). done + s.given) is ∙ omega arith in
         let one : joined_stream morsels (now + 1) true None (done + part.given) None ≡ joined_stream morsels (now + 1) true (Some part) done None = none_present morsels (now + 1) done part gives.0 in
@@ -166,51 +191,61 @@ module _ (morsels : MorselsAt) (done first now : ℕ) (stood : StoodSo morsels d
         subst (λ (k : ℕ). StoodSo morsels done first k) (sym more) (two ∙ with_next)
 
     -- it is refused
-    pub later_refused : (after : StreamAt) (fault : Fault) (next : ℕ) (present : Option StreamAt) → GivesCounted part done (Err fault) after → GivesJoined morsels first None done (Err fault) next present done
+    pub later_refused : (after : StreamAt) (fault : Fault) (next : ℕ) (present : Option StreamAt) → GivesCounted patience part done (Err fault) after → GivesJoined patience morsels first None done (Err fault) next present done
     later_refused after fault next present gives =
-        subst (λ (s : StreamAt). MayRefuse s fault) with_next (refuses_counted morsels (now + 1) done part fault gives)
+        subst (λ (s : StreamAt). MayRefuse s fault) with_next (refuses_counted patience morsels (now + 1) done part fault gives)
 
 -- ---- a call
 
 -- what a stream gives, by another name of it
-pub joined_as : (morsels : MorselsAt) (answered done all now last : ℕ) (one other next : Option StreamAt) (result : Result (Option Payload) Fault)
+pub joined_as : (patience : Patience) (morsels : MorselsAt) (answered done all now last : ℕ) (one other next : Option StreamAt) (result : Result (Turn Payload) Fault)
     → joined_stream morsels answered true one done None ≡ joined_stream morsels answered true other all None
-    → GivesJoined morsels answered one done result now next last → GivesJoined morsels answered other all result now next last
-joined_as morsels answered done all now last one other next (Ok (Some payload)) same gives =
+    → GivesJoined patience morsels answered one done result now next last → GivesJoined patience morsels answered other all result now next last
+joined_as patience morsels answered done all now last one other next (Ok (Given payload)) same gives =
     (subst (λ (s : StreamAt). GivesPayload s payload (joined_stream morsels now true next last None)) same gives.0, gives.1, gives.2)
-joined_as morsels answered done all now last one other next (Ok None) same gives =
+joined_as patience morsels answered done all now last one other next (Ok Working) same gives = (gives.0 ∙ same, gives.1, gives.2, gives.3)
+joined_as patience morsels answered done all now last one other next (Ok End) same gives =
     (sym (ap (λ (s : StreamAt). s.left) same) ∙ gives.0, gives.1 ∙ same, gives.2, gives.3)
-joined_as morsels answered done all now last one other next (Err fault) same gives = subst (λ (s : StreamAt). MayRefuse s fault) same gives
+joined_as patience morsels answered done all now last one other next (Err fault) same gives = subst (λ (s : StreamAt). MayRefuse s fault) same gives
 
 -- what the present morsel gives is what the stream gives
-pub joined_present : (morsels : MorselsAt) (answered done all : ℕ) (present next : Option StreamAt) (payload : Payload) → GivesPresent morsels answered present done (Ok (Some payload)) next all
-    → GivesJoined morsels answered present done (Ok (Some payload)) answered next all
-joined_present morsels answered done all present next payload gives = gives
+pub joined_present : (patience : Patience) (morsels : MorselsAt) (answered done all : ℕ) (present next : Option StreamAt) (payload : Payload) → GivesPresent patience morsels answered present done (Ok (Given payload)) next all
+    → GivesJoined patience morsels answered present done (Ok (Given payload)) answered next all
+joined_present patience morsels answered done all present next payload gives = gives
+
+-- where it gives nothing yet, neither does the stream
+pub joined_working : (patience : Patience) (morsels : MorselsAt) (answered done all : ℕ) (present next : Option StreamAt) → Goes morsels.schema present → done + given_of present ≤ most_answer_rows
+    → GivesPresent patience morsels answered present done (Ok Working) next all → GivesJoined patience morsels answered present done (Ok Working) answered next all
+joined_working patience morsels answered done all present next goes few gives =
+    rw (gives.0, gives.1) (refl, goes, few, gives.2)
 
 -- no morsel was answered, and no payload given
 pub begins : (morsels : MorselsAt) → joined_stream morsels 0 false None 0 None ≡ whole_stream morsels
 begins morsels = refl
 
 -- the first payload
-pub first_joined : (morsels : MorselsAt) (answered done : ℕ) (begun : Bool) (present : Option StreamAt) (given : Option Payload) → begun ≡ false → done + given_of present ≡ 0 → GivesFirst morsels.schema (Ok given)
-    → Gives (joined_stream morsels answered begun present done None) (Ok given) (joined_stream morsels answered true present done None)
-first_joined morsels answered done begun present None first zero says = absurd says
-first_joined morsels answered done true present (Some payload) first zero says = absurd cc
-first_joined morsels answered done false present (Some payload) first zero says = by (done + given_of present) zero
+pub first_joined : (patience : Patience) (morsels : MorselsAt) (answered done : ℕ) (begun : Bool) (present : Option StreamAt) (given : Turn Payload) → begun ≡ false → done + given_of present ≡ 0 → GivesFirst morsels.schema (Ok given)
+    → GivesTurn patience (joined_stream morsels answered begun present done None) (Ok given) (joined_stream morsels answered true present done None)
+first_joined patience morsels answered done begun present Working first zero says = absurd says
+first_joined patience morsels answered done begun present End first zero says = absurd says
+first_joined patience morsels answered done true present (Given payload) first zero says = absurd cc
+first_joined patience morsels answered done false present (Given payload) first zero says = by (done + given_of present) zero
   where
     by : (count : ℕ) → count ≡ 0 → GivesPayload (record { schema = morsels.schema; begun = false; left = left_of present ++ rest_of morsels answered; given = count; refused = None }) payload
         (record { schema = morsels.schema; begun = true; left = left_of present ++ rest_of morsels answered; given = count; refused = None })
     by count none = rw none (says (left_of present ++ rest_of morsels answered))
 
 -- a later one
-pub next_joined : (morsels : MorselsAt) (answered done now all : ℕ) (begun : Bool) (present next : Option StreamAt) (given : Option Payload) → begun ≡ true → GivesJoined morsels answered present done (Ok given) now next all
-    → Gives (joined_stream morsels answered begun present done None) (Ok given) (joined_stream morsels now true next all None)
-next_joined morsels answered done now all false present next given on gives = absurd cc
-next_joined morsels answered done now all true present next (Some payload) on gives = gives.0
-next_joined morsels answered done now all true present next None on gives = (refl, gives.0, gives.1)
+pub next_joined : (patience : Patience) (morsels : MorselsAt) (answered done now all : ℕ) (begun : Bool) (present next : Option StreamAt) (given : Turn Payload) → begun ≡ true → GivesJoined patience morsels answered present done (Ok given) now next all
+    → GivesTurn patience (joined_stream morsels answered begun present done None) (Ok given) (joined_stream morsels now true next all None)
+next_joined patience morsels answered done now all false present next given on gives = absurd cc
+next_joined patience morsels answered done now all true present next (Given payload) on gives = gives.0
+next_joined patience morsels answered done now all true present next Working on gives = (refl, gives.0, gives.3)
+next_joined patience morsels answered done now all true present next End on gives = (refl, gives.0, gives.1)
 
 -- where a stream stands behind a call
-pub stands_on : (morsels : MorselsAt) (answered done now all : ℕ) (present next : Option StreamAt) (given : Option Payload) (refused : Option Fault) → GivesJoined morsels answered present done (Ok given) now next all
+pub stands_on : (patience : Patience) (morsels : MorselsAt) (answered done now all : ℕ) (present next : Option StreamAt) (given : Turn Payload) (refused : Option Fault) → GivesJoined patience morsels answered present done (Ok given) now next all
     → IsJoined morsels true next all refused
-stands_on morsels answered done now all present next (Some payload) refused gives = record { goes = λ e. gives.1; few = λ e. gives.2; first = λ e. absurd cc }
-stands_on morsels answered done now all present next None refused gives = record { goes = λ e. gives.2; few = λ e. gives.3; first = λ e. absurd cc }
+stands_on patience morsels answered done now all present next (Given payload) refused gives = record { goes = λ e. gives.1; few = λ e. gives.2; first = λ e. absurd cc }
+stands_on patience morsels answered done now all present next Working refused gives = record { goes = λ e. gives.1; few = λ e. gives.2; first = λ e. absurd cc }
+stands_on patience morsels answered done now all present next End refused gives = record { goes = λ e. gives.2; few = λ e. gives.3; first = λ e. absurd cc }

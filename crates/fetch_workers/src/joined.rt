@@ -1,20 +1,26 @@
 //! The payloads of all morsels, in their order.
 
-ghost use Rattle.std.specs.Prelude.{◌≡◌, ◌≤◌, ◌+◌, ℕ, true, None, option_map};
+ghost use Rattle.std.specs.Prelude.{◌≡◌, ◌≢◌, ◌≤◌, ◌+◌, ℕ, true, None, option_map};
 ghost use Rattle.scan_base.specs.Limits.{most_answer_rows};
 ghost use Rattle.arrow_schema.specs.declared.schema.Schema.{Schema};
+ghost use Rattle.row_sources.specs.declared.turn.Patience.TheVariants.{Endless};
 ghost use Rattle.fetch_stream.specs.Morsels.{MorselsAt};
+ghost use Rattle.fetch_workers.specs.inside.Coming.{ComesIn};
 ghost use Rattle.fetch_workers.specs.inside.Joined.{AnswersMorsels, GivesCounted, GivesFirst, GivesJoined, GivesPresent, Goes, given_of};
 
 use crate::part::Part;
 use fetch_stream::{Morsels, Payload, Payloads};
+use row_sources::{Looking, Patience, Turn};
 use scan_base::Fault;
-use scan_workers::Answers;
+use scan_workers::{Answers, NextAnswer};
 use std::alloc::Global;
 use std::marker::Model;
 
 // How many rows an answer has at most.
 const MAX_ANSWER_ROWS: usize = 67_108_864;
+
+// How many morsels may end without a row in one turn. A turn of each of them has patience for as many parts of the rows.
+const MOST_ENDED: usize = 16;
 
 // The stream that its morsels make up: the payload of the schema, and those of the morsels as they are answered, in their
 // order. It counts the rows of all.
@@ -46,11 +52,20 @@ impl<'x, 'a, A: Part, P: Answers<A>> Payloads for Joined<'x, 'a, A, P> {
     ghost stream = { λ s. s };
 
     fn next(&mut self, alloc: Global) -> Result<Option<Payload>, Fault> {
+        match self.turn(alloc, Patience::Endless)? {
+            Turn::Given(payload) => Ok(Some(payload)),
+            Turn::Working => Ok(None),
+            Turn::End => Ok(None),
+        }
+    }
+
+    fn turn(&mut self, alloc: Global, patience: Patience) -> Result<Turn<Payload>, Fault> {
         if let Some(fault) = self.refused {
             return Err(fault);
         }
         let given = if self.begun {
-            next_rows(alloc, self.answers, &mut self.present, &mut self.done)
+            let looking = Looking { alloc, patience };
+            turn_of_rows(&looking, self.answers, &mut self.present, &mut self.done)
         } else {
             first_payload(alloc, self.morsels)
         };
@@ -63,65 +78,107 @@ impl<'x, 'a, A: Part, P: Answers<A>> Payloads for Joined<'x, 'a, A, P> {
 }
 
 // The payload of the schema, as the first one.
-fn first_payload(alloc: Global, morsels: &Morsels<'_>) -> Result<Option<Payload>, Fault>
+fn first_payload(alloc: Global, morsels: &Morsels<'_>) -> Result<Turn<Payload>, Fault>
     ensures { GivesFirst morsels.now.schema result }
 {
-    Ok(Some(morsels.first_payload(alloc)?))
+    Ok(Turn::Given(morsels.first_payload(alloc)?))
 }
 
-// The next payload of a morsel, where those before it had so many rows. The rows of all are counted as they are taken of the
-// scan, so that an answer of too many rows is refused before the first payload of the batch that has them.
-fn next_counted<A: Part>(alloc: Global, part: &mut A, done: usize) -> Result<Option<Payload>, Fault>
+// For how many rows a turn of one morsel has patience.
+fn of_morsel(patience: Patience) -> Patience
+    ensures { patience ≡ Endless → result ≡ Endless }
+{
+    match patience {
+        Patience::Endless => Patience::Endless,
+        Patience::Rows(rows) => Patience::Rows(rows / MOST_ENDED),
+    }
+}
+
+// Whether a turn is over in which so many morsels ended.
+fn is_over(patience: Patience, ended: usize) -> bool
+    ensures { result ≡ true → patience ≢ Endless }
+{
+    match patience {
+        Patience::Endless => false,
+        Patience::Rows(_) => ended >= MOST_ENDED,
+    }
+}
+
+// A turn to the next payload of a morsel, where those before it had so many rows. The rows of all are counted as they are taken of
+// the scan, so that an answer of too many rows is refused before the first payload of the batch that has them.
+fn turn_counted<A: Part>(
+    looking: &Looking,
+    part: &mut A,
+    done: usize,
+) -> Result<Turn<Payload>, Fault>
     requires begun { (A.stream part.old).begun ≡ true }
     requires going { (A.stream part.old).refused ≡ None }
     requires few { done + (A.stream part.old).given ≤ most_answer_rows }
-    ensures { GivesCounted (A.stream part.old) done result (A.stream part.new) }
+    ensures { GivesCounted looking.now.patience (A.stream part.old) done result (A.stream part.new) }
 {
-    match part.next(alloc) {
-        Ok(Some(payload)) => {
+    match part.turn(looking.alloc, of_morsel(looking.patience)) {
+        Ok(Turn::Given(payload)) => {
             if part.taken() > MAX_ANSWER_ROWS - done {
                 return Err(Fault::ResultTooLarge);
             }
-            Ok(Some(payload))
+            Ok(Turn::Given(payload))
         }
-        Ok(None) => Ok(None),
+        Ok(Turn::Working) => Ok(Turn::Working),
+        Ok(Turn::End) => Ok(Turn::End),
         Err(fault) => Err(fault),
     }
 }
 
-// The next payload of the present morsel, if there is one. Behind its last one none is present, and its rows are counted.
-fn next_of_present<A: Part>(
-    alloc: Global,
+// A turn to the next payload of the present morsel, if there is one. Behind its last one none is present, and its rows are counted.
+fn turn_of_present<A: Part>(
+    looking: &Looking,
     present: &mut Option<A>,
     done: &mut usize,
-) -> Result<Option<Payload>, Fault>
+) -> Result<Turn<Payload>, Fault>
     requires goes { (schema : Schema) × Goes schema (option_map A.stream present.old) }
     requires few { done.old + given_of (option_map A.stream present.old) ≤ most_answer_rows }
     ensures { (morsels : MorselsAt) (answered : ℕ) → Goes morsels.schema (option_map A.stream present.old) →
-        GivesPresent morsels answered (option_map A.stream present.old) done.old result (option_map A.stream present.new) done.new }
+        GivesPresent looking.now.patience morsels answered (option_map A.stream present.old) done.old result (option_map A.stream present.new) done.new }
 {
     let Some(part) = present else {
-        return Ok(None);
+        return Ok(Turn::End);
     };
-    match next_counted(alloc, part, *done) {
-        Ok(Some(payload)) => Ok(Some(payload)),
-        Ok(None) => {
+    match turn_counted(looking, part, *done) {
+        Ok(Turn::Given(payload)) => Ok(Turn::Given(payload)),
+        Ok(Turn::Working) => Ok(Turn::Working),
+        Ok(Turn::End) => {
             *done += part.given();
             *present = None;
-            Ok(None)
+            Ok(Turn::End)
         }
         Err(fault) => Err(fault),
     }
 }
 
-// The next payload of the morsels that are still to be answered, if there is one. The morsel of which it is one is present
-// then.
-fn next_of_later<A: Part, P: Answers<A>>(
-    alloc: Global,
+// The next answer. Where patience has no end, it is waited for.
+fn next_answer<A, P: Answers<A>>(patience: Patience, answers: &mut P) -> NextAnswer<A>
+    requires ready { P.ready answers.old }
+    ensures ready { P.ready answers.new }
+    ensures count { P.count answers.new ≡ P.count answers.old }
+    ensures comes { ComesIn patience P.right (P.count answers.old) (P.given answers.old) result (P.given answers.new) }
+{
+    match patience {
+        Patience::Rows(_) => answers.turn(),
+        Patience::Endless => match answers.next() {
+            Some(answer) => NextAnswer::Given(answer),
+            None => NextAnswer::End,
+        },
+    }
+}
+
+// A turn to the next payload of the morsels that are still to be answered, if there is one. The morsel of which it is one is
+// present then.
+fn turn_of_later<A: Part, P: Answers<A>>(
+    looking: &Looking,
     answers: &mut P,
     present: &mut Option<A>,
     done: usize,
-) -> Result<Option<Payload>, Fault>
+) -> Result<Turn<Payload>, Fault>
     requires ready { P.ready answers.old }
     requires right { (morsels : MorselsAt) × AnswersMorsels A.stream morsels P.right (P.count answers.old) }
     requires none { option_map A.stream present.old ≡ None }
@@ -129,40 +186,55 @@ fn next_of_later<A: Part, P: Answers<A>>(
     ensures ready { P.ready answers.new }
     ensures count { P.count answers.new ≡ P.count answers.old }
     ensures gives { (morsels : MorselsAt) → AnswersMorsels A.stream morsels P.right (P.count answers.old) →
-        GivesJoined morsels (P.given answers.old) None done result (P.given answers.new) (option_map A.stream present.new) done }
+        GivesJoined looking.now.patience morsels (P.given answers.old) None done result (P.given answers.new) (option_map A.stream present.new) done }
 {
-    while let Some(mut part) = answers.next() {
-        match next_counted(alloc, &mut part, done) {
-            Ok(Some(payload)) => {
+    let mut ended = 0usize;
+    loop {
+        let mut part = match next_answer(looking.patience, answers) {
+            NextAnswer::Given(part) => part,
+            NextAnswer::Going => return Ok(Turn::Working),
+            NextAnswer::End => return Ok(Turn::End),
+        };
+        match turn_counted(looking, &mut part, done) {
+            Ok(Turn::Given(payload)) => {
                 *present = Some(part);
-                return Ok(Some(payload));
+                return Ok(Turn::Given(payload));
             }
-            Ok(None) => {}
+            Ok(Turn::Working) => {
+                *present = Some(part);
+                return Ok(Turn::Working);
+            }
+            Ok(Turn::End) => {
+                ended = ended.saturating_add(1);
+                if is_over(looking.patience, ended) {
+                    return Ok(Turn::Working);
+                }
+            }
             Err(fault) => return Err(fault),
         }
     }
-    Ok(None)
 }
 
-// The payload of the next rows: of the present morsel, or of the first one behind it that has rows. `done` rows were those of
-// the morsels before the present one.
-fn next_rows<A: Part, P: Answers<A>>(
-    alloc: Global,
+// A turn to the payload of the next rows: of the present morsel, or of the first one behind it that has rows. `done` rows were
+// those of the morsels before the present one.
+fn turn_of_rows<A: Part, P: Answers<A>>(
+    looking: &Looking,
     answers: &mut P,
     present: &mut Option<A>,
     done: &mut usize,
-) -> Result<Option<Payload>, Fault>
+) -> Result<Turn<Payload>, Fault>
     requires ready { P.ready answers.old }
     requires right { (morsels : MorselsAt) × AnswersMorsels A.stream morsels P.right (P.count answers.old) × Goes morsels.schema (option_map A.stream present.old) }
     requires few { done.old + given_of (option_map A.stream present.old) ≤ most_answer_rows }
     ensures ready { P.ready answers.new }
     ensures count { P.count answers.new ≡ P.count answers.old }
     ensures gives { (morsels : MorselsAt) → AnswersMorsels A.stream morsels P.right (P.count answers.old) → Goes morsels.schema (option_map A.stream present.old) →
-        GivesJoined morsels (P.given answers.old) (option_map A.stream present.old) done.old result (P.given answers.new) (option_map A.stream present.new) done.new }
+        GivesJoined looking.now.patience morsels (P.given answers.old) (option_map A.stream present.old) done.old result (P.given answers.new) (option_map A.stream present.new) done.new }
 {
-    match next_of_present(alloc, present, done) {
-        Ok(Some(payload)) => Ok(Some(payload)),
-        Ok(None) => next_of_later(alloc, answers, present, *done),
+    match turn_of_present(looking, present, done) {
+        Ok(Turn::Given(payload)) => Ok(Turn::Given(payload)),
+        Ok(Turn::Working) => Ok(Turn::Working),
+        Ok(Turn::End) => turn_of_later(looking, answers, present, *done),
         Err(fault) => Err(fault),
     }
 }

@@ -1,19 +1,21 @@
 //! The payloads of one morsel.
 
 use fetch_stream::{Ahead, Payload};
+use row_sources::{Patience, Turn};
 use scan_base::Fault;
 use std::alloc::Global;
 
 // The payloads of one morsel, one at a time, and how many rows they have.
 pub(crate) trait Part: Drop {
     ghost use Rattle.std.specs.Prelude.{◌≡◌, ◌≤◌, ◌+◌, length};
-    ghost use Rattle.fetch_stream.specs.Streams.{StreamAt, Gives};
+    ghost use Rattle.fetch_stream.specs.Streams.{StreamAt, GivesTurn};
 
     // What is still to come of it.
     ghost stream: { Self → StreamAt };
 
-    fn next(&mut self, alloc: Global) -> Result<Option<Payload>, Fault>
-        ensures { Gives (stream self.old) result (stream self.new) };
+    // A turn to the next payload.
+    fn turn(&mut self, alloc: Global, patience: Patience) -> Result<Turn<Payload>, Fault>
+        ensures { GivesTurn patience (stream self.old) result (stream self.new) };
 
     // How many rows were given.
     fn given(&self) -> usize
@@ -28,8 +30,8 @@ pub(crate) trait Part: Drop {
 impl<'s> Part for Ahead<'s> {
     ghost stream = { λ s. s };
 
-    fn next(&mut self, alloc: Global) -> Result<Option<Payload>, Fault> {
-        Ahead::next(self, alloc)
+    fn turn(&mut self, alloc: Global, patience: Patience) -> Result<Turn<Payload>, Fault> {
+        Ahead::turn(self, alloc, patience)
     }
 
     fn given(&self) -> usize {

@@ -4,7 +4,7 @@ use fetch_stream::{Ahead, Morsels};
 use scan_workers::Work;
 use std::alloc::Global;
 
-// The morsels of a stream, each of which is answered by its payloads, some of them made ahead.
+// The morsels of a stream, each of which is answered by its payloads. A worker makes some of them ahead, turn by turn.
 #[derive(Drop)]
 pub(crate) struct MorselWork<'s> {
     pub(crate) morsels: Morsels<'s>,
@@ -28,5 +28,9 @@ impl<'s> Work for MorselWork<'s> {
 
     fn answer(&self, alloc: Global, morsel: usize) -> Ahead<'s> {
         self.morsels.ahead(alloc, morsel)
+    }
+
+    fn go_on(&self, alloc: Global, answer: &mut Ahead<'s>) -> bool {
+        answer.go_on(alloc)
     }
 }

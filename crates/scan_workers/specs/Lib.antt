@@ -1,2 +1,3 @@
 pub mod Claims
 pub mod Right
+pub mod Turns

@@ -134,6 +134,7 @@ where
         given: 0,
         drawn: None,
         stash: None,
+        more: false,
     };
     let mut reading = Reading { pull, reader };
     let out = work_beside(exchange.rt, others, &mut reading);
@@ -214,6 +215,7 @@ where
     requires ready { W.ready work.now }
     requires workers { 1 < workers }
     requires right { (n : ℕ) (a : A) → W.answers work.now n a → ∥ K.right n a ∥₁ }
+    requires known { (n : ℕ) (a : A) → ∥ K.right n a ∥₁ → ∥ W.answers work.now n a ∥₁ }
     requires takes { S.takes reader.old (λ n a. ∥ K.right n a ∥₁) (W.count work.now) }
     ensures read { IfOk result (λ out. S.reads reader.old (λ n a. ∥ K.right n a ∥₁) (W.count work.now) out reader.new) }
     ensures kept { OnErr result (reader.new ≡ reader.old) }
@@ -250,6 +252,7 @@ where
     S: Reads<A>,
     requires ready { W.ready work.now }
     requires right { (n : ℕ) (a : A) → W.answers work.now n a → ∥ K.right n a ∥₁ }
+    requires known { (n : ℕ) (a : A) → ∥ K.right n a ∥₁ → ∥ W.answers work.now n a ∥₁ }
     requires takes { S.takes reader.old (λ n a. ∥ K.right n a ∥₁) (W.count work.now) }
     ensures read { IfOk result (λ out. S.reads reader.old (λ n a. ∥ K.right n a ∥₁) (W.count work.now) out reader.new) }
     ensures kept { OnErr result (reader.new ≡ reader.old) }

@@ -19,6 +19,7 @@ pub struct Exchange<'a, K: Truth<A>, A, W: Work<Answer = A>, G, R> {
     pub word: Word,
     pub ghost words: { word.shared.table_id.words ≡ 1 },
     pub ghost right: { (n : ℕ) (a : A) → W.answers work.now n a → ∥ K.right n a ∥₁ },
+    pub ghost known: { (n : ℕ) (a : A) → ∥ K.right n a ∥₁ → ∥ W.answers work.now n a ∥₁ },
 }
 
 impl<'a, K: Truth<A>, A: Drop, W: Work<Answer = A>, G: Gate, R: Wait> Exchange<'a, K, A, W, G, R> {
@@ -32,6 +33,31 @@ impl<'a, K: Truth<A>, A: Drop, W: Work<Answer = A>, G: Gate, R: Wait> Exchange<'
         Answered::new(number, self.work.answer(self.alloc, number))
     }
 
+    // Makes more of an answer, for a while. Whether there is more to be made then.
+    pub fn go_on(&self, answered: &mut Answered<K, A>) -> bool
+        requires { W.ready self.now.work.now }
+        ensures { answered.new.number ≡ answered.old.number }
+    {
+        self.work.go_on(self.alloc, &mut answered.answer)
+    }
+
+    // The answer to a morsel, made turn by turn, or none where answers are no longer read.
+    fn make(&self, number: usize) -> Option<Answered<K, A>>
+        requires ready { W.ready self.now.work.now }
+        requires there { number < W.count self.now.work.now }
+    {
+        let mut answered = self.answer(number);
+        for _ in self.rt.forever() {
+            if !self.go_on(&mut answered) {
+                return Some(answered);
+            }
+            if !self.window.turn(self.rt, number) {
+                return None;
+            }
+        }
+        unreachable!()
+    }
+
     // Answers morsels until none is left, or no more answers are read.
     pub fn help(&self, me: &mut Claimer)
         requires ready { W.ready self.now.work.now }
@@ -42,7 +68,10 @@ impl<'a, K: Truth<A>, A: Drop, W: Work<Answer = A>, G: Gate, R: Wait> Exchange<'
             if number >= self.work.count() || !self.window.wait_for_room(self.rt, number) {
                 return;
             }
-            self.window.put(self.rt, self.answer(number));
+            let Some(answered) = self.make(number) else {
+                return;
+            };
+            self.window.put(self.rt, answered);
         }
     }
 }

@@ -11,4 +11,4 @@ mod work;
 
 pub use crate::beside::in_order;
 pub use crate::collect::run;
-pub use crate::work::{Answers, Gate, NoGate, Reads, Work};
+pub use crate::work::{Answers, Gate, NextAnswer, NoGate, Reads, Work};

@@ -5,7 +5,7 @@ ghost use Rattle.std.specs.Prelude.{◌≡◌, ℕ, IfSome};
 use crate::claims::{Claimer, draw};
 use crate::exchange::Exchange;
 use crate::window::{Answered, Truth};
-use crate::work::{Answers, Gate, Work};
+use crate::work::{Answers, Gate, NextAnswer, Work};
 use std::alloc::Global;
 use std::marker::PhantomData;
 use std::sync::Wait;
@@ -18,8 +18,10 @@ pub struct Pull<'a, 'h, K: Truth<A>, A, W: Work<Answer = A>, G, R> {
     pub given: usize,
     // A morsel that the reader drew, and has not begun.
     pub drawn: Option<usize>,
-    // An answer that the reader made while it would have waited.
+    // An answer that the reader makes while it would have waited.
     pub stash: Option<Answered<K, A>>,
+    // Whether there is more to be made of it.
+    pub more: bool,
     pub ghost mine: { me.table_id ≡ exchange.now.word.shared.table_id },
 }
 
@@ -38,12 +40,26 @@ impl<'a, 'h, K: Truth<A>, A: Drop, W: Work<Answer = A>, G: Gate, R: Wait> Pull<
         ensures same { (self.new.exchange ≡ self.old.exchange) × (self.new.given ≡ self.old.given) }
     {
         match self.stash.take() {
-            Some(answered) if answered.number == number => Some(answered),
+            Some(answered) if answered.number == number => {
+                self.more = false;
+                Some(answered)
+            }
             other => {
                 self.stash = other;
                 None
             }
         }
+    }
+
+    // The answer of a morsel, if it is there: here or in the window.
+    fn take(&mut self, number: usize) -> Option<Answered<K, A>>
+        ensures found { IfSome result (λ answered. answered.number ≡ number) }
+        ensures same { (self.new.exchange ≡ self.old.exchange) × (self.new.given ≡ self.old.given) }
+    {
+        if let Some(answered) = self.take_stash(number) {
+            return Some(answered);
+        }
+        self.exchange.window.take(self.exchange.rt, number)
     }
 
     // The morsel that was drawn, or one that is drawn here.
@@ -56,8 +72,8 @@ impl<'a, 'h, K: Truth<A>, A: Drop, W: Work<Answer = A>, G: Gate, R: Wait> Pull<
         }
     }
 
-    // Answers a morsel here, where one is left that may be begun. Whether it did.
-    fn help(&mut self) -> bool
+    // Begins a morsel here, where one is left that may be begun. Whether it did.
+    fn begin(&mut self) -> bool
         requires { W.ready self.old.exchange.now.work.now }
         ensures same { (self.new.exchange ≡ self.old.exchange) × (self.new.given ≡ self.old.given) }
     {
@@ -71,7 +87,51 @@ impl<'a, 'h, K: Truth<A>, A: Drop, W: Work<Answer = A>, G: Gate, R: Wait> Pull<
             return false;
         }
         self.stash = Some(self.exchange.answer(number));
+        self.more = true;
         true
+    }
+
+    // A turn of the morsel that was begun here. Whether there is more to be made of it.
+    fn go_on(&mut self) -> bool
+        requires { W.ready self.old.exchange.now.work.now }
+        ensures same { (self.new.exchange ≡ self.old.exchange) × (self.new.given ≡ self.old.given) }
+    {
+        self.more = match &mut self.stash {
+            Some(answered) => self.exchange.go_on(answered),
+            None => false,
+        };
+        self.more
+    }
+
+    // Works on a morsel here, or waits for a worker that makes the one that is asked for. Whether a turn of one is over.
+    fn work(&mut self, number: usize) -> bool
+        requires { W.ready self.old.exchange.now.work.now }
+        ensures same { (self.new.exchange ≡ self.old.exchange) × (self.new.given ≡ self.old.given) }
+    {
+        if self.more {
+            return self.go_on();
+        }
+        if self.begin() {
+            return false;
+        }
+        self.exchange.window.wait_for(self.exchange.rt, number)
+    }
+
+    // The answer of a morsel, or none where a turn is over before it is there.
+    fn look(&mut self, number: usize) -> Option<Answered<K, A>>
+        requires { W.ready self.old.exchange.now.work.now }
+        ensures found { IfSome result (λ answered. answered.number ≡ number) }
+        ensures same { (self.new.exchange ≡ self.old.exchange) × (self.new.given ≡ self.old.given) }
+    {
+        for _ in self.exchange.rt.forever() {
+            if let Some(answered) = self.take(number) {
+                return Some(answered);
+            }
+            if self.work(number) {
+                return None;
+            }
+        }
+        unreachable!()
     }
 
     // The answer of a morsel.
@@ -81,14 +141,8 @@ impl<'a, 'h, K: Truth<A>, A: Drop, W: Work<Answer = A>, G: Gate, R: Wait> Pull<
         ensures same { (self.new.exchange ≡ self.old.exchange) × (self.new.given ≡ self.old.given) }
     {
         for _ in self.exchange.rt.forever() {
-            if let Some(answered) = self.take_stash(number) {
+            if let Some(answered) = self.look(number) {
                 return answered;
-            }
-            if let Some(answered) = self.exchange.window.take(self.exchange.rt, number) {
-                return answered;
-            }
-            if !self.help() {
-                self.exchange.window.wait_for(self.exchange.rt, number);
             }
         }
         unreachable!()
@@ -114,6 +168,19 @@ impl<'a, 'h, K: Truth<A>, A: Drop, W: Work<Answer = A>, G: Gate, R: Wait> Answer
         let Answered { answer, .. } = self.find(number);
         self.given = number + 1;
         Some(answer)
+    }
+
+    fn turn(&mut self) -> NextAnswer<A> {
+        let number = self.given;
+        if self.exchange.work.count() <= number {
+            return NextAnswer::End;
+        }
+        self.exchange.window.go_on(self.exchange.rt, number);
+        let Some(Answered { answer, .. }) = self.look(number) else {
+            return NextAnswer::Going;
+        };
+        self.given = number + 1;
+        NextAnswer::Given(answer)
     }
 }
 

@@ -49,6 +49,8 @@ struct Slots<K: Truth<A>, A> {
     closed: bool,
     // Whether the reader sleeps.
     sleeps: bool,
+    // Whether a turn of the morsel for which the reader asks is over, since the reader last slept or asked for it.
+    turned: bool,
 }
 
 impl<K: Truth<A>, A: Drop> Slots<K, A> {
@@ -65,6 +67,28 @@ impl<K: Truth<A>, A: Drop> Slots<K, A> {
         }
         self.answers[number % len] = Some(answered);
         self.sleeps && number == self.read
+    }
+
+    // A turn of a morsel is over. Whether the reader sleeps for it, and whether answers are still read.
+    fn turn(&mut self, number: usize) -> (bool, bool) {
+        let asked = number == self.read;
+        self.turned = self.turned || asked;
+        (self.sleeps && asked, !self.closed)
+    }
+
+    // The reader asks for the answer of a morsel. Whether it is another one than before.
+    fn ask(&mut self, number: usize) -> bool {
+        let moved = number != self.read;
+        self.read = number;
+        self.turned = self.turned && !moved;
+        moved
+    }
+
+    // The reader sleeps no more. Whether nothing lies in the slot of its morsel.
+    fn wake(&mut self, number: usize) -> bool {
+        self.sleeps = false;
+        self.turned = false;
+        !self.is_there(number)
     }
 
     // The answer of a morsel, if it is there.
@@ -115,6 +139,7 @@ impl<K: Truth<A>, A: Drop> Window<K, A> {
                 read: 0,
                 closed: false,
                 sleeps: false,
+                turned: false,
             }),
             filled: Condvar::new(),
             room: Condvar::new(),
@@ -142,6 +167,15 @@ impl<K: Truth<A>, A: Drop> Window<K, A> {
         }
     }
 
+    // A turn of a morsel is over, of which there is more to be made. Whether answers are still read.
+    pub fn turn(&self, rt: &impl Wait, number: usize) -> bool {
+        let (wakes, goes_on) = self.slots.lock(rt).turn(number);
+        if wakes {
+            self.filled.notify_one();
+        }
+        goes_on
+    }
+
     // The answer of a morsel, if it is there.
     pub fn take(&self, rt: &impl Wait, number: usize) -> Option<Answered<K, A>>
         ensures { IfSome result (λ answered. answered.number ≡ number) }
@@ -149,23 +183,25 @@ impl<K: Truth<A>, A: Drop> Window<K, A> {
         self.slots.lock(rt).take(number)
     }
 
-    // Waits until something lies in the slot of a morsel.
-    pub fn wait_for(&self, rt: &impl Wait, number: usize) {
+    // Waits until something lies in the slot of a morsel, or a turn of that morsel is over. Whether nothing lies there then.
+    pub fn wait_for(&self, rt: &impl Wait, number: usize) -> bool {
         let mut slots = self.slots.lock(rt);
         for _ in rt.forever() {
-            if slots.is_there(number) {
-                slots.sleeps = false;
-                return;
+            if slots.turned || slots.is_there(number) {
+                return slots.wake(number);
             }
             slots.sleeps = true;
             slots = self.filled.wait(rt, slots);
         }
+        unreachable!()
     }
 
     // The reader is done with so many answers, and asks for the next one.
     pub fn go_on(&self, rt: &impl Wait, read: usize) {
-        self.slots.lock(rt).read = read;
-        self.room.notify_all();
+        let moved = self.slots.lock(rt).ask(read);
+        if moved {
+            self.room.notify_all();
+        }
     }
 
     // No more answers are read.

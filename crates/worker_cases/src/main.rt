@@ -5,6 +5,7 @@ mod collected;
 mod gates;
 mod numbers;
 mod stopped;
+mod turns;
 mod window;
 
 use std::alloc::{AllocError, Global};
@@ -35,5 +36,9 @@ fn main(rt: HostRuntime) -> io::Result<()> {
     let came = stopped::stops_at_a_refusal(&rt, alloc);
     println!(rt; "{}", line(alloc, "stops_at_a_refusal", came)?)?;
     let came = window::at_most_as_many_as_workers(&rt, alloc);
-    println!(rt; "{}", line(alloc, "at_most_as_many_as_workers", came)?)
+    println!(rt; "{}", line(alloc, "at_most_as_many_as_workers", came)?)?;
+    let came = turns::answers_come_in_turns(&rt, alloc);
+    println!(rt; "{}", line(alloc, "answers_come_in_turns", came)?)?;
+    let came = turns::workers_stop_between_turns(&rt, alloc);
+    println!(rt; "{}", line(alloc, "workers_stop_between_turns", came)?)
 }

@@ -1,8 +1,12 @@
 -- Inside: payloads of a morsel that are made ahead.
-use Rattle.std.specs.Prelude.{◌≡◌, ◌≤◌, ◌⊎◌, ℕ, ◌+◌, true, List, [], ◌∷◌, length, map, drop, Option, Some, None, Result, Ok, Err}
+use Rattle.std.specs.Prelude.{◌≡◌, ◌≢◌, ◌≤◌, ◌⊎◌, ℕ, ◌+◌, true, List, [], ◌∷◌, length, map, drop, Option, Some, None, Result, Ok, Err}
 use Rattle.std.specs.List.{range_with_len}
 use Rattle.scan_base.specs.declared.fault.Fault.{Fault}
 use Rattle.arrow_schema.specs.declared.schema.Schema.{Schema}
+use Rattle.row_sources.specs.declared.turn.Patience.{Patience}
+use Rattle.row_sources.specs.declared.turn.Patience.TheVariants.{Endless}
+use Rattle.row_sources.specs.declared.turn.Turn.{Turn}
+use Rattle.row_sources.specs.declared.turn.Turn.TheVariants.{Given, Working, End}
 use Rattle.table_versions.specs.Table.{Row}
 use Rattle.scan_exec.specs.Scan.{ScanAt}
 use Rattle.scan_exec.specs.Morsels.{HasMorsels, morsel_rows}
@@ -39,18 +43,20 @@ AreAhead schema rows given (made ∷ more) rest =
     × (made.given ≤ made.taken) × (made.taken ≤ length rows)
     × AreAhead schema rows made.given more rest
 
--- what a call of a stream gives, with how many rows were given and taken then
-abbrev pub MakesNext : StreamAt → Result (Option Made) Fault → StreamAt → Type 0
-MakesNext before (Ok (Some made)) after = Gives before (Ok (Some made.payload)) after × (made.given ≡ after.given)
+-- what a turn of a stream gives, with how many rows were given and taken then
+abbrev pub MakesNext : Patience → StreamAt → Result (Turn Made) Fault → StreamAt → Type 0
+MakesNext patience before (Ok (Given made)) after = Gives before (Ok (Some made.payload)) after × (made.given ≡ after.given)
     × (made.given ≤ made.taken) × (made.taken ≤ after.given + length after.left)
-MakesNext before (Ok None) after = Gives before (Ok None) after
-MakesNext before (Err fault) after = Gives before (Err fault) after
+MakesNext patience before (Ok Working) after = (before.refused ≡ None) × (after ≡ before) × (patience ≢ Endless)
+MakesNext patience before (Ok End) after = Gives before (Ok None) after
+MakesNext patience before (Err fault) after = Gives before (Err fault) after
 
--- what payloads that are ahead give, and the rest behind them
-abbrev pub GivesMade : Schema → List Row → ℕ → Result (Option Made) Fault → List Made → Option StreamAt → Type 0
-GivesMade schema rows given (Ok (Some made)) more rest =
+-- what payloads that are ahead give in a turn, and the rest behind them
+abbrev pub GivesMade : Patience → Schema → List Row → ℕ → Result (Turn Made) Fault → List Made → Option StreamAt → Type 0
+GivesMade patience schema rows given (Ok (Given made)) more rest =
     GivesPayload (behind schema rows given) made.payload (behind schema rows made.given)
     × (made.given ≤ made.taken) × (made.taken ≤ length rows)
     × AreAhead schema rows made.given more rest
-GivesMade schema rows given (Ok None) more rest = (drop given rows ≡ []) × AreAhead schema rows given more rest
-GivesMade schema rows given (Err fault) more rest = MayRefuse (behind schema rows given) fault
+GivesMade patience schema rows given (Ok Working) more rest = AreAhead schema rows given more rest × (patience ≢ Endless)
+GivesMade patience schema rows given (Ok End) more rest = (drop given rows ≡ []) × AreAhead schema rows given more rest
+GivesMade patience schema rows given (Err fault) more rest = MayRefuse (behind schema rows given) fault

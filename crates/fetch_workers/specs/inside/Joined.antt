@@ -1,10 +1,14 @@
 -- Inside: the stream that its morsels make up, where some of them were answered.
-use Rattle.std.specs.Prelude.{◌≡◌, ◌≤◌, ◌<◌, ◌⊎◌, ℕ, ◌+◌, Bool, true, false, List, [], ◌++◌, length, drop, Option, Some, None, Result, Ok, Err}
+use Rattle.std.specs.Prelude.{◌≡◌, ◌≢◌, ◌≤◌, ◌<◌, ◌⊎◌, ℕ, ◌+◌, Bool, true, false, List, [], ◌++◌, length, drop, Option, Some, None, Result, Ok, Err}
 use Rattle.std.specs.List.{flat_map}
 use Rattle.scan_base.specs.declared.fault.Fault.{Fault}
 use Rattle.scan_base.specs.declared.fault.Fault.TheVariants.{OutOfMemory, ResultTooLarge}
 use Rattle.scan_base.specs.Limits.{most_answer_rows}
 use Rattle.arrow_schema.specs.declared.schema.Schema.{Schema}
+use Rattle.row_sources.specs.declared.turn.Patience.{Patience}
+use Rattle.row_sources.specs.declared.turn.Patience.TheVariants.{Endless}
+use Rattle.row_sources.specs.declared.turn.Turn.{Turn}
+use Rattle.row_sources.specs.declared.turn.Turn.TheVariants.{Given, Working, End}
 use Rattle.table_versions.specs.Table.{Row}
 use Rattle.flight_info.specs.Payloads.{Payload}
 use Rattle.fetch_stream.specs.Streams.{StreamAt, GivesPayload, MayRefuse}
@@ -46,37 +50,43 @@ pub record IsJoined (morsels : MorselsAt) (begun : Bool) (present : Option Strea
   pub first : begun ≡ false → done + given_of present ≡ 0
 
 -- the first payload says the schema
-abbrev pub GivesFirst : Schema → Result (Option Payload) Fault → Type 0
-GivesFirst schema (Ok (Some payload)) = GivesSchema schema (Ok payload)
-GivesFirst schema (Ok None) = ⊥
+abbrev pub GivesFirst : Schema → Result (Turn Payload) Fault → Type 0
+GivesFirst schema (Ok (Given payload)) = GivesSchema schema (Ok payload)
+GivesFirst schema (Ok Working) = ⊥
+GivesFirst schema (Ok End) = ⊥
 GivesFirst schema (Err fault) = GivesSchema schema (Err fault)
 
--- what a morsel gives, where those before it had so many rows
-abbrev pub GivesCounted : StreamAt → ℕ → Result (Option Payload) Fault → StreamAt → Type 0
-GivesCounted before done (Ok (Some payload)) after = GivesPayload before payload after × (done + after.given ≤ most_answer_rows)
-GivesCounted before done (Ok None) after = (before.left ≡ []) × (after ≡ before)
-GivesCounted before done (Err fault) after =
+-- what a turn of a morsel gives, where those before it had so many rows
+abbrev pub GivesCounted : Patience → StreamAt → ℕ → Result (Turn Payload) Fault → StreamAt → Type 0
+GivesCounted patience before done (Ok (Given payload)) after = GivesPayload before payload after × (done + after.given ≤ most_answer_rows)
+GivesCounted patience before done (Ok Working) after = (after ≡ before) × (patience ≢ Endless)
+GivesCounted patience before done (Ok End) after = (before.left ≡ []) × (after ≡ before)
+GivesCounted patience before done (Err fault) after =
     (fault ≡ OutOfMemory) ⊎ ((fault ≡ ResultTooLarge) × (most_answer_rows < done + (before.given + length before.left)))
 
--- what the present morsel gives; behind its end none is present
-abbrev pub GivesPresent : MorselsAt → ℕ → Option StreamAt → ℕ → Result (Option Payload) Fault → Option StreamAt → ℕ → Type 0
-GivesPresent morsels answered present done (Ok (Some payload)) next all =
+-- what a turn of the present morsel gives; behind its end none is present
+abbrev pub GivesPresent : Patience → MorselsAt → ℕ → Option StreamAt → ℕ → Result (Turn Payload) Fault → Option StreamAt → ℕ → Type 0
+GivesPresent patience morsels answered present done (Ok (Given payload)) next all =
     GivesPayload (joined_stream morsels answered true present done None) payload (joined_stream morsels answered true next all None)
     × Goes morsels.schema next × (all + given_of next ≤ most_answer_rows)
-GivesPresent morsels answered present done (Ok None) next all =
+GivesPresent patience morsels answered present done (Ok Working) next all = (next ≡ present) × (all ≡ done) × (patience ≢ Endless)
+GivesPresent patience morsels answered present done (Ok End) next all =
     (next ≡ None) × (all ≤ most_answer_rows)
     × (joined_stream morsels answered true None all None ≡ joined_stream morsels answered true present done None)
-GivesPresent morsels answered present done (Err fault) next all =
+GivesPresent patience morsels answered present done (Err fault) next all =
     MayRefuse (joined_stream morsels answered true present done None) fault
 
--- what comes of all morsels, where a stream stood at one and stands at another
-abbrev pub GivesJoined : MorselsAt → ℕ → Option StreamAt → ℕ → Result (Option Payload) Fault → ℕ → Option StreamAt → ℕ → Type 0
-GivesJoined morsels answered present done (Ok (Some payload)) now next all =
+-- what a turn of all morsels gives, where a stream stood at one and stands at another
+abbrev pub GivesJoined : Patience → MorselsAt → ℕ → Option StreamAt → ℕ → Result (Turn Payload) Fault → ℕ → Option StreamAt → ℕ → Type 0
+GivesJoined patience morsels answered present done (Ok (Given payload)) now next all =
     GivesPayload (joined_stream morsels answered true present done None) payload (joined_stream morsels now true next all None)
     × Goes morsels.schema next × (all + given_of next ≤ most_answer_rows)
-GivesJoined morsels answered present done (Ok None) now next all =
+GivesJoined patience morsels answered present done (Ok Working) now next all =
+    (joined_stream morsels now true next all None ≡ joined_stream morsels answered true present done None)
+    × Goes morsels.schema next × (all + given_of next ≤ most_answer_rows) × (patience ≢ Endless)
+GivesJoined patience morsels answered present done (Ok End) now next all =
     ((joined_stream morsels answered true present done None).left ≡ [])
     × (joined_stream morsels now true next all None ≡ joined_stream morsels answered true present done None)
     × Goes morsels.schema next × (all + given_of next ≤ most_answer_rows)
-GivesJoined morsels answered present done (Err fault) now next all =
+GivesJoined patience morsels answered present done (Err fault) now next all =
     MayRefuse (joined_stream morsels answered true present done None) fault

@@ -1,12 +1,11 @@
-use Rattle.std.proofs.Common.{◌≡◌, ◌-◌, List, Some, deque_len, deque_capacity}
+use Rattle.std.proofs.Common.{ℕ, List, Some}
 use Rattle.arrow_schema.specs.declared.schema.Schema.{Schema}
 use Rattle.table_versions.specs.Table.{Row}
-use Rattle.fetch_stream.specs.Morsels.{behind_schema}
 use Rattle.fetch_stream.specs.inside.MadeAhead.{AreAhead}
 use Rattle.fetch_stream.proofs.ahead.make_ahead.Given as goal
 
-abbrev pub invariant-loop-alloc : goal.invariant-loop-alloc
-invariant-loop-alloc l = (schema : Schema) (rows : List Row) → l.fn.rest ≡ behind_schema schema rows → AreAhead schema rows 0 l.made.items (Some l.rest)
+abbrev pub invariant-loop-turns : goal.invariant-loop-turns
+invariant-loop-turns l = (schema : Schema) (rows : List Row) (given : ℕ) → AreAhead schema rows given l.fn.made.items (Some l.fn.rest) → AreAhead schema rows given l.made.items (Some l.rest)
 
-abbrev pub decreases-loop-alloc : goal.decreases-loop-alloc
-decreases-loop-alloc l = deque_capacity l.made - deque_len l.made
+abbrev pub decreases-loop-turns : goal.decreases-loop-turns
+decreases-loop-turns l = l.turns

@@ -2,7 +2,7 @@ use Rattle.std.proofs.Common.{◌≡◌, ◌-◌, None, option_map}
 use Rattle.fetch_stream.specs.Morsels.{MorselsAt}
 use Rattle.fetch_workers.specs.inside.Joined.{AnswersMorsels}
 use Rattle.fetch_workers.proofs.Joining.{StoodSo}
-use Rattle.fetch_workers.proofs.joined.next_of_later.Given as goal
+use Rattle.fetch_workers.proofs.joined.turn_of_later.Given as goal
 
 abbrev pub invariant-loop-part : goal.invariant-loop-part
 invariant-loop-part g l = record {
