@@ -121,7 +121,8 @@ impl<K: Truth<A>, A: Drop> Slots<K, A> {
 pub struct Window<K: Truth<A>, A> {
     slots: Mutex<Slots<K, A>>,
     filled: Condvar,
-    room: Condvar,
+    // A worker sleeps beside the slot of its morsel, so that a slot which becomes free wakes no other one.
+    rooms: Vec<Condvar>,
     // How many slots there are: so many morsels are begun or answered at once, from the one on that the reader is at.
     pub size: usize,
 }
@@ -130,8 +131,10 @@ impl<K: Truth<A>, A: Drop> Window<K, A> {
     // A window of so many slots.
     pub fn new(alloc: Global, size: usize) -> Result<Window<K, A>, AllocError> {
         let mut answers = Vec::with_capacity(alloc, size)?;
+        let mut rooms = Vec::with_capacity(alloc, size)?;
         for _ in 0..size {
             answers.push(None)?;
+            rooms.push(Condvar::new())?;
         }
         Ok(Window {
             slots: Mutex::new(Slots {
@@ -142,19 +145,27 @@ impl<K: Truth<A>, A: Drop> Window<K, A> {
                 turned: false,
             }),
             filled: Condvar::new(),
-            room: Condvar::new(),
+            rooms,
             size,
         })
     }
 
-    // Waits until the answer of a morsel has a slot. Whether answers are still read.
+    // Where a worker sleeps until the answer of a morsel has a slot.
+    fn room(&self, number: usize) -> Option<&Condvar> {
+        self.rooms.get(number.checked_rem(self.rooms.len())?)
+    }
+
+    // Waits until the answer of a morsel has a slot. Whether answers are still read: without slots none are.
     pub fn wait_for_room(&self, rt: &impl Wait, number: usize) -> bool {
+        let Some(room) = self.room(number) else {
+            return false;
+        };
         let mut slots = self.slots.lock(rt);
         for _ in rt.forever() {
             if slots.may_go_on(number) {
                 return !slots.closed;
             }
-            slots = self.room.wait(rt, slots);
+            slots = room.wait(rt, slots);
         }
         unreachable!()
     }
@@ -196,17 +207,22 @@ impl<K: Truth<A>, A: Drop> Window<K, A> {
         unreachable!()
     }
 
-    // The reader is done with so many answers, and asks for the next one.
+    // The reader is done with so many answers, and asks for the next one. One slot became free, for the last morsel of the window.
     pub fn go_on(&self, rt: &impl Wait, read: usize) {
         let moved = self.slots.lock(rt).ask(read);
-        if moved {
-            self.room.notify_all();
+        if !moved {
+            return;
+        }
+        if let Some(room) = self.room(read.wrapping_add(self.size).wrapping_sub(1)) {
+            room.notify_one();
         }
     }
 
     // No more answers are read.
     pub fn close(&self, rt: &impl Wait) {
         self.slots.lock(rt).closed = true;
-        self.room.notify_all();
+        for room in &self.rooms {
+            room.notify_all();
+        }
     }
 }
