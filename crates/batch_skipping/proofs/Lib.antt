@@ -5,4 +5,5 @@ pub mod Possibles
 pub mod Ends
 pub mod SameCells
 pub mod InBatch
+pub mod Nulls
 mod Rows

@@ -1,6 +1,6 @@
 //! The possible truths of a predicate on a batch.
 
-ghost use Rattle.std.specs.Prelude.{◌≡◌, Bool, IfSome, IsTrue};
+ghost use Rattle.std.specs.Prelude.{◌≡◌, Bool, IfSome, IsTrue, None, true};
 ghost use Rattle.std.specs.List.{list_all};
 ghost use Rattle.scan_base.specs.Predicate.{names_only, operand_names};
 ghost use Rattle.scan_base.specs.View.{pred_of};
@@ -56,8 +56,20 @@ fn range_of<'a, K: OneClass<'a>, C, M: Measured<C>>(
     }
 }
 
+// Whether an operand is a column that has nothing but nulls here.
+fn is_null_alone<C, M: Measured<C>>(operand: &Operand<C>, batch: &M) -> bool
+    requires { IsTrue (operand_names (M.has batch.now) operand.now) }
+    ensures { result ≡ true → (side_of (M.stats batch.now) operand.now).ends ≡ None }
+{
+    match operand {
+        Operand::Column(column) => batch.side(column).ends.is_none(),
+        Operand::Literal(_) | Operand::Date(_) => false,
+    }
+}
+
 // The possible truths of a comparison of values of one class. It is `None` of others. The right side is mostly a literal, so it
 // is looked at first.
+#[tactic(auto, using(crate::proofs::Nulls::nulls_compared))]
 fn ranges_compared<'a, K: OneClass<'a>, C, M: Measured<C>>(
     comparison: Comparison,
     left: &'a Operand<C>,
@@ -69,11 +81,16 @@ fn ranges_compared<'a, K: OneClass<'a>, C, M: Measured<C>>(
     ensures { IfSome result (λ possible. possible ≡ can_compare comparison (side_of (M.stats batch.now) left.now) (side_of (M.stats batch.now) right.now)) }
 {
     let right: Between<K> = range_of(right, batch)?;
-    let left: Between<K> = range_of(left, batch)?;
-    Some(left.can_compare(comparison, &right))
+    let range: Option<Between<K>> = range_of(left, batch);
+    match range {
+        Some(left) => Some(left.can_compare(comparison, &right)),
+        None if is_null_alone(left, batch) => Some(Possible::only(Truth::Unknown)),
+        None => None,
+    }
 }
 
 // The possible truths of BETWEEN of values of one class. It is `None` of others.
+#[tactic(auto, using(crate::proofs::Nulls::nulls_within))]
 fn range_within<'a, K: OneClass<'a>, C, M: Measured<C>>(
     operand: &'a Operand<C>,
     low: &'a Operand<C>,
@@ -88,8 +105,12 @@ fn range_within<'a, K: OneClass<'a>, C, M: Measured<C>>(
 {
     let low: Between<K> = range_of(low, batch)?;
     let high: Between<K> = range_of(high, batch)?;
-    let range: Between<K> = range_of(operand, batch)?;
-    Some(range.can_be_within(&low, &high))
+    let range: Option<Between<K>> = range_of(operand, batch);
+    match range {
+        Some(range) => Some(range.can_be_within(&low, &high)),
+        None if is_null_alone(operand, batch) => Some(Possible::only(Truth::Unknown)),
+        None => None,
+    }
 }
 
 // The functions of the leaves are not inlined: a chain has a frame of `can` for each side, which is to be small.
@@ -192,6 +213,7 @@ fn range_among<'a, K: OneClass<'a>, C, M: Measured<C>>(
 }
 
 // The OR of the equalities with each item, of any values.
+#[tactic(auto, using(crate::proofs::Nulls::nulls_among))]
 #[inline(never)]
 fn sides_among<C, M: Measured<C>>(operand: &Operand<C>, items: &[Operand<C>], batch: &M) -> Possible
     requires operand { IsTrue (operand_names (M.has batch.now) operand.now) }
@@ -199,6 +221,9 @@ fn sides_among<C, M: Measured<C>>(operand: &Operand<C>, items: &[Operand<C>], ba
     ensures { result ≡ can_be_among (M.stats batch.now) (side_of (M.stats batch.now) operand.now) items.now }
 {
     let side = side_of(operand, batch);
+    if side.ends.is_none() && items.len() > 0 {
+        return Possible::only(Truth::Unknown);
+    }
     let mut found = Possible::only(Truth::False);
     for index in (0..items.len()).rev() {
         let item = side_of(&items[index], batch);

@@ -1,0 +1,36 @@
+-- A side that has nothing but nulls: each comparison with it is unknown.
+use Rattle.std.proofs.Common.{◌≡◌, ◌<◌, Bool, List, [], ◌∷◌, length, Option, Some, None, refl, absurd}
+use Rattle.scan_base.specs.declared.comparison.Comparison.{Comparison}
+use Rattle.scan_base.specs.declared.comparison.Comparison.TheVariants.{Equal, NotEqual, Less, LessOrEqual, Greater, GreaterOrEqual}
+use Rattle.scan_base.specs.declared.predicate.Operand.{Operand}
+use Rattle.scan_base.specs.declared.truth.Truth.TheVariants.{False, Unknown}
+use Rattle.scan_base.specs.declared.value.Value.{Value}
+use Rattle.scan_base.specs.Truth.{truth_and, truth_not, truth_or}
+use Rattle.batch_skipping.specs.Can.{between_sides, can_be_among, can_be_within, can_compare, equal_between, less_between, side_of}
+use Rattle.batch_skipping.specs.Possible.{only, over, over_both}
+use Rattle.batch_stats.specs.Stats.{StatsAt}
+
+right_none : (test : Value × Value → Value × Value → Bool × Bool) (nulls : Bool) (b : Option (Value × Value)) → between_sides test nulls b None ≡ only Unknown
+right_none test nulls None = refl
+right_none test nulls (Some b) = refl
+
+pub nulls_compared : (comparison : Comparison) (a b : StatsAt) → a.ends ≡ None → can_compare comparison a b ≡ only Unknown
+unfolding can_compare over
+nulls_compared Equal a b e = rw e refl
+nulls_compared NotEqual a b e = rw e refl
+nulls_compared Less a b e = rw e refl
+nulls_compared Greater a b e = rw (e, right_none less_between) refl
+nulls_compared LessOrEqual a b e = rw (e, right_none less_between) refl
+nulls_compared GreaterOrEqual a b e = rw e refl
+
+pub nulls_within : (a low high : StatsAt) → a.ends ≡ None → can_be_within a low high ≡ only Unknown
+unfolding over_both
+nulls_within a low high e = rw (nulls_compared GreaterOrEqual a low e, nulls_compared LessOrEqual a high e) refl
+
+pub nulls_among : {C : Type 0} (stats : C → StatsAt) (a : StatsAt) (items : List (Operand C)) → a.ends ≡ None → 0 < length items →
+    can_be_among stats a items ≡ only Unknown
+unfolding over_both
+nulls_among stats a [] e some = cc
+nulls_among stats a (item ∷ []) e some = rw (nulls_compared Equal a (side_of stats item) e) refl
+nulls_among stats a (item ∷ (next ∷ items)) e some =
+    rw (nulls_compared Equal a (side_of stats item) e, nulls_among stats a (next ∷ items) e cc) refl
