@@ -1,12 +1,12 @@
 -- A side that has nothing but nulls: each comparison with it is unknown.
-use Rattle.std.proofs.Common.{◌≡◌, ◌<◌, Bool, List, [], ◌∷◌, length, Option, Some, None, refl, absurd}
+use Rattle.std.proofs.Common.{◌≡◌, ◌<◌, Bool, List, [], ◌∷◌, length, Option, Some, None, refl, ap, ◌∙◌, arith}
 use Rattle.scan_base.specs.declared.comparison.Comparison.{Comparison}
 use Rattle.scan_base.specs.declared.comparison.Comparison.TheVariants.{Equal, NotEqual, Less, LessOrEqual, Greater, GreaterOrEqual}
 use Rattle.scan_base.specs.declared.predicate.Operand.{Operand}
 use Rattle.scan_base.specs.declared.truth.Truth.TheVariants.{False, Unknown}
 use Rattle.scan_base.specs.declared.value.Value.{Value}
-use Rattle.scan_base.specs.Truth.{truth_and, truth_not, truth_or}
-use Rattle.batch_skipping.specs.Can.{between_sides, can_be_among, can_be_within, can_compare, equal_between, less_between, side_of}
+use Rattle.scan_base.specs.Truth.{truth_or}
+use Rattle.batch_skipping.specs.Can.{between_sides, can_be_among, can_be_within, can_compare, less_between, side_of}
 use Rattle.batch_skipping.specs.Possible.{only, over, over_both}
 use Rattle.batch_stats.specs.Stats.{StatsAt}
 
@@ -27,10 +27,19 @@ pub nulls_within : (a low high : StatsAt) → a.ends ≡ None → can_be_within 
 unfolding over_both
 nulls_within a low high e = rw (nulls_compared GreaterOrEqual a low e, nulls_compared LessOrEqual a high e) refl
 
+last_unknown : over_both truth_or (only Unknown) (only False) ≡ only Unknown
+unfolding over_both
+last_unknown = refl
+
+more_unknown : over_both truth_or (only Unknown) (only Unknown) ≡ only Unknown
+unfolding over_both
+more_unknown = refl
+
 pub nulls_among : {C : Type 0} (stats : C → StatsAt) (a : StatsAt) (items : List (Operand C)) → a.ends ≡ None → 0 < length items →
     can_be_among stats a items ≡ only Unknown
-unfolding over_both
-nulls_among stats a [] e some = cc
-nulls_among stats a (item ∷ []) e some = rw (nulls_compared Equal a (side_of stats item) e) refl
+nulls_among stats a [] e some = absurd (omega (arith, some))
+nulls_among stats a (item ∷ []) e some =
+    ap (λ p. over_both truth_or p (only False)) (nulls_compared Equal a (side_of stats item) e) ∙ last_unknown
 nulls_among stats a (item ∷ (next ∷ items)) e some =
-    rw (nulls_compared Equal a (side_of stats item) e, nulls_among stats a (next ∷ items) e cc) refl
+    ap (λ p. over_both truth_or p (can_be_among stats a (next ∷ items))) (nulls_compared Equal a (side_of stats item) e)
+    ∙ ap (over_both truth_or (only Unknown)) (nulls_among stats a (next ∷ items) e (omega arith)) ∙ more_unknown

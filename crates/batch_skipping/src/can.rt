@@ -213,7 +213,6 @@ fn range_among<'a, K: OneClass<'a>, C, M: Measured<C>>(
 }
 
 // The OR of the equalities with each item, of any values.
-#[tactic(auto, using(crate::proofs::Nulls::nulls_among))]
 #[inline(never)]
 fn sides_among<C, M: Measured<C>>(operand: &Operand<C>, items: &[Operand<C>], batch: &M) -> Possible
     requires operand { IsTrue (operand_names (M.has batch.now) operand.now) }
@@ -221,15 +220,29 @@ fn sides_among<C, M: Measured<C>>(operand: &Operand<C>, items: &[Operand<C>], ba
     ensures { result ≡ can_be_among (M.stats batch.now) (side_of (M.stats batch.now) operand.now) items.now }
 {
     let side = side_of(operand, batch);
-    if side.ends.is_none() && items.len() > 0 {
-        return Possible::only(Truth::Unknown);
-    }
     let mut found = Possible::only(Truth::False);
     for index in (0..items.len()).rev() {
         let item = side_of(&items[index], batch);
         found = can_compare(Comparison::Equal, &side, &item).or(found);
     }
     found
+}
+
+// The same. A column of nulls alone is looked at once.
+#[tactic(auto, using(crate::proofs::Nulls::nulls_among))]
+fn others_among<C, M: Measured<C>>(
+    operand: &Operand<C>,
+    items: &[Operand<C>],
+    batch: &M,
+) -> Possible
+    requires operand { IsTrue (operand_names (M.has batch.now) operand.now) }
+    requires items { IsTrue (list_all (operand_names (M.has batch.now)) items.now) }
+    ensures { result ≡ can_be_among (M.stats batch.now) (side_of (M.stats batch.now) operand.now) items.now }
+{
+    if items.len() > 0 && is_null_alone(operand, batch) {
+        return Possible::only(Truth::Unknown);
+    }
+    sides_among(operand, items, batch)
 }
 
 // The OR of the equalities with each item.
@@ -248,7 +261,7 @@ fn can_be_among<C, M: Measured<C>>(
     }
     match range_among::<&str, C, M>(operand, items, batch) {
         Some(possible) => possible,
-        None => sides_among(operand, items, batch),
+        None => others_among(operand, items, batch),
     }
 }
 
