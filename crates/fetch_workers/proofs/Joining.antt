@@ -12,7 +12,7 @@ use Rattle.row_sources.specs.declared.turn.Turn.{Turn}
 use Rattle.row_sources.specs.declared.turn.Turn.TheVariants.{Given, Working, End}
 use Rattle.table_versions.specs.Table.{Row}
 use Rattle.flight_info.specs.Payloads.{Payload, PayloadsSay}
-use Rattle.fetch_stream.specs.Streams.{StreamAt, Gives, GivesTurn, GivesPayload, MayRefuse, SaySoFar}
+use Rattle.fetch_stream.specs.Streams.{StreamAt, GivesTurn, GivesPayload, MayRefuse, SaySoFar}
 use Rattle.fetch_stream.specs.Morsels.{MorselsAt, morsel_stream, whole_stream}
 use Rattle.fetch_stream.proofs.Answering.{gave, ended, was_refused}
 use Rattle.fetch_workers.specs.inside.Joined.{GivesCounted, GivesFirst, GivesJoined, GivesPresent, Goes, IsJoined, given_of, joined_stream, left_of}
@@ -151,14 +151,14 @@ fresh_goes morsels now part is = subst (λ (s : StreamAt). Goes morsels.schema (
 
 module _ (patience : Patience) (morsels : MorselsAt) (done first now : ℕ) (stood : StoodSo morsels done first now) where
   -- behind the last morsel nothing is left
-  pub later_none : done ≤ most_answer_rows → length morsels.rows ≤ now → GivesJoined patience morsels first None done (Ok End) now None done
-  later_none few high =
-      let none : (joined_stream morsels now true None done None).left ≡ [] = ap (flat_map (λ (rows : List Row). rows)) (drop_all now morsels.rows high) in
-      (sym (ap (λ (s : StreamAt). s.left) stood) ∙ none, stood, tt, omega (arith, few))
+  pub later_none : (last : ℕ) (next : Option StreamAt) → last ≡ now → next ≡ None → done ≤ most_answer_rows → length morsels.rows ≤ now → GivesJoined patience morsels first None done (Ok End) last next done
+  later_none last next same none few high =
+      let empty : (joined_stream morsels now true None done None).left ≡ [] = ap (flat_map (λ (rows : List Row). rows)) (drop_all now morsels.rows high) in
+      rw (same, none) (sym (ap (λ (s : StreamAt). s.left) stood) ∙ empty, stood, tt, omega (arith, few))
 
   -- none is there yet, or enough gave nothing
-  pub later_working : done ≤ most_answer_rows → patience ≢ Endless → GivesJoined patience morsels first None done (Ok Working) now None done
-  later_working few ends = (stood, tt, omega (arith, few), ends)
+  pub later_working : (last : ℕ) (next : Option StreamAt) → last ≡ now → next ≡ None → done ≤ most_answer_rows → patience ≢ Endless → GivesJoined patience morsels first None done (Ok Working) last next done
+  later_working last next same none few ends = rw (same, none) (stood, tt, omega (arith, few), ends)
 
   module _ (part : StreamAt) (is : part ≡ morsel_stream morsels now) (there : now < length morsels.rows) where
     -- the stream with the next morsel present

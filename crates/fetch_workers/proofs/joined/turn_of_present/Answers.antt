@@ -1,4 +1,4 @@
-use Rattle.std.proofs.Common.{◌≡◌, Option, Some, Result, Ok, subst}
+use Rattle.std.proofs.Common.{◌≡◌, Result, Ok, subst}
 use Rattle.scan_base.specs.declared.fault.Fault.{Fault}
 use Rattle.row_sources.specs.declared.turn.Turn.{Turn}
 use Rattle.row_sources.specs.declared.turn.Turn.TheVariants.{Given, Working}

@@ -1,4 +1,4 @@
-use Rattle.std.proofs.Common.{◌≡◌, Option, Some, None, Result, Ok, subst}
+use Rattle.std.proofs.Common.{◌≡◌, None, Result, Ok, subst}
 use Rattle.std.specs.Prelude.{option_map}
 use Rattle.scan_base.specs.declared.fault.Fault.{Fault}
 use Rattle.row_sources.specs.declared.turn.Turn.{Turn}
