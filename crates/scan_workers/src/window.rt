@@ -4,7 +4,9 @@ ghost use Rattle.std.specs.Prelude.{◌≡◌, IfSome};
 
 use std::alloc::{AllocError, Global};
 use std::marker::{Brand, PhantomData};
+use std::sync::atomic::{AtomicUsize, Ordering};
 use std::sync::{Condvar, Mutex, Wait};
+use std::thread;
 
 // What answers are right.
 pub trait Truth<A> {
@@ -59,21 +61,21 @@ impl<K: Truth<A>, A: Drop> Slots<K, A> {
         self.closed || number.saturating_sub(self.read) < self.answers.len()
     }
 
-    // Puts an answer into its slot. Whether the reader sleeps for it.
+    // Puts an answer into its slot. Whether the reader asks for it.
     fn put(&mut self, answered: Answered<K, A>) -> bool {
         let (len, number) = (self.answers.len(), answered.number);
         if len == 0 {
             return false;
         }
         self.answers[number % len] = Some(answered);
-        self.sleeps && number == self.read
+        number == self.read
     }
 
-    // A turn of a morsel is over. Whether the reader sleeps for it, and whether answers are still read.
-    fn turn(&mut self, number: usize) -> (bool, bool) {
+    // A turn of a morsel is over. Whether the reader asks for it.
+    fn turn(&mut self, number: usize) -> bool {
         let asked = number == self.read;
         self.turned = self.turned || asked;
-        (self.sleeps && asked, !self.closed)
+        asked
     }
 
     // The reader asks for the answer of a morsel. Whether it is another one than before.
@@ -116,10 +118,18 @@ impl<K: Truth<A>, A: Drop> Slots<K, A> {
     }
 }
 
+// Before a thread sleeps it looks so often, without the lock, whether it may go on, and lets others run behind each look. To
+// wake a thread that sleeps may take as long as a morsel.
+const LOOKS: usize = 256;
+
 // The window. Workers put their answers into it, and the reader takes them.
 #[derive(Drop)]
 pub struct Window<K: Truth<A>, A> {
     slots: Mutex<Slots<K, A>>,
+    // What was seen last under the lock: with how many answers the reader is done, the greatest number where no more are read, ...
+    read: AtomicUsize,
+    // ... and the number behind the last morsel that was made, or of which a turn was over, while the reader asked for it.
+    answered: AtomicUsize,
     filled: Condvar,
     // A worker sleeps beside the slot of its morsel, so that a slot which becomes free wakes no other one.
     rooms: Vec<Condvar>,
@@ -144,6 +154,8 @@ impl<K: Truth<A>, A: Drop> Window<K, A> {
                 sleeps: false,
                 turned: false,
             }),
+            read: AtomicUsize::new(0),
+            answered: AtomicUsize::new(0),
             filled: Condvar::new(),
             rooms,
             size,
@@ -155,11 +167,32 @@ impl<K: Truth<A>, A: Drop> Window<K, A> {
         self.rooms.get(number.checked_rem(self.rooms.len())?)
     }
 
+    // Looks for a while whether the answer of a morsel has a slot.
+    fn look_for_room(&self, number: usize) {
+        for _ in 0..LOOKS {
+            if number.saturating_sub(self.read.load(Ordering::Acquire)) < self.size {
+                return;
+            }
+            thread::yield_now();
+        }
+    }
+
+    // Looks for a while whether the answer of a morsel is there, or a turn of it is over.
+    fn look_for(&self, number: usize) {
+        for _ in 0..LOOKS {
+            if self.answered.load(Ordering::Acquire) == number.wrapping_add(1) {
+                return;
+            }
+            thread::yield_now();
+        }
+    }
+
     // Waits until the answer of a morsel has a slot. Whether answers are still read: without slots none are.
     pub fn wait_for_room(&self, rt: &impl Wait, number: usize) -> bool {
         let Some(room) = self.room(number) else {
             return false;
         };
+        self.look_for_room(number);
         let mut slots = self.slots.lock(rt);
         for _ in rt.forever() {
             if slots.may_go_on(number) {
@@ -170,19 +203,35 @@ impl<K: Truth<A>, A: Drop> Window<K, A> {
         unreachable!()
     }
 
+    // Tells the reader that the morsel for which it asks was made, or that a turn of it is over.
+    fn tell(&self, number: usize, sleeps: bool) {
+        self.answered
+            .store(number.wrapping_add(1), Ordering::Release);
+        if sleeps {
+            self.filled.notify_one();
+        }
+    }
+
     // Puts an answer into its slot.
     pub fn put(&self, rt: &impl Wait, answered: Answered<K, A>) {
-        let wakes = self.slots.lock(rt).put(answered);
-        if wakes {
-            self.filled.notify_one();
+        let number = answered.number;
+        let mut slots = self.slots.lock(rt);
+        let asked = slots.put(answered);
+        let sleeps = slots.sleeps;
+        drop(slots);
+        if asked {
+            self.tell(number, sleeps);
         }
     }
 
     // A turn of a morsel is over, of which there is more to be made. Whether answers are still read.
     pub fn turn(&self, rt: &impl Wait, number: usize) -> bool {
-        let (wakes, goes_on) = self.slots.lock(rt).turn(number);
-        if wakes {
-            self.filled.notify_one();
+        let mut slots = self.slots.lock(rt);
+        let asked = slots.turn(number);
+        let (sleeps, goes_on) = (slots.sleeps, !slots.closed);
+        drop(slots);
+        if asked {
+            self.tell(number, sleeps);
         }
         goes_on
     }
@@ -196,6 +245,7 @@ impl<K: Truth<A>, A: Drop> Window<K, A> {
 
     // Waits until something lies in the slot of a morsel, or a turn of that morsel is over. Whether nothing lies there then.
     pub fn wait_for(&self, rt: &impl Wait, number: usize) -> bool {
+        self.look_for(number);
         let mut slots = self.slots.lock(rt);
         for _ in rt.forever() {
             if slots.turned || slots.is_there(number) {
@@ -213,6 +263,7 @@ impl<K: Truth<A>, A: Drop> Window<K, A> {
         if !moved {
             return;
         }
+        self.read.store(read, Ordering::Release);
         if let Some(room) = self.room(read.wrapping_add(self.size).wrapping_sub(1)) {
             room.notify_one();
         }
@@ -221,6 +272,7 @@ impl<K: Truth<A>, A: Drop> Window<K, A> {
     // No more answers are read.
     pub fn close(&self, rt: &impl Wait) {
         self.slots.lock(rt).closed = true;
+        self.read.store(usize::MAX, Ordering::Release);
         for room in &self.rooms {
             room.notify_all();
         }
