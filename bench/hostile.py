@@ -37,8 +37,8 @@ LONG = b"x" * 65_536  # the longest text that a table may have
 INT64, INT32, UINT16 = integer(64, True), integer(32, True), integer(16, False)
 STATUS_OK = b"\x04\x00\x00\x00"
 
-# Of each group: where its first row stands, its hash and its entry, and the tally of one item. Lists grow by doubling.
-GROUP_BYTES, TALLY_BYTES, GROWN = 40, 32, 2
+# Of each group: where its first row stands, its hash and its entry, and of one item a count, or a count and a sum. Lists grow by doubling.
+GROUP_BYTES, COUNT_BYTES, TALLY_BYTES, GROWN = 40, 8, 32, 2
 
 
 @dataclass
@@ -130,7 +130,7 @@ def cases(most):
         Case("dictionaries, 2 places", [long_words(b"u", 63, rows[300])],
              f"SELECT {two} FROM u AS a JOIN u AS x ON a.k = x.k".encode(), rows[300]),
         Case("counts of bits", [bit_windows(b"u", 64, rows[500_000])], f"SELECT {counts} FROM u GROUP BY {bits}".encode(), rows[500_000],
-             GROWN * rows[500_000] * (GROUP_BYTES + TALLY_BYTES)),
+             GROWN * rows[500_000] * (GROUP_BYTES + COUNT_BYTES)),
         Case("sums of numbers", [numbers(b"u", rows[2_000_000])], f"SELECT {sums} FROM u GROUP BY a".encode(), rows[2_000_000],
              GROWN * rows[2_000_000] * (GROUP_BYTES + TALLY_BYTES)),
         Case("one word, many times", [one_word(b"u", rows[128])],
