@@ -120,7 +120,7 @@ impl<K: Truth<A>, A: Drop> Slots<K, A> {
 
 // Before a thread sleeps it looks so often, without the lock, whether it may go on, and lets others run behind each look. To
 // wake a thread that sleeps may take as long as a morsel.
-const LOOKS: usize = 256;
+const LOOKS: usize = 64;
 
 // The window. Workers put their answers into it, and the reader takes them.
 #[derive(Drop)]
