@@ -241,15 +241,17 @@ def connections_in_a_row(run: Run) -> None:
     with run.serving() as server:
         with Connection(server.port) as connection:
             ask(connection, PUT, PutCount(2))
-        files = held = 0
+        files, held, last = 0, 0, []
         for number in range(500):
             with Connection(server.port) as connection:
                 ask(connection, FETCH, rows_of(A, (1,), (2,)))
                 if number == 200:
                     files, held = server.open_files(), server.held()
-                last = server.open_files(), server.held()
-        same("the number of open files", files, last[0])
-        same(f"it holds less than 1 MB more, of {last[1] - held} bytes", True, last[1] - held < MEGABYTE)
+                last = last[-9:] + [server.open_files()]
+        # (the server may close a connection a little later than its client)
+        same(f"no more open files than {files} behind one of the last ten connections, of {last}", True, min(last) <= files)
+        more = server.held() - held
+        same(f"it holds less than 1 MB more, of {more} bytes", True, more < MEGABYTE)
 
 
 @case("after three connections --accept 3 ends the server with 0")
