@@ -12,7 +12,7 @@ from loopback import Connection, Server
 from random_calls.answers import PutCount, Refusal, same
 from random_calls.plain_model import Column
 from random_calls.refused import INGEST
-from served.cases import (A, DONE, FETCH, FIRST_RUN, MEGABYTE, PUT, TICKET, Run, ask, case, descriptor_of, fetch_of,
+from served.cases import (A, DONE, FETCH, FIRST_RUN, MEGABYTE, PUT, TICKET, Run, appended, ask, case, descriptor_of, fetch_of,
                           info_of, put_of, rows_of, status_of)
 
 # ---- bytes
@@ -209,21 +209,31 @@ def ended_input(connection: Connection) -> None:
     connection.close()
 
 
-@case("clients that go away while a join gives no row: each had the schema at once, and its only seat is free within 5 seconds")
+def seconds_until_free(server: Server, version: int, rows: int) -> float:
+    """How long the only seat is taken at most, when its client goes away in each of three ways."""
+    longest = 0.0
+    for leave in (Connection.close, Connection.break_off, ended_input):
+        connection = Connection(server.port)
+        connection.send(fetch_of(version, 0, rows, NEVER))
+        same("the first record is a Message", b"\x02", connection.take(1))
+        began = time.perf_counter()
+        leave(connection)
+        with Connection(server.port) as waiting:
+            ask(waiting, PUT, Refusal("F10"))
+        longest = max(longest, time.perf_counter() - began)
+    return longest
+
+
+@case("clients that go away while a join gives no row, of 1 worker and of 4: each had the schema, and its only seat is free within 5 seconds")
 def gone_while_joining(run: Run) -> str:
     longest = 0.0
-    with run.serving("--seats", "1") as server:
-        with Connection(server.port) as connection:
-            ask(connection, put_of("t", KEYS, [(1, 0)] * 4_000), PutCount(4_000))
-        for leave in (Connection.close, Connection.break_off, ended_input):
-            connection = Connection(server.port)
-            connection.send(fetch_of(1, 0, 4_000, NEVER))
-            same("the first record is a Message", b"\x02", connection.take(1))
-            began = time.perf_counter()
-            leave(connection)
-            with Connection(server.port) as waiting:
-                ask(waiting, PUT, Refusal("F10"))
-            longest = max(longest, time.perf_counter() - began)
+    for workers, batches in (("1", [4_000]), ("4", [70_000, 70_000])):
+        with run.serving("--seats", "1", "--workers", workers) as server:
+            with Connection(server.port) as connection:
+                for number, rows in enumerate(batches):
+                    put = appended if number else put_of
+                    ask(connection, put("t", KEYS, [(1, 0)] * rows), PutCount(rows))
+            longest = max(longest, seconds_until_free(server, len(batches), sum(batches)))
     same(f"a seat was free after {longest:.1f} s", True, longest < FREE_SECONDS)
     return f"at most {longest:.1f} s"
 
