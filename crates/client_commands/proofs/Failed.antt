@@ -2,7 +2,7 @@
 use Rattle.std.proofs.Common.{Err, refl}
 use Rattle.client_calls.specs.declared.failure.Failure.{Failure}
 use Rattle.command_line.specs.declared.request.Format.{Format}
-use Rattle.command_line.specs.declared.request.Format.TheVariants.{Lines, Arrow, Csv}
+use Rattle.command_line.specs.declared.request.Format.TheVariants.{Lines, Arrow, Csv, Table}
 use Rattle.command_ends.specs.Printing.{Said}
 use Rattle.command_ends.specs.declared.exit_status.ExitStatus.{ExitStatus}
 use Rattle.client_commands.specs.Told.{TellsFailure}
@@ -13,3 +13,4 @@ pub told_failure : (format : Format) (failure : Failure) (status : ExitStatus) (
 told_failure Lines failure status out said said' told = (refl, told)
 told_failure Arrow failure status out said said' told = (refl, told)
 told_failure Csv failure status out said said' told = (refl, told)
+told_failure Table failure status out said said' told = (refl, told)

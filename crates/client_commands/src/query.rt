@@ -17,6 +17,7 @@ use flight_client::Rows;
 use grpc_frame::Output;
 use row_lines::write_rows;
 use row_stream::write_stream;
+use row_table::write_table;
 use std::alloc::Global;
 use std::thread::Threads;
 
@@ -34,7 +35,7 @@ pub struct Querying<'a> {
 }
 
 /// Prints the rows that a query answers, in the order of the endpoints: a line of the columns' names, and a line for each
-/// row; or an Arrow IPC stream, or CSV. The endpoints are fetched over up to `streams` connections at a time. Each but the
+/// row; or an Arrow IPC stream, CSV, or a table for people. The endpoints are fetched over up to `streams` connections at a time. Each but the
 /// first is made in a thread of its own, and closed there behind its last stream; where the network gives none, it is asked
 /// once more behind the endpoints before. Nothing is printed before all came. A fault is printed on `faults` in a line, as
 /// far as that takes it; where no connection was made, a second line says so.
@@ -91,6 +92,10 @@ fn tell_rows<W: Output, E: Output>(
         }
         Format::Csv => {
             let printed = write_csv(alloc, rows.schema(), rows.batches(), output);
+            end_by_printing(faults, printed)
+        }
+        Format::Table => {
+            let printed = write_table(alloc, rows.schema(), rows.batches(), output);
             end_by_printing(faults, printed)
         }
         Format::Arrow => tell_stream(alloc, output, faults, rows),

@@ -48,7 +48,7 @@ mode_names = codes "create" ∷ codes "append" ∷ codes "replace" ∷ []
 
 -- the names of the formats
 abbrev pub format_names : List Text
-format_names = codes "lines" ∷ codes "arrow" ∷ codes "csv" ∷ []
+format_names = codes "lines" ∷ codes "arrow" ∷ codes "csv" ∷ codes "table" ∷ []
 
 -- the parsers of the options that take names
 pub record Parsers : Type 0 where

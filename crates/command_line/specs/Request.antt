@@ -9,7 +9,7 @@ use Rattle.command_line.specs.Line.{Parsers, program}
 use Rattle.command_line.specs.Numbers.{SaysNumber, parts_taken, workers_taken, seats_taken, accept_taken, idle_taken, streams_taken, port_taken}
 use Rattle.command_line.specs.declared.number.Numbers.{Numbers}
 use Rattle.command_line.specs.declared.request.Format.{Format}
-use Rattle.command_line.specs.declared.request.Format.TheVariants.{Lines, Arrow, Csv}
+use Rattle.command_line.specs.declared.request.Format.TheVariants.{Lines, Arrow, Csv, Table}
 use Rattle.command_line.specs.declared.request.Serving.{Serving}
 use Rattle.command_line.specs.declared.request.Request.{Request}
 use Rattle.command_line.specs.declared.request.Request.TheVariants.{Pipe, Serve, Put, Query, Tables}
@@ -35,6 +35,7 @@ abbrev pub format_named : Text → Format
 format_named name =
     if bytes_eq name (codes "arrow") then Arrow else
     if bytes_eq name (codes "csv") then Csv else
+    if bytes_eq name (codes "table") then Table else
     Lines
 
 -- how `serve` with these options serves

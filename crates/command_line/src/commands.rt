@@ -66,7 +66,7 @@ fn format<'a>(alloc: Global, names: &'a [&'a str]) -> Arg<'a>
         .value_parser(ValueParser::Names(names))
         .value_name("F")
         .help(
-            "lines: cells apart by tabs; arrow: an Arrow IPC stream; csv: as RFC 4180 [default: lines]",
+            "lines: cells apart by tabs; table: aligned; csv: as RFC 4180; arrow: an Arrow IPC stream [default: lines]",
         )
 }
 

@@ -23,7 +23,7 @@ use std::alloc::Global;
 static MODES: [&str; 3] = ["create", "append", "replace"];
 
 // The names of the formats of `query`.
-static FORMATS: [&str; 3] = ["lines", "arrow", "csv"];
+static FORMATS: [&str; 4] = ["lines", "arrow", "csv", "table"];
 
 /// Reads the command line, whose first word is the program's name.
 ///

@@ -47,6 +47,8 @@ fn format_of(matches: &ArgMatches<'_>) -> Format
         Format::Arrow
     } else if name == "csv" {
         Format::Csv
+    } else if name == "table" {
+        Format::Table
     } else {
         Format::Lines
     }

@@ -28,6 +28,8 @@ pub enum Format {
     Arrow,
     /// As CSV.
     Csv,
+    /// As a table for people.
+    Table,
 }
 
 /// What the command line asks for. Texts are taken as they stand.

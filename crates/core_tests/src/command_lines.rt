@@ -180,6 +180,7 @@ fn told(alloc: Global, request: Request<'_>) -> Result<String, AllocError> {
                 Format::Lines => "lines",
                 Format::Arrow => "arrow",
                 Format::Csv => "csv",
+                Format::Table => "table",
             };
             format!(in alloc; "query {port} {format} {streams} {sql}")
         }
@@ -188,7 +189,7 @@ fn told(alloc: Global, request: Request<'_>) -> Result<String, AllocError> {
 }
 
 // Command lines, and what they ask for.
-static TAKEN: [(&'static str, &'static str); 11] = [
+static TAKEN: [(&'static str, &'static str); 12] = [
     ("pipe", "pipe 1 1"),
     ("pipe --workers 16 --parts=64", "pipe 64 16"),
     ("serve --port 0", "serve 0 4 0 1 1"),
@@ -210,6 +211,10 @@ static TAKEN: [(&'static str, &'static str); 11] = [
     (
         "query --format csv --port 1 -- --port",
         "query 1 csv 1 --port",
+    ),
+    (
+        "query --port 1 --format table SELECT",
+        "query 1 table 1 SELECT",
     ),
     ("tables --port 4711", "tables 4711"),
 ];

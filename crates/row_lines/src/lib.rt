@@ -10,3 +10,4 @@ mod value;
 
 pub use crate::names::write_names;
 pub use crate::rows::{type_shown, write_rows};
+pub use crate::text::{Spelling, send_text};

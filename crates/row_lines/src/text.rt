@@ -10,8 +10,8 @@ use grpc_frame::{Outbox, Output};
 use scan_base::Fault;
 
 /// How a text is spelled.
-#[derive(Clone, Copy)]
-pub(crate) enum Spelling {
+#[derive(Clone, Copy, Debug, PartialEq, Eq)]
+pub enum Spelling {
     /// A backslash, a tab, LF and CR are written as a backslash and a letter.
     Escaped,
     /// So are they, and single quotes are doubled.
@@ -48,7 +48,7 @@ fn escape(byte: u8, spelling: Spelling) -> Option<&'static [u8]>
 /// # Errors
 ///
 /// `Fault::Transport` where a write failed. It is counted.
-pub(crate) fn send_text<W: Output>(
+pub fn send_text<W: Output>(
     writer: &mut W,
     outbox: &mut Outbox,
     text: &str,

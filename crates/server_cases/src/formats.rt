@@ -24,8 +24,8 @@ where
     put_stream(rt, putting, stream.as_slice(), told)
 }
 
-// A put, its rows as CSV, its rows copied by an Arrow IPC stream, and groups of the copy. Two connections are made for all rows,
-// and else one.
+// A put, its rows as CSV, its rows copied by an Arrow IPC stream, and groups of the copy in lines and as a table for people. Two
+// connections are made for all rows, and else one.
 pub(crate) fn run_formats<R>(rt: &R, port: u16, told: &mut String) -> Result<(), AllocError>
 where
     R: Net<Listener = TcpListener, Stream = TcpStream> + AllocGlobal + Threads + Sync,
@@ -49,5 +49,10 @@ where
         format: Format::Lines,
         ..all
     };
-    ask_rows(rt, grouped, MemoryOutput::new(alloc), told)
+    ask_rows(rt, grouped, MemoryOutput::new(alloc), told)?;
+    let aligned = Querying {
+        format: Format::Table,
+        ..grouped
+    };
+    ask_rows(rt, aligned, MemoryOutput::new(alloc), told)
 }
