@@ -1,6 +1,6 @@
 //! Groups of rows by the codes of their keys.
 
-ghost use Rattle.std.specs.Prelude.{◌≡◌, ◌<◌, ◌×◌, All, IfOk, IsTrue, OnOk, get_or, length, map, nat_lt};
+ghost use Rattle.std.specs.Prelude.{◌≡◌, ◌<◌, All, IfOk, IsTrue, OnOk, get_or, length, map, nat_lt};
 ghost use Rattle.std.specs.List.{list_all};
 ghost use Rattle.indexmap.specs.IndexSet.{insert_key};
 ghost use Rattle.arrays.specs.Batch.{row_of};
@@ -66,7 +66,7 @@ fn coded_group<'t>(
     earlier: usize,
     first: RowKey<'t>,
 ) -> Result<u32, AllocError>
-    requires told { earlier < length groups.now → (get_or groups.now earlier 0 ≡ place_in (map key_of firsts.old.keys) (key_of first))
+    requires { earlier < length groups.now → (get_or groups.now earlier 0 ≡ place_in (map key_of firsts.old.keys) (key_of first))
         × (get_or groups.now earlier 0 < length (map key_of firsts.old.keys)) }
     ensures inserted { OnOk result (firsts.new.keys ≡ insert_key same_first firsts.old.keys first.entry) }
     ensures place { IfOk result (λ group. group ≡ place_in (map key_of firsts.old.keys) (key_of first.entry)) }

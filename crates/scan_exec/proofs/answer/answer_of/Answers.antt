@@ -23,8 +23,7 @@ invariant_of-groups c =
     rw (c.as_slice-3.ensures.value, made) at c.in_ok-different-in-Groups.ensures in
     let has : HasOutput (Groups c.in-Groups.keys c.in-Groups.items) c.args.source.rows.types = rw c.in-Groups.is at c.requires.output in
     begins c.args.source c.in_ok-rows-in-Groups.field-0 c.in_ok-rows-in-Groups.ensures once.columns.items some _
-    refl refl refl refl
-    (
+    refl refl refl refl (
       keyed.among _ has.0,
       stand.among _ (items_there c.in-Groups.keys once.columns.items once.places.items keyed c.args.source.rows.types c.in-Groups.items has.1),
     )
