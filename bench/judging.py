@@ -4,12 +4,13 @@
     python3 bench/judging.py [--program PATH] [--batches N] [--rows N] [--runs N]
 
 It gives `flightscan pipe` one put of 200,000 batches of one row, of three columns of Int64, one of texts, one of a
-dictionary's texts, one of nulls alone and one of texts of 36 bytes, and behind it 100 fetches of one query. No batch can hold a row that the query keeps, so a fetch binds
-its query and judges each batch, and answers a schema. Told are the processor time of a fetch, that of a put alone taken
-off; its nanoseconds for each batch; and for each batch and column that the WHERE looks at in it: of an AND the parts up to
-the first that cannot be true. The row `no rows` has an empty range, so no batch is judged. The first bytes of the long texts
-tell how they stand to one literal, and to the other one, with which they share 26 bytes, they do not. Each time is the least of five
-runs. 200,000 batches take 100 MB of disk and 400 MB of memory. Build the program first, as for `pipe.py`.
+dictionary's texts, one of nulls alone and one of texts of 36 bytes, and behind it 100 fetches of one query. No batch can
+hold a row that the query keeps, so a fetch binds its query and judges each batch, and answers a schema. Told are the
+processor time of a fetch, that of a put alone taken off; its nanoseconds for each batch; and for each batch and column
+that the WHERE looks at in it: of an AND the parts up to the first that cannot be true. The row `no rows` has an empty
+range, so no batch is judged. The first bytes of the long texts tell how they stand to one literal. To the other, with
+which they share 26 bytes, they do not. Each time is the least of five runs. 200,000 batches take 100 MB of disk and
+400 MB of memory. Build the program first, as for `pipe.py`.
 """
 
 import argparse

@@ -5,7 +5,7 @@ ghost use Rattle.batch_stats.specs.Beginnings.{AreBeginnings};
 ghost use Rattle.batch_stats.specs.Sides.{side_at};
 ghost use Rattle.batch_stats.specs.Stats.{StatsAt};
 
-use crate::side::{Ends, Side};
+use crate::side::Side;
 use scan_base::ValueRef;
 
 /// The first bytes of a text, and whether they are all of it.
@@ -25,18 +25,15 @@ pub struct Beginnings<'a> {
 
 impl<'a> Beginnings<'a> {
     // What the texts are between, where both are whole.
+    #[tactic(auto, using(crate::proofs::Begun::whole_stats))]
     pub(crate) fn whole(self) -> Option<Side<'a>>
         ensures { IfSome result (λ side. (stats : StatsAt) → AreBeginnings self.entry stats → stats ≡ side_at side) }
     {
-        if !self.least.is_whole || !self.greatest.is_whole {
-            return None;
+        if self.least.is_whole && self.greatest.is_whole {
+            let least = ValueRef::Text(self.least.first);
+            Some(Side::between(least, ValueRef::Text(self.greatest.first), self.nulls))
+        } else {
+            None
         }
-        Some(Side {
-            ends: Some(Ends {
-                least: ValueRef::Text(self.least.first),
-                greatest: ValueRef::Text(self.greatest.first),
-            }),
-            nulls: self.nulls,
-        })
     }
 }

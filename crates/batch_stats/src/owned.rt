@@ -8,7 +8,7 @@ ghost use Rattle.batch_stats.specs.Sides.{side_at};
 ghost use Rattle.batch_stats.specs.Stats.{StatsAt};
 
 use crate::beginnings::{Beginning, Beginnings};
-use crate::side::{Ends, Side};
+use crate::side::Side;
 use arrayvec::ArrayString;
 use scan_base::ValueRef;
 
@@ -91,29 +91,29 @@ impl OwnedStats {
     pub fn side(&self) -> Option<Side<'_>>
         ensures { IfSome result (λ side. (stats : StatsAt) → AreKept self.now stats → stats ≡ side_at side) }
     {
-        let (least, greatest, nulls) = match self {
-            OwnedStats::Nulls { nulls } => {
-                return Some(Side {
-                    ends: None,
-                    nulls: *nulls,
-                });
-            }
+        match self {
+            OwnedStats::Nulls { nulls } => Some(Side {
+                ends: None,
+                nulls: *nulls,
+            }),
             OwnedStats::Flags {
                 least,
                 greatest,
                 nulls,
-            } => (ValueRef::Bool(*least), ValueRef::Bool(*greatest), *nulls),
+            } => {
+                let (least, greatest) = (ValueRef::Bool(*least), ValueRef::Bool(*greatest));
+                Some(Side::between(least, greatest, *nulls))
+            }
             OwnedStats::Numbers {
                 least,
                 greatest,
                 nulls,
-            } => (ValueRef::Int(*least), ValueRef::Int(*greatest), *nulls),
-            OwnedStats::Texts { .. } => return self.beginnings()?.whole(),
-        };
-        Some(Side {
-            ends: Some(Ends { least, greatest }),
-            nulls,
-        })
+            } => {
+                let (least, greatest) = (ValueRef::Int(*least), ValueRef::Int(*greatest));
+                Some(Side::between(least, greatest, *nulls))
+            }
+            OwnedStats::Texts { .. } => self.beginnings()?.whole(),
+        }
     }
 
     /// How the least and the greatest text begin. It is `None` of other values.
