@@ -1,13 +1,11 @@
 -- How a text stands to another, by its first bytes.
-use Rattle.std.specs.Prelude.{IfSome}
-use Rattle.std.proofs.Common.{◌≡◌, ℕ, Bool, true, false, ◌&&◌, List, [], ◌∷◌, ◌++◌, Option, Some, None, nat_eq, nat_cmp, refl, sym, ap, ◌∙◌}
+use Rattle.std.proofs.Common.{◌≡◌, ℕ, Bool, true, false, ◌&&◌, List, [], ◌∷◌, ◌++◌, nat_eq, nat_cmp, refl, sym, ap, ◌∙◌}
 use Rattle.std.proofs.lemmas.Cmp.{nat_eq_equiv, ranked}
 use Rattle.std.specs.Cmp.Lexicographic.{slice_cmp}
 use Rattle.std.specs.List.{starts_with}
 use Rattle.std.specs.Ordering.{is_ge, ordering_then}
 use Rattle.std.specs.declared.cmp.Ordering.{Ordering}
 use Rattle.std.specs.declared.cmp.Ordering.TheVariants.{Less, Equal, Greater}
-use Rattle.batch_stats.specs.Beginnings.{AreFirst}
 
 -- a text is above another where its first bytes are, also where these are all of that
 pub not_below : (first text : List ℕ) → is_ge (slice_cmp nat_cmp first text) ≡ true → (next : ℕ) (rest : List ℕ) → Greater ≡ slice_cmp nat_cmp (first ++ next ∷ rest) text
@@ -32,30 +30,15 @@ others_begin x y more e h =
 -- a text is below another where its first bytes are, and that does not begin with them
 pub is_below : (first text : List ℕ) → is_ge (slice_cmp nat_cmp first text) ≡ false → starts_with nat_eq text first ≡ false → (next : ℕ) (rest : List ℕ) →
     Less ≡ slice_cmp nat_cmp (first ++ next ∷ rest) text
-is_below [] [] h no next rest = cc
-is_below [] (y ∷ ys) h no next rest = cc
-is_below (x ∷ xs) [] h no next rest = cc
-is_below (x ∷ xs) (y ∷ ys) h no next rest =
-    by (nat_cmp x y) refl h (λ h no. is_below xs ys h no next rest) no
+is_below [] [] low other next rest = cc
+is_below [] (y ∷ ys) low other next rest = cc
+is_below (x ∷ xs) [] low other next rest = cc
+is_below (x ∷ xs) (y ∷ ys) low other next rest =
+    by (nat_cmp x y) refl low (λ low other. is_below xs ys low other next rest) other
   where
     by : (o : Ordering) → o ≡ nat_cmp x y → is_ge (ordering_then o (slice_cmp nat_cmp xs ys)) ≡ false →
         (is_ge (slice_cmp nat_cmp xs ys) ≡ false → starts_with nat_eq ys xs ≡ false → Less ≡ slice_cmp nat_cmp (xs ++ next ∷ rest) ys) →
         starts_with nat_eq (y ∷ ys) (x ∷ xs) ≡ false → Less ≡ ordering_then o (slice_cmp nat_cmp (xs ++ next ∷ rest) ys)
-    by Less e h more no = refl
-    by Equal e h more no = more h (others_begin x y (starts_with nat_eq ys xs) (ranked x y Equal e) no)
-    by Greater e h more no = cc
-
--- a whole text stands as it does
-pub whole_order : (first text : List ℕ) (is_whole : Bool) (order : Ordering) → is_whole ≡ true → order ≡ slice_cmp nat_cmp first text →
-    (whole : List ℕ) → AreFirst first is_whole whole → order ≡ slice_cmp nat_cmp whole text
-whole_order first text true order e is whole begins = is ∙ ap (λ (one : List ℕ). slice_cmp nat_cmp one text) (sym begins)
-whole_order first text false order e is whole begins = absurd (let no : ⊥ = cc in no)
-
--- a longer one as all do that begin so
-pub longer_order : (first text : List ℕ) (is_whole : Bool) (found : Option Ordering) → is_whole ≡ false →
-    IfSome found (λ order. (next : ℕ) (rest : List ℕ) → order ≡ slice_cmp nat_cmp (first ++ next ∷ rest) text) →
-    IfSome found (λ order. (whole : List ℕ) → AreFirst first is_whole whole → order ≡ slice_cmp nat_cmp whole text)
-longer_order first text true found e is = absurd (let no : ⊥ = cc in no)
-longer_order first text false None e is = tt
-longer_order first text false (Some order) e is =
-    λ whole begins. is begins.0 begins.1 ∙ ap (λ (one : List ℕ). slice_cmp nat_cmp one text) (sym begins.2)
+    by Less e low more other = refl
+    by Equal e low more other = more low (others_begin x y (starts_with nat_eq ys xs) (ranked x y Equal e) other)
+    by Greater e low more other = cc

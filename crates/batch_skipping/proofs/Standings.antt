@@ -1,5 +1,5 @@
 -- The possible truths of comparisons of texts with one text.
-use Rattle.std.proofs.Common.{◌≡◌, ℕ, Bool, true, false, not, ◌&&◌, ◌||◌, List, [], ◌∷◌, Option, Some, is_some, nat_cmp, nat_lt, refl, sym, ap, ◌∙◌}
+use Rattle.std.proofs.Common.{◌≡◌, ℕ, Bool, true, false, not, ◌&&◌, ◌||◌, List, Some, nat_cmp, nat_lt, refl, sym, ap, ◌∙◌}
 use Rattle.std.proofs.lemmas.Cmp.{alike_right, nat_list_cmp_total, tied_itself}
 use Rattle.std.specs.Cmp.Lexicographic.{slice_cmp}
 use Rattle.std.specs.Ordering.{is_eq, is_ge, is_gt, is_le, is_lt, is_ne, ordering_reverse}
@@ -12,11 +12,9 @@ use Rattle.scan_base.specs.declared.value.Value.{Value}
 use Rattle.scan_base.specs.declared.value.Value.TheVariants.{Text}
 use Rattle.batch_skipping.specs.declared.possible.Possible.{Possible}
 use Rattle.batch_skipping.specs.declared.standing.Standing.{Standing}
-use Rattle.batch_skipping.specs.Can.{between_sides, can_be_null, equal_between, less_between, of_sides}
+use Rattle.batch_skipping.specs.Can.{between_sides, equal_between, less_between, of_sides}
 use Rattle.batch_skipping.specs.inside.Standing.{StandSo}
-use Rattle.batch_stats.specs.Beginnings.{AreBeginnings, AreFirst}
-use Rattle.batch_stats.specs.declared.beginnings.Beginnings.{Beginnings}
-use Rattle.batch_stats.specs.Stats.{StatsAt, stand, stats_of, has_nulls}
+use Rattle.batch_stats.specs.Stats.{StatsAt, stand, has_nulls}
 use Rattle.batch_skipping.proofs.Compared.{stands, text_order}
 
 -- ---- orders the other way round
@@ -88,12 +86,6 @@ module _ (least greatest text : List ℕ) where
       ∙ ap (λ b. not (is_eq (slice_cmp nat_cmp least greatest) && (true && b))) (text_stands Equal least text)
       ∙ one_text low high (is_eq (slice_cmp nat_cmp least greatest)) same_ends
 
-  may_be_less : (less_between ends alone).0 ≡ is_lt low
-  may_be_less = text_stands Less least text
-
-  may_reach : (less_between ends alone).1 ≡ is_ge high
-  may_reach = text_stands GreaterOrEqual greatest text
-
   may_be_greater : (less_between alone ends).0 ≡ is_gt high
   may_be_greater = text_stands Less text greatest ∙ ap is_lt (nat_list_cmp_total.antisymm text greatest) ∙ lt_back high
 
@@ -102,14 +94,14 @@ module _ (least greatest text : List ℕ) where
 
 -- ---- the possible truths
 
-abbrev possibly : Bool → Bool → Bool → Possible
+abbrev pub possibly : Bool → Bool → Bool → Possible
 possibly can_true can_false can_unknown = record { can_true = can_true; can_false = can_false; can_unknown = can_unknown }
 
 or_false : (b : Bool) → (b || false) ≡ b
 or_false true = refl
 or_false false = refl
 
-same_three : (a b c x y z : Bool) → a ≡ x → b ≡ y → c ≡ z → possibly a b c ≡ possibly x y z
+pub same_three : (a b c x y z : Bool) → a ≡ x → b ≡ y → c ≡ z → possibly a b c ≡ possibly x y z
 same_three a b c x y z e f g = ap (λ p. possibly p b c) e ∙ ap (λ p. possibly x p c) f ∙ ap (λ p. possibly x y p) g
 
 module _ (standing : Standing) (a b : StatsAt) (so : StandSo standing a b) where
@@ -119,8 +111,8 @@ module _ (standing : Standing) (a b : StatsAt) (so : StandSo standing a b) where
       (test (Text so.least, Text so.greatest) (Text so.text, Text so.text)).1 ≡ can_false →
       possibly can_true can_false (nat_lt 0 standing.nulls) ≡ of_sides test a b
   left test can_true can_false e f =
-      let between = (Text so.least, Text so.greatest) in
-      let one = (Text so.text, Text so.text) in
+      let between : Value × Value = (Text so.least, Text so.greatest) in
+      let one : Value × Value = (Text so.text, Text so.text) in
       sym (ap (λ (other : StatsAt). of_sides test a other) so.alone
       ∙ ap (λ some. between_sides test (has_nulls a || false) some (Some one)) so.ends
       ∙ same_three (test between one).0 (test between one).1 (has_nulls a || false) can_true can_false (nat_lt 0 standing.nulls) e f
@@ -132,8 +124,8 @@ module _ (standing : Standing) (a b : StatsAt) (so : StandSo standing a b) where
       (test (Text so.text, Text so.text) (Text so.least, Text so.greatest)).1 ≡ can_false →
       possibly can_true can_false (nat_lt 0 standing.nulls) ≡ of_sides test b a
   right test can_true can_false e f =
-      let between = (Text so.least, Text so.greatest) in
-      let one = (Text so.text, Text so.text) in
+      let between : Value × Value = (Text so.least, Text so.greatest) in
+      let one : Value × Value = (Text so.text, Text so.text) in
       sym (ap (λ (other : StatsAt). of_sides test other a) so.alone
       ∙ ap (λ some. between_sides test (has_nulls a) (Some one) some) so.ends
       ∙ same_three (test one between).0 (test one between).1 (has_nulls a) can_true can_false (nat_lt 0 standing.nulls) e f
@@ -147,33 +139,7 @@ module _ (standing : Standing) (a b : StatsAt) (so : StandSo standing a b) where
       (may_differ so.least so.greatest so.text
       ∙ ap (λ o. is_ne o || is_ne (slice_cmp nat_cmp so.greatest so.text)) (sym so.low) ∙ ap (λ o. is_ne standing.least || is_ne o) (sym so.high))
 
-  pub less_so : possibly (is_lt standing.least) (is_ge standing.greatest) (nat_lt 0 standing.nulls) ≡ of_sides less_between a b
-  less_so =
-      left less_between (is_lt standing.least) (is_ge standing.greatest)
-      (may_be_less so.least so.greatest so.text ∙ ap is_lt (sym so.low)) (may_reach so.least so.greatest so.text ∙ ap is_ge (sym so.high))
-
   pub greater_so : possibly (is_gt standing.greatest) (is_le standing.least) (nat_lt 0 standing.nulls) ≡ of_sides less_between b a
   greater_so =
       right less_between (is_gt standing.greatest) (is_le standing.least)
       (may_be_greater so.least so.greatest so.text ∙ ap is_gt (sym so.high)) (may_be_reached so.least so.greatest so.text ∙ ap is_le (sym so.low))
-
--- texts that begin so stand so
-pub stand_so : (standing : Standing) (known : Beginnings) (text : List ℕ) →
-    ((whole : List ℕ) → AreFirst known.least.first.now known.least.is_whole whole → standing.least ≡ slice_cmp nat_cmp whole text) →
-    ((whole : List ℕ) → AreFirst known.greatest.first.now known.greatest.is_whole whole → standing.greatest ≡ slice_cmp nat_cmp whole text) →
-    standing.nulls ≡ known.nulls → (stats : StatsAt) → AreBeginnings known stats → StandSo standing stats (stats_of (Text text ∷ []))
-stand_so standing known text low high nulls stats are = record {
-  least = are.least;
-  greatest = are.greatest;
-  text = text;
-  ends = are.ends;
-  alone = refl;
-  low = low are.least are.least_first;
-  high = high are.greatest are.greatest_first;
-  nulls = are.nulls ∙ sym nulls;
-}
-
--- IS NULL of texts
-pub texts_null : (known : Beginnings) (stats : StatsAt) → AreBeginnings known stats → possibly (nat_lt 0 known.nulls) true false ≡ can_be_null stats
-texts_null known stats are =
-    same_three (nat_lt 0 known.nulls) true false (has_nulls stats) (is_some stats.ends) false (sym (ap (nat_lt 0) are.nulls)) (sym (ap is_some are.ends)) refl
