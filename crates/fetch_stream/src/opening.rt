@@ -187,12 +187,41 @@ impl Opening {
             workers,
             rows,
         } = self;
-        let stream = stream_of(alloc, meaning)?;
+        let stream = meaning.stream(alloc)?;
         Ok(stream.with_work(workers, rows))
     }
 }
 
+impl Meaning {
+    // The stream of it.
+    fn stream(self, alloc: Global) -> Result<FetchStream, AllocError>
+        requires { IsMeaning self }
+        ensures { IfOk result (λ stream. stream ≡ stream_meant self) }
+    {
+        match self {
+            Meaning::Planned(scan) => scan.stream(alloc),
+            Meaning::Listed(stream) => Ok(stream),
+        }
+    }
+}
+
 impl PlannedScan {
+    // The stream of it. The scan is made here.
+    fn stream(self, alloc: Global) -> Result<FetchStream, AllocError>
+        requires { IsSchema self.plan.schema }
+        ensures { IfOk result (λ stream. stream ≡ before_schema self.plan.schema (rows_meant self)) }
+    {
+        let PlannedScan {
+            seed,
+            plan,
+            from,
+            to,
+        } = self;
+        let scan = Scan::new(alloc, seed, plan, from..to)?;
+        let nothing = Batch::new(Vec::new(alloc), 0);
+        Ok(FetchStream::of(nothing, Source::Scanned(scan)))
+    }
+
     // Whether it joins or makes groups, and a place has more than a few rows.
     fn takes_long(&self) -> bool {
         let tables = self.plan.tables();
@@ -218,33 +247,6 @@ fn schema_of(meaning: &Meaning) -> &Schema
         Meaning::Planned(scan) => scan.plan.schema(),
         Meaning::Listed(stream) => stream.schema(),
     }
-}
-
-// The stream of what is meant.
-fn stream_of(alloc: Global, meaning: Meaning) -> Result<FetchStream, AllocError>
-    requires { IsMeaning meaning }
-    ensures { IfOk result (λ stream. stream ≡ stream_meant meaning) }
-{
-    match meaning {
-        Meaning::Planned(scan) => scan_stream(alloc, scan),
-        Meaning::Listed(stream) => Ok(stream),
-    }
-}
-
-// The stream of a scan, which is made here.
-fn scan_stream(alloc: Global, scan: PlannedScan) -> Result<FetchStream, AllocError>
-    requires { IsSchema scan.plan.schema }
-    ensures { IfOk result (λ stream. stream ≡ before_schema scan.plan.schema (rows_meant scan)) }
-{
-    let PlannedScan {
-        seed,
-        plan,
-        from,
-        to,
-    } = scan;
-    let scan = Scan::new(alloc, seed, plan, from..to)?;
-    let nothing = Batch::new(Vec::new(alloc), 0);
-    Ok(FetchStream::of(nothing, Source::Scanned(scan)))
 }
 
 // How many rows the range of a handle has.

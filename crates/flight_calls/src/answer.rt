@@ -146,14 +146,31 @@ fn send_fetch<W: Output, X: Executor>(
         Ok(first) => first,
         Err(fault) => return outbox.send_status(writer, Some(fault)),
     };
-    send_payload(writer, outbox, &first)?;
-    if opening.takes_long() {
-        outbox.look(writer)?;
-    }
+    send_first(writer, outbox, &first, opening.takes_long())?;
     match opening.stream(alloc) {
         Ok(stream) => send_rest(setting, writer, outbox, stream.behind_schema()),
         Err(_) => outbox.send_status(writer, Some(Fault::OutOfMemory)),
     }
+}
+
+// Sends the payload of a schema. Where the next one may come late, it is written at once, and the other end is looked at.
+fn send_first<W: Output>(
+    writer: &mut W,
+    outbox: &mut Outbox,
+    first: &Payload,
+    late: bool,
+) -> Result<(), Fault>
+    requires failures { CanFail (W.failures writer.old) }
+    ensures bytes { Sends result (W.contents writer.old) (W.contents writer.new)
+        outbox.old outbox.new (spelling (Message first.now)) }
+    ensures counted { CountsFailure result (W.failures writer.old) (W.failures writer.new) }
+    ensures kind { FailsByTransport result }
+{
+    send_payload(writer, outbox, first)?;
+    if late {
+        return outbox.look(writer);
+    }
+    Ok(())
 }
 
 // Sends what a stream still has to give, as the executor has it made, and then the Status.
