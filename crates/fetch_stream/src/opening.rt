@@ -32,7 +32,7 @@ use table_versions::{CatalogVersion, Snapshot};
 use typed_plan::{Output, TypedPlan};
 
 // How many rows of a place are joined or grouped in no time that shows.
-const FEW_ROWS: usize = 4_096;
+const FEW_ROWS: usize = 64;
 
 // A query that is planned, the range of its first place that is scanned, and what the hashes of its keys begin with.
 pub(crate) struct PlannedScan {
@@ -165,7 +165,7 @@ impl Opening {
         said_schema(alloc, schema_of(&self.meaning))
     }
 
-    /// Whether its second payload may come late: it joins or makes groups, and a place has more than 4,096 rows. Contracts say
+    /// Whether its second payload may come late: it joins or makes groups, and a place has more than 64 rows. Contracts say
     /// nothing of it.
     pub fn takes_long(&self) -> bool {
         match &self.meaning {
