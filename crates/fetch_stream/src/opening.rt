@@ -308,7 +308,12 @@ fn open_query(
     let _columns = planned.plan.tables();
     let seed = catalog.seed();
     let plan = planned.plan;
-    let scan = PlannedScan { seed, plan, from, to };
+    let scan = PlannedScan {
+        seed,
+        plan,
+        from,
+        to,
+    };
     Ok(Opening::of(Meaning::Planned(scan)))
 }
 

@@ -9,4 +9,4 @@ pub returns : goal.returns
 returns c =
     let list = tables_listed (tables_of c.args.catalog.now) in
     let batch = c.in_ok-batch.batch in
-    c.of-2.ensures ∙ c.of-stream.ensures ∙ opens_all c.in_ok-schema.schema (rows_of batch) list c.in_ok-schema.ensures.schema c.in_ok-batch.ensures.rows
+    c.of.ensures ∙ c.of-stream.ensures ∙ opens_all c.in_ok-schema.schema (rows_of batch) list c.in_ok-schema.ensures.schema c.in_ok-batch.ensures.rows

@@ -1,4 +1,4 @@
-use Rattle.std.proofs.Common.{◌≡◌, List, [], map, Option, refl, ap, ◌∙◌}
+use Rattle.std.proofs.Common.{◌≡◌, ℕ, [], map, Option, refl, ap, ◌∙◌}
 use Rattle.arrays.specs.Batch.{rows_of}
 use Rattle.scan_exec.specs.Scan.{left}
 use Rattle.table_versions.specs.Table.{Row}
