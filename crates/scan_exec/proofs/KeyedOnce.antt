@@ -102,12 +102,12 @@ module _ (keys : List ℕ) (same : Row → Row → Bool) (is : (a b : Row) → s
   with_found : (row : Row) (found : List (Row × List Row)) →
       with_row (cells keys row) row (map (group_at keys) found) ≡ map (group_at keys) (found_with same row found)
   with_found row [] = refl
-  with_found row (one ∷ more) = by (same one.0 row) refl
+  with_found row (one ∷ more) = by (same one.0 row) refl (with_found row more)
     where
-      by : (b : Bool) → same one.0 row ≡ b →
+      by : (b : Bool) → same one.0 row ≡ b → with_row (cells keys row) row (map (group_at keys) more) ≡ map (group_at keys) (found_with same row more) →
           with_row (cells keys row) row (map (group_at keys) (one ∷ more)) ≡ map (group_at keys) (found_with same row (one ∷ more))
-      by true e = rw (is one.0 row, e) refl
-      by false e = rw (is one.0 row, e) (ap (λ (rest : List Group). group_at keys one ∷ rest) (with_found row more))
+      by true e rest = rw (is one.0 row, e) refl
+      by false e rest = rw (is one.0 row, e) (ap (λ (groups : List Group). group_at keys one ∷ groups) rest)
 
   all_found : (rows : List Row) (found : List (Row × List Row)) →
       fold (λ groups row. with_row (cells keys row) row groups) (map (group_at keys) found) rows ≡ map (group_at keys) (found_all same rows found)
@@ -164,6 +164,10 @@ groups_are (key ∷ keys) (column ∷ columns) places keyed rows =
     )
 
 -- ---- items of groups
+
+-- what items give of a group, which is of no one batch
+abbrev shown : List Aggregate → Group → Option ℕ × Row
+shown items group = (None, map (answered group) items)
 
 module _ (keys columns places : List ℕ) (keyed : KeyedBy keys columns places) (types : List DataType) where
   -- there are as many places as parts
@@ -228,13 +232,12 @@ module _ (keys columns places : List ℕ) (keyed : KeyedBy keys columns places) 
 
   -- of each group
   rows_answered : (found : List (Row × List Row)) (items : List Aggregate) → list_all (has_item (length keys) types) items ≡ true →
-      map (λ (group : Group). (None {A = ℕ}, map (answered group) (map (item_by places) items))) (map (group_at columns) found)
-      ≡ map (λ (group : Group). (None {A = ℕ}, map (answered group) items)) (map (group_at keys) found)
+      map (shown (map (item_by places) items)) (map (group_at columns) found) ≡ map (shown items) (map (group_at keys) found)
   rows_answered [] items has = refl
   rows_answered (one ∷ more) items has =
-      ap (λ (row : Row). (None {A = ℕ}, row) ∷ map (λ (group : Group). (None {A = ℕ}, map (answered group) (map (item_by places) items))) (map (group_at columns) more))
-      (items_answered one items has)
-      ∙ ap (λ (rest : List (Option ℕ × Row)). (None {A = ℕ}, map (answered (group_at keys one)) items) ∷ rest) (rows_answered more items has)
+      let first : shown (map (item_by places) items) (group_at columns one) ≡ shown items (group_at keys one) =
+      ap (λ (row : Row). (None, row)) (items_answered one items has) in
+      rw (first, rows_answered more items has) refl
 
 -- groups by the columns that differ answer what groups by the key do
 pub keyed_same : (rows : RowsAt) (keys columns places : List ℕ) (items : List Aggregate) → KeyedBy keys columns places →
@@ -243,10 +246,9 @@ pub keyed_same : (rows : RowsAt) (keys columns places : List ℕ) (items : List 
 keyed_same rows keys columns places items keyed has =
     let giving : List DataType → List (Option ℕ × Row) → GivingAt = λ types ahead.
     record { types = types; ahead = ahead; batches = rows.batches; opened = rows.opened } in
-    let answer : List Aggregate → List Group → List (Option ℕ × Row) = λ all groups. map (λ (group : Group). (None, map (answered group) all)) groups in
     let some = map (λ (row : ℕ × Row). row.1) rows.ahead in
     let found = groups_are keys columns places keyed some in
     let new = map (item_by places) items in
-    ap (λ (types : List DataType). giving (map answer_type types) (answer new (groups_by columns some))) (items_typed keys columns places keyed rows.types items has)
+    ap (λ (types : List DataType). giving (map answer_type types) (map (shown new) (groups_by columns some))) (items_typed keys columns places keyed rows.types items has)
     ∙ ap (giving (map answer_type (map (item_type keys rows.types) items)))
-    (ap (answer new) found.2 ∙ rows_answered keys columns places keyed rows.types found.0 items has ∙ sym (ap (answer items) found.1))
+    (ap (map (shown new)) found.2 ∙ rows_answered keys columns places keyed rows.types found.0 items has ∙ sym (ap (map (shown items)) found.1))

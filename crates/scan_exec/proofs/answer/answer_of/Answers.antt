@@ -17,10 +17,10 @@ invariant_of-groups c =
     let once = c.in_ok-once-in-Groups.once in
     let keyed : KeyedBy c.in-Groups.keys once.columns.items once.places.items = rw c.as_slice.ensures at c.in_ok-once-in-Groups.ensures in
     let made : c.in_ok-named-in-Groups.named.items ≡ map (item_by once.places.items) c.in-Groups.items =
-    rw c.as_slice-2.ensures at c.in_ok-named-in-Groups.ensures in
+    rw c.as_slice-in-Groups.ensures at c.in_ok-named-in-Groups.ensures in
     let some = c.in_ok-different-in-Groups.different.items.items in
     let stand : StandFor (map (item_by once.places.items) c.in-Groups.items) some c.in_ok-different-in-Groups.different.places.items =
-    rw (c.as_slice-3.ensures.value, made) at c.in_ok-different-in-Groups.ensures in
+    rw (c.as_slice-in-Groups-2.ensures.value, made) at c.in_ok-different-in-Groups.ensures in
     let has : HasOutput (Groups c.in-Groups.keys c.in-Groups.items) c.args.source.rows.types = rw c.in-Groups.is at c.requires.output in
     begins c.args.source c.in_ok-rows-in-Groups.field-0 c.in_ok-rows-in-Groups.ensures once.columns.items some _
     refl refl refl refl (
@@ -34,12 +34,12 @@ returns-in_ok-different-in-Groups-clause-answer c =
     let once = c.in_ok-once-in-Groups.once in
     let keyed : KeyedBy c.in-Groups.keys once.columns.items once.places.items = rw c.as_slice.ensures at c.in_ok-once-in-Groups.ensures in
     let items = map (item_by once.places.items) c.in-Groups.items in
-    let made : c.in_ok-named-in-Groups.named.items ≡ items = rw c.as_slice-2.ensures at c.in_ok-named-in-Groups.ensures in
+    let made : c.in_ok-named-in-Groups.named.items ≡ items = rw c.as_slice-in-Groups.ensures at c.in_ok-named-in-Groups.ensures in
     let has : HasOutput (Groups c.in-Groups.keys c.in-Groups.items) c.args.source.rows.types = rw c.in-Groups.is at c.requires.output in
     let source = c.in_ok-rows-in-Groups.field-0 in
     let different = c.in_ok-different-in-Groups.different in
     let stand : StandFor items different.items.items different.places.items =
-    rw (c.as_slice-3.ensures.value, made) at c.in_ok-different-in-Groups.ensures in
+    rw (c.as_slice-in-Groups-2.ensures.value, made) at c.in_ok-different-in-Groups.ensures in
     let wanted : Wanted = record {
       picker = source.picker;
       seed = c.args.seed;
