@@ -147,10 +147,11 @@ module _ (law : StreamsAnswer) where
       stream_ends_by r fault first stream a b c before mid after has (λ none. was_refused stream next fault none gives) last
 
   -- what was still to be given was sent behind it, or not
-  pub stream_rest : (r : Result (Unit {0}) Fault) (first stream : StreamAt) (a b c : Option (List ℕ)) (before mid after : List ℕ) → HasSent first stream a b before mid
-      → SendsRest stream r b c mid after → SendsRest first r a c before after
-  stream_rest r first stream a b c before mid after has rest database handle answer earlier means at none =
-      let behind = rest database handle answer (earlier ++ has.payloads) means (has.given answer earlier at) (has.going none) in
+  pub stream_rest : (r : Result (Unit {0}) Fault) (first stream last : StreamAt) → last ≡ stream → (a b c : Option (List ℕ)) (before mid after : List ℕ) → HasSent first stream a b before mid
+      → SendsRest last r b c mid after → SendsRest first r a c before after
+  stream_rest r first stream last is a b c before mid after has rest database handle answer earlier means at none =
+      let there = subst (λ (s : StreamAt). HasGiven answer (earlier ++ has.payloads) s) (sym is) (has.given answer earlier at) in
+      let behind = rest database handle answer (earlier ++ has.payloads) means there (ap (λ (s : StreamAt). s.refused) is ∙ has.going none) in
       record {
         reply = record { payloads = has.payloads ++ behind.reply.payloads; fault = behind.reply.fault };
         right = subst (λ (p : List Payload). FetchAt database handle p behind.reply.fault) (append_assoc earlier has.payloads behind.reply.payloads) behind.right;

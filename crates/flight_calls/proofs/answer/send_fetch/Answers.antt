@@ -1,7 +1,5 @@
-use Rattle.std.proofs.Common.{inl, refl, subst}
+use Rattle.std.proofs.Common.{inl, refl}
 use Rattle.std.proofs.lemmas.Result.{err_from_is_err_and}
-use Rattle.fetch_stream.specs.Streams.{StreamAt}
-use Rattle.flight_calls.specs.Answered.{SendsRest}
 use Rattle.flight_calls.proofs.Streaming.{first_given, made_behind, sends_fetch, stream_begins, stream_ends_by, stream_fails, stream_goes_on, stream_rest}
 use Rattle.flight_calls.proofs.answer.send_fetch.Goals as goal
 
@@ -32,11 +30,11 @@ returns-in-Ok-stream-clause-bytes g c database handle opens =
     let sent = stream_goes_on law opening opening _ _ _ _ _ _ _ _ (stream_begins law opening _ _) gives c.in_ok-send_first.ensures.bytes in
     let made = made_behind opening c.in-Ok-stream.stream c.behind_schema.result c.in-Ok.ensures.before c.in-Ok-stream.ensures c.behind_schema.ensures in
     sends_fetch database handle law opening _ _ _ _ _ opens
-    (stream_rest law _ opening _ _ _ _ _ _ _ sent (subst (λ (s : StreamAt). SendsRest s _ _ _ _ _) made c.send_rest.ensures.bytes))
+    (stream_rest law _ opening _ _ made _ _ _ _ _ _ sent c.send_rest.ensures.bytes)
 
 -- no memory for the rest
-pub returns-in-Err-stream-clause-bytes : goal.returns-in-Err-stream-clause-bytes
-returns-in-Err-stream-clause-bytes g c database handle opens =
+pub returns-clause-bytes : goal.returns-clause-bytes
+returns-clause-bytes g c database handle opens =
     let law = c.streams_answer.ensures in
     let opening = c.args.opening in
     let gives = first_given opening c.in-Ok.first c.in-Ok.ensures.before c.in-Ok.ensures.gives in
