@@ -1,9 +1,11 @@
 -- The columns that are answered so far.
-use Rattle.std.proofs.Common.{◌≡◌, ◌<◌, ℕ, ◌+◌, List, [], ◌∷◌, ◌++◌, length, take, get_or, sym, ap, ◌∙◌, arith}
-use Rattle.std.proofs.lemmas.List.{length-take, take_more}
+use Rattle.std.proofs.Common.{◌≡◌, ◌<◌, ℕ, ◌+◌, List, [], ◌∷◌, ◌++◌, length, map, take, get_or, sym, ap, ◌∙◌, arith, append-nil}
+use Rattle.std.proofs.lemmas.List.{length-take, map-append, take_more}
 use Rattle.arrow_schema.specs.declared.schema.Field.{Field}
 use Rattle.arrays.specs.Column.{ColumnAt}
-use Rattle.dictionary_answers.specs.Answer.{IsAnswered, AreAnswered, column_bytes, coded_bytes, dictionaries_of}
+use Rattle.arrays.specs.Texts.{TextsAt, texts_values}
+use Rattle.dictionary_answers.specs.declared.batches.ColumnDictionary.{ColumnDictionary}
+use Rattle.dictionary_answers.specs.Answer.{IsAnswered, AreAnswered, column_bytes, coded_bytes, dictionaries_of, dictionary_seen}
 use Rattle.dictionary_answers.proofs.Answered.{answered_more, bytes_and, bytes_front, dictionaries_and, own_dictionary}
 
 -- one more of a list
@@ -30,6 +32,14 @@ dictionaries_next fields columns n field column low under f c =
     rw (one_more fields n field low f, one_more columns n column under c)
     (dictionaries_and 0 n (take n fields) (take n columns) field column (omega (arith, length-take n fields, length-take n columns, low, under))
     (omega (arith, length-take n fields, low)))
+
+-- one dictionary more as it is seen, and none
+pub seen_more : (made : List ColumnDictionary) (number : ℕ) (texts : TextsAt) →
+    map dictionary_seen (made ++ record { number = number; texts = texts } ∷ []) ≡ map dictionary_seen made ++ (number, texts_values texts) ∷ []
+seen_more made number texts = map-append dictionary_seen made (record { number = number; texts = texts } ∷ [])
+
+pub seen_none : (made : List ColumnDictionary) → map dictionary_seen made ≡ map dictionary_seen made ++ []
+seen_none made = sym (append-nil (map dictionary_seen made))
 
 -- where a column's texts have no room, those of all have none
 pub no_room_left : (fields : List Field) (columns : List ColumnAt) (n room left : ℕ) (field : Field) (column : ColumnAt) → n < length fields → n < length columns →

@@ -1,6 +1,6 @@
 //! Batches whose columns of dictionaries are coded.
 
-ghost use Rattle.std.specs.Prelude.{◌≡◌, ◌≤◌, ◌<◌, ◌+◌, ◌^◌, All, IfErr, IfNone, IfOk, IfSome, map};
+ghost use Rattle.std.specs.Prelude.{◌≡◌, ◌≤◌, ◌<◌, ◌+◌, ◌^◌, ◌++◌, All, IfErr, IfNone, IfOk, IfSome, OnOk, map};
 ghost use Rattle.std.specs.Option.{option_to_list};
 ghost use Rattle.scan_base.specs.Limits.{most_values};
 ghost use Rattle.arrays.specs.Batch.{AreLong, rows_of};
@@ -94,13 +94,27 @@ fn code_columns(
         let data_type = fields[place].data_type;
         let (column, texts, rest) = answer_column(alloc, seed, data_type, &columns[place], left)?;
         made.push(column)?;
-        if let Some(texts) = texts {
-            let number = place as u64;
-            dictionaries.push(ColumnDictionary { number, texts })?;
-        }
+        add_dictionary(&mut dictionaries, place as u64, texts)?;
         left = rest;
     }
     Ok((made, dictionaries))
+}
+
+// Puts the dictionary of a column behind the others, if it has one.
+#[tactic(auto, using(crate::proofs::AnsweredSoFar::seen_more, crate::proofs::AnsweredSoFar::seen_none))]
+fn add_dictionary(
+    dictionaries: &mut Vec<ColumnDictionary>,
+    number: u64,
+    texts: Option<Texts>,
+) -> Result<(), AllocError>
+    ensures { OnOk result (map dictionary_seen dictionaries.new.items ≡ map dictionary_seen dictionaries.old.items
+        ++ map (λ values. (number, values)) (map texts_values (option_to_list texts))) }
+{
+    let Some(texts) = texts else {
+        return Ok(());
+    };
+    dictionaries.push(ColumnDictionary { number, texts })?;
+    Ok(())
 }
 
 // A column as its type is answered, the dictionary over which it lies, if it lies over one, and how many bytes more texts may
