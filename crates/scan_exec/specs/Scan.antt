@@ -100,7 +100,7 @@ GivesTurn patience before (Err fault) after = Gives before (Err fault) after
 -- a scan of a plan over the rows `from` up to, not with, `to` of its first place, before its first batch
 pub record IsBeginning (bound : BoundAt) (from to : ℕ) (scan : ScanAt) : Type 0 where
   pub schema : scan.schema ≡ bound.schema
-  pub types : LieBehind bound.schema.fields scan.types
+  pub types : LieBehind scan.schema.fields scan.types
   pub ahead : scan.ahead ≡ given_of bound from to
   pub batches : scan.batches ≡ further_opened bound ++ first_opened from to bound
   pub opened : scan.opened ≡ further_opened bound
