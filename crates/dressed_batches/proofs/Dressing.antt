@@ -128,9 +128,6 @@ answered_led number (field ∷ fields) (column ∷ columns) (m ∷ made) rows di
     let both = by field.data_type answered.0 numbered.0 has in
     (both.0, answered_led (number + 1) fields columns made rows dictionaries answered.1 numbered.1 cells.1 both.1)
   where
-    rest : List ℕ
-    rest = coded_from (number + 1) fields
-
     by : (t : DataType) → IsAnswered t column m → IsNumbered number t → HasTexts (if is_coded t then number ∷ coded_from (number + 1) fields else coded_from (number + 1) fields) rows dictionaries →
         IsLedBy t (values_led_to t dictionaries) m.layout m × HasTexts (coded_from (number + 1) fields) rows dictionaries
     by (Integer integer) is own has = (tt, has)
@@ -160,7 +157,8 @@ dictionaries_whole schema number [] [] seen (sent ∷ sents) rows count within c
 dictionaries_whole schema number [] (column ∷ columns) seen sents rows count within codable numbered cells long few is says = absurd codable
 dictionaries_whole schema number (field ∷ fields) [] seen sents rows count within codable numbered cells long few is says = absurd codable
 dictionaries_whole schema number (field ∷ fields) (column ∷ columns) seen sents rows count within codable numbered cells long few is says =
-    by field.data_type refl (subst (λ (all : List (ℕ × List Value)). AllZip (λ values sent. SaysValues sent values.0 values.1 false) all sents) is says)
+    by (λ (some : List Sent) said. dictionaries_whole schema (number + 1) fields columns (dictionaries_of (number + 1) fields columns) some rows count later codable.1 numbered.1 cells.1 longer few refl said)
+    field.data_type refl (subst (λ (all : List (ℕ × List Value)). AllZip (λ values sent. SaysValues sent values.0 values.1 false) all sents) is says)
   where
     later : (id : ℕ) → list_any (leads_to id) fields ≡ true → list_any (leads_to id) schema.fields ≡ true
     later id any = within id (any_of (leads_to id field) any)
@@ -172,25 +170,19 @@ dictionaries_whole schema number (field ∷ fields) (column ∷ columns) seen se
     longer : AreLong count columns
     longer k d low = long (suc k) d (omega (arith, low))
 
-    rest : (sents : List Sent) → AllZip (λ values sent. SaysValues sent values.0 values.1 false) (dictionaries_of (number + 1) fields columns) sents →
-        AllZip (λ number sent. SaysWhole schema number (firsts (cells_in number rows)) sent) (coded_from (number + 1) fields) sents
-    rest sents says =
-        dictionaries_whole schema (number + 1) fields columns (dictionaries_of (number + 1) fields columns) sents rows count later codable.1 numbered.1 cells.1 longer few refl says
-
-    head : (encoding_id : ℕ) → encoding_id ≡ number → (encoding_id == number) ≡ true
-    head id e = eq-eqb id number e
-
-    by : (t : DataType) → field.data_type ≡ t →
+    by : ((some : List Sent) → AllZip (λ values sent. SaysValues sent values.0 values.1 false) (dictionaries_of (number + 1) fields columns) some →
+        AllZip (λ number sent. SaysWhole schema number (firsts (cells_in number rows)) sent) (coded_from (number + 1) fields) some) →
+        (t : DataType) → field.data_type ≡ t →
         AllZip (λ values sent. SaysValues sent values.0 values.1 false)
         (map (λ values. (number, values)) (column_dictionary t column) ++ dictionaries_of (number + 1) fields columns) sents →
         AllZip (λ number sent. SaysWhole schema number (firsts (cells_in number rows)) sent)
         (if is_coded t then number ∷ coded_from (number + 1) fields else coded_from (number + 1) fields) sents
-    by (Integer integer) e says = rest sents says
-    by Utf8 e says = rest sents says
-    by Flags e says = rest sents says
-    by Decimal128 e says = rest sents says
-    by Date e says = rest sents says
-    by (Dictionary encoding) e says = of sents says
+    by rest (Integer integer) e says = rest sents says
+    by rest Utf8 e says = rest sents says
+    by rest Flags e says = rest sents says
+    by rest Decimal128 e says = rest sents says
+    by rest Date e says = rest sents says
+    by rest (Dictionary encoding) e says = of sents says
       where
         own : IsNumbered number (Dictionary encoding)
         own = subst (IsNumbered number) e numbered.0
@@ -223,4 +215,4 @@ adds_rows schema batch made sent long numbered are answered same says known is h
     let led = subst (λ (s : Schema). AreLedBy s.fields known.dictionaries made.columns) (sym is)
     (answered_led 0 schema.fields batch.columns made.columns (rows_of batch) known.dictionaries answered numbered (batch_cells batch long) has) in
     let read = says known typed led in
-    (read.0, read.1.0, read.1.1 ∙ same)
+    (read.0, read.1, read.2 ∙ same)

@@ -1,5 +1,5 @@
 -- Messages of batches behind their dictionaries say the batches' rows.
-use Rattle.std.proofs.Common.{◌≡◌, ◌≤◌, ◌<◌, ℕ, ◌+◌, Bool, true, false, List, [], ◌∷◌, ◌++◌, length, map, slice_get, unwrap_or, option_map, Option, Some, None, Ok, if◌then◌else◌, refl, sym, ap, subst, ◌∙◌, arith, append_assoc, append-nil}
+use Rattle.std.proofs.Common.{◌≡◌, ◌≤◌, ◌<◌, ℕ, ◌+◌, Bool, true, false, List, [], ◌∷◌, ◌++◌, length, map, slice_get, unwrap_or, option_map, Option, Some, None, Ok, if◌then◌else◌, refl, sym, ap, subst, ◌∙◌, arith, append_assoc}
 use Rattle.std.specs.List.{flat_map, list_any, range_with_len, AllZip, AllByRecursion}
 use Rattle.std.proofs.lemmas.Bool.{ne_eqb, le-leb}
 use Rattle.std.proofs.lemmas.List.{length-map}
@@ -32,25 +32,28 @@ set_all (number ∷ numbers) rows dictionaries =
 lower : (n : ℕ) (fields : List Field) (rows : Rows) (dictionaries : Dictionaries) (id : ℕ) → id < n →
     values_under (set_all (coded_from n fields) rows dictionaries) id ≡ values_under dictionaries id
 lower n [] rows dictionaries id low = refl
-lower n (field ∷ fields) rows dictionaries id low = by (is_coded field.data_type)
+lower n (field ∷ fields) rows dictionaries id low =
+    by (is_coded field.data_type) (λ (some : Dictionaries). lower (n + 1) fields rows some id (omega (arith, low)))
   where
-    by : (coded : Bool) → values_under (set_all (if coded then n ∷ coded_from (n + 1) fields else coded_from (n + 1) fields) rows dictionaries) id ≡ values_under dictionaries id
-    by true =
-        lower (n + 1) fields rows (with_values n (map Text (firsts (cells_in n rows))) dictionaries) id (omega arith)
-        ∙ under_other dictionaries n id (map Text (firsts (cells_in n rows))) (ne_eqb n id (λ (same : n ≡ id). omega arith))
-    by false = lower (n + 1) fields rows dictionaries id (omega arith)
+    by : (coded : Bool) → ((some : Dictionaries) → values_under (set_all (coded_from (n + 1) fields) rows some) id ≡ values_under some id) →
+        values_under (set_all (if coded then n ∷ coded_from (n + 1) fields else coded_from (n + 1) fields) rows dictionaries) id ≡ values_under dictionaries id
+    by true rest =
+        rest (with_values n (map Text (firsts (cells_in n rows))) dictionaries)
+        ∙ under_other dictionaries n id (map Text (firsts (cells_in n rows))) (ne_eqb n id (λ (same : n ≡ id). omega (arith, low, same)))
+    by false rest = rest dictionaries
 
 -- each has its texts
 sets : (n : ℕ) (fields : List Field) (rows : Rows) (dictionaries : Dictionaries) → HasTexts (coded_from n fields) rows (set_all (coded_from n fields) rows dictionaries)
 sets n [] rows dictionaries = tt
-sets n (field ∷ fields) rows dictionaries = by (is_coded field.data_type)
+sets n (field ∷ fields) rows dictionaries = by (is_coded field.data_type) (sets (n + 1) fields rows)
   where
-    by : (coded : Bool) → HasTexts (if coded then n ∷ coded_from (n + 1) fields else coded_from (n + 1) fields) rows
+    by : (coded : Bool) → ((some : Dictionaries) → HasTexts (coded_from (n + 1) fields) rows (set_all (coded_from (n + 1) fields) rows some)) →
+        HasTexts (if coded then n ∷ coded_from (n + 1) fields else coded_from (n + 1) fields) rows
         (set_all (if coded then n ∷ coded_from (n + 1) fields else coded_from (n + 1) fields) rows dictionaries)
-    by true =
+    by true rest =
         let own = with_values n (map Text (firsts (cells_in n rows))) dictionaries in
-        (lower (n + 1) fields rows own n (omega arith) ∙ under_set dictionaries n (map Text (firsts (cells_in n rows))), sets (n + 1) fields rows own)
-    by false = sets (n + 1) fields rows dictionaries
+        (lower (n + 1) fields rows own n (omega arith) ∙ under_set dictionaries n (map Text (firsts (cells_in n rows))), rest own)
+    by false rest = rest dictionaries
 
 -- what is said behind them is said from them on
 goes : (schema : Schema) (numbers : List ℕ) (rows : Rows) (messages : List Sent) → AllZip (λ number sent. SaysWhole schema number (firsts (cells_in number rows)) sent) numbers messages →
@@ -67,7 +70,7 @@ goes schema (number ∷ numbers) rows (sent ∷ messages) all known is more end 
 say : (schema : Schema) (dressings : List Dressing) → AllByRecursion (IsDressed schema) dressings → (known : Known) → known.schema ≡ schema →
     (end : Known) × (end.schema ≡ schema)
     × Follows (Some known) (flat_map (λ (d : Dressing). d.dictionaries ++ d.batch ∷ []) dressings) (Some end) (flat_map (λ (d : Dressing). d.rows) dressings)
-say schema [] all known is = (known, is, refl, refl)
+say schema [] all known is = (known, is, (refl, refl))
 say schema (d ∷ dressings) all known is =
     let numbers = coded_from 0 schema.fields in
     let own : Known = record known { dictionaries = set_all numbers d.rows known.dictionaries } in
@@ -76,9 +79,9 @@ say schema (d ∷ dressings) all known is =
     let others = flat_map (λ (x : Dressing). x.rows) dressings in
     let more = flat_map (λ (x : Dressing). x.dictionaries ++ x.batch ∷ []) dressings in
     let here : Follows (Some own) (d.batch ∷ more) (Some rest.0) (d.rows ++ others) =
-        (record { state = Some own; batch = Some batch.0 }, others, batch.1.0, ap (λ (r : Rows). r ++ others) (sym batch.1.1), rest.1.1) in
+    (record { state = Some own; batch = Some batch.0 }, others, batch.1, ap (λ (r : Rows). r ++ others) (sym batch.2), rest.2) in
     let whole = goes schema numbers d.rows d.dictionaries all.0.coded known is (d.batch ∷ more) (Some rest.0) (d.rows ++ others) here in
-    (rest.0, rest.1.0, subst (λ (messages : List Sent). Follows (Some known) messages (Some rest.0) (d.rows ++ others)) (sym (append_assoc d.dictionaries (d.batch ∷ []) more)) whole)
+    (rest.0, rest.1, subst (λ (messages : List Sent). Follows (Some known) messages (Some rest.0) (d.rows ++ others)) (sym (append_assoc d.dictionaries (d.batch ∷ []) more)) whole)
 
 pub dressed_say : DressedMessagesSay
 dressed_say schema messages rows dressed known is =
