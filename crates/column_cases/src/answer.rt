@@ -17,12 +17,7 @@ use std::alloc::Global;
 use std::io;
 
 /// Says the slots and the buffers of a line's columns, or why it is refused. Of many slots or bytes it says a sum.
-pub(crate) fn answer(
-    rt: &impl Print,
-    alloc: Global,
-    seed: HashSeed,
-    line: &str,
-) -> io::Result<()> {
+pub(crate) fn answer(rt: &impl Print, alloc: Global, seed: HashSeed, line: &str) -> io::Result<()> {
     match columns(alloc, seed, line) {
         Ok(columns) => tell_all(rt, alloc, columns.as_slice()),
         Err(fault) => println!(rt; "{fault}"),

@@ -138,10 +138,11 @@ answered_led number (field ∷ fields) (column ∷ columns) (m ∷ made) rows di
     by (Dictionary encoding) is own has =
         let over = is.1 in
         let led : values_under dictionaries encoding.id ≡ over.cells.dictionary =
-        ap (values_under dictionaries) own.0 ∙ has.0 ∙ ap (λ (values : List Value). map Text (firsts values)) cells.0 ∙ sym over.dictionary in
-        (subst (λ (l : Layout). IsLedBy (Dictionary encoding) (values_under dictionaries encoding.id) l m) (sym over.layout)
-        (own.1 ∙ sym over.index, λ place under some. ap (λ (values : List Value). entry_at values (integer_at over.cells.index over.cells.values (m.first + place))) led),
-        has.1)
+        ap (values_under dictionaries) own.0 ∙ has.0 ∙ ap (λ (values : List Value). map Text (firsts values)) cells.0 ∙ sym over.dictionary in (
+          subst (λ (l : Layout). IsLedBy (Dictionary encoding) (values_under dictionaries encoding.id) l m) (sym over.layout)
+              (own.1 ∙ sym over.index, λ place under some. ap (λ (values : List Value). entry_at values (integer_at over.cells.index over.cells.values (m.first + place))) led),
+          has.1,
+        )
 
 -- ---- messages
 

@@ -1,6 +1,6 @@
 //! GROUP BY: the columns of a key, and what each item of the list gives of a group.
 
-ghost use Rattle.std.specs.Prelude.{◌≡◌, ◌==◌, ◌<◌, ◌^◌, [], true, false, IfOk, MatchOption, length, map, unwrap_or};
+ghost use Rattle.std.specs.Prelude.{◌≡◌, ◌==◌, ◌<◌, ◌+◌, ◌^◌, [], true, false, IfOk, MatchOption, length, map, unwrap_or};
 ghost use Rattle.std.specs.List.{list_any};
 ghost use Rattle.arrow_schema.specs.declared.data_type.DataType.TheVariants.{Integer as IntegerColumn, Decimal128 as DecimalColumn};
 ghost use Rattle.arrow_schema.specs.declared.data_type.IntegerType.TheVariants.{Int64 as SignedLong};
@@ -99,7 +99,7 @@ impl<'k> Key<'k> {
         place: usize,
         item: &SelectItem,
     ) -> Result<(Aggregate, Field), Fault>
-        requires { place < 2 ^ 63 }
+        requires { place + 1 < 2 ^ 64 }
         ensures { Binds (aggregate_fault self.now.scope.now self.now.numbers.now item.now.expression)
             (λ bound. (bound.0 ≡ aggregate_of self.now.scope.now self.now.numbers.now item.now.expression)
             × (bound.1 ≡ item_field self.now.scope.now place item.now)) result }
@@ -107,17 +107,17 @@ impl<'k> Key<'k> {
         match &item.expression {
             Expression::Column(name) => self.bind_column(name, place as u64, &item.alias),
             Expression::CountRows => {
-                let name = aggregate_name(alloc, place + 1, &item.alias)?;
+                let name = aggregate_name(alloc, place, &item.alias)?;
                 Ok((Aggregate::CountRows, count_field(name)))
             }
             Expression::Count(name) => {
                 let number = self.scope.column_of(name)?;
-                let name = aggregate_name(alloc, place + 1, &item.alias)?;
+                let name = aggregate_name(alloc, place, &item.alias)?;
                 Ok((Aggregate::Count(number), count_field(name)))
             }
             Expression::Sum(name) => {
                 let number = bind_sum(self.scope, name)?;
-                let name = aggregate_name(alloc, place + 1, &item.alias)?;
+                let name = aggregate_name(alloc, place, &item.alias)?;
                 Ok((Aggregate::Sum(number), sum_field(name)))
             }
         }
@@ -183,13 +183,17 @@ fn can_sum(data_type: DataType) -> bool
     }
 }
 
-// The alias, else `col` and the position.
-fn aggregate_name(alloc: Global, position: usize, alias: &Option<Text>) -> Result<Text, AllocError>
-    ensures { IfOk result (λ name. name ≡ unwrap_or alias.now (position_name position)) }
+// The alias, else `col` and the place in the list, counted from 1.
+fn aggregate_name(alloc: Global, place: usize, alias: &Option<Text>) -> Result<Text, AllocError>
+    requires { place + 1 < 2 ^ 64 }
+    ensures { IfOk result (λ name. name ≡ unwrap_or alias.now (name_of place)) }
 {
     match alias {
         Some(alias) => alias.clone(),
-        None => Ok(Text::from(format!(in alloc; "col{position}")?)),
+        None => {
+            let position = place + 1;
+            Ok(Text::from(format!(in alloc; "col{position}")?))
+        }
     }
 }
 
