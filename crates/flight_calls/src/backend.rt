@@ -12,9 +12,9 @@ use table_versions::{Put, Snapshot};
 /// The versions of the catalog as one connection sees them.
 pub trait Backend {
     ghost use Rattle.std.specs.Prelude.{◌≡◌, ◌≤◌, ◌<◌, ◌⊎◌, IfOk, IfErr};
-    ghost use Rattle.scan_base.specs.declared.fault.Fault.TheVariants.{OutOfMemory, VersionUnknown};
+    ghost use Rattle.scan_base.specs.declared.fault.Fault.TheVariants.{OutOfMemory, VersionExpired, VersionUnknown};
     ghost use Rattle.table_versions.specs.Stored.{put_of, tables_of};
-    ghost use Rattle.table_versions.specs.Log.{Log, puts_in, database_of, version};
+    ghost use Rattle.table_versions.specs.Log.{Log, puts_in, floor_of, database_of, version};
     ghost use Rattle.flight_calls.specs.Seats.{Seat, Learns, LooksOnce, MayLook, Puts};
 
     // The log that it has seen, its looks, and the entries that it made.
@@ -48,16 +48,19 @@ pub trait Backend {
     ///
     /// # Errors
     ///
-    /// F18 (`Fault::VersionUnknown`) where the log that is then seen has fewer puts, and F21 (`Fault::OutOfMemory`) where
-    /// memory is refused.
+    /// F18 (`Fault::VersionUnknown`) where the log that is then seen has fewer puts, F19 (`Fault::VersionExpired`) where the number
+    /// is below its floor, and F21 (`Fault::OutOfMemory`) where memory is refused.
     fn at(&mut self, number: u64) -> Result<Snapshot, Fault>
         ensures learns { Learns moves (seat self.old) (seat self.new) }
         ensures ok { IfOk result (λ snapshot. LooksOnce (seat self.old) (seat self.new)
             × (number ≤ puts_in (seat self.new).log) × (snapshot.number ≡ number)
             × (tables_of snapshot.catalog ≡ version (seat self.new).log number)) }
+        ensures kept { IfOk result (λ _. floor_of (seat self.new).log ≤ number) }
         ensures err { IfErr result (λ fault. ((fault ≡ OutOfMemory) × MayLook (seat self.old) (seat self.new))
-            ⊎ ((fault ≡ VersionUnknown) × LooksOnce (seat self.old) (seat self.new)
-            × (puts_in (seat self.new).log < number))) };
+            ⊎ (((fault ≡ VersionUnknown) × LooksOnce (seat self.old) (seat self.new)
+            × (puts_in (seat self.new).log < number))
+            ⊎ ((fault ≡ VersionExpired) × LooksOnce (seat self.old) (seat self.new)
+            × (number ≤ puts_in (seat self.new).log) × (number < floor_of (seat self.new).log)))) };
 
     /// Learns what others have put. It is no look.
     fn learn(&mut self)

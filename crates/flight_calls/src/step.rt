@@ -1,13 +1,13 @@
 //! Steps of the core over a backend.
 
 ghost use Rattle.std.specs.Prelude.{◌≡◌, ◌≢◌, ◌≤◌, ◌<◌, ◌⊎◌, List, Ok, Err, IfOk, IfErr, IsOk};
-ghost use Rattle.scan_base.specs.declared.fault.Fault.TheVariants.{OutOfMemory, VersionUnknown};
+ghost use Rattle.scan_base.specs.declared.fault.Fault.TheVariants.{OutOfMemory, VersionExpired, VersionUnknown};
 ghost use Rattle.table_versions.specs.Stored.{put_of, tables_of};
 ghost use Rattle.flight_proto.specs.Wanted.{wanted_in};
 ghost use Rattle.flight_info.specs.Infos.{handle_asked, schema_wanted};
 ghost use Rattle.flight_info.specs.Payloads.{Payload, FitMessages};
 ghost use Rattle.flight_core.specs.Asked.{put, schema, fetch};
-ghost use Rattle.table_versions.specs.Log.{puts_in, version};
+ghost use Rattle.table_versions.specs.Log.{puts_in, floor_of, version};
 ghost use Rattle.flight_core.specs.Machine.{OpensIn};
 ghost use Rattle.flight_core.specs.Puts.{put_glance, put_said};
 ghost use Rattle.flight_core.specs.Refusals.{GivesBehind};
@@ -89,8 +89,11 @@ fn version_on<B: Backend>(backend: &mut B, number: u64) -> Result<Snapshot, Faul
     ensures looked { result ≢ Err OutOfMemory → (B.seat backend.old).looks < (B.seat backend.new).looks }
     ensures ok { IfOk result (λ snapshot. (number ≤ puts_in (B.seat backend.new).log)
         × (tables_of snapshot.catalog ≡ version (B.seat backend.new).log number)) }
+    ensures kept { IfOk result (λ _. floor_of (B.seat backend.new).log ≤ number) }
     ensures err { IfErr result (λ fault. (fault ≡ OutOfMemory)
-        ⊎ ((fault ≡ VersionUnknown) × (puts_in (B.seat backend.new).log < number))) }
+        ⊎ (((fault ≡ VersionUnknown) × (puts_in (B.seat backend.new).log < number))
+        ⊎ ((fault ≡ VersionExpired) × (number ≤ puts_in (B.seat backend.new).log)
+        × (number < floor_of (B.seat backend.new).log)))) }
 {
     match backend.at(number) {
         Err(Fault::VersionUnknown) => {

@@ -6,7 +6,7 @@ use Rattle.std.proofs.lemmas.Option.{slice_get-map}
 use Rattle.std.proofs.lemmas.List.{map-append, length-map}
 use Rattle.table_versions.specs.Database.{Database, Put, after, accepted, after_all, database_of}
 use Rattle.table_versions.specs.Log as logs
-use Rattle.table_versions.specs.Log.{Log, added, puts_of, puts_in}
+use Rattle.table_versions.specs.Log.{Log, added, puts_of, puts_in, floor_of}
 use Rattle.table_versions.proofs.Databases.{logs_grow}
 use Rattle.table_versions.proofs.Logs.{puts_of-added}
 use Rattle.flight_core.specs.Versions.{versions_from, versions_of}
@@ -62,6 +62,11 @@ puts_of_entries put (x ∷ xs) = ap (λ puts. put x ∷ puts) (puts_of_entries p
 -- there are as many puts as items
 pub puts_in_entries : {X : Type 0} (put : X → Put) (xs : List X) → puts_in (entries put xs) ≡ length xs
 puts_in_entries put xs = ap length (puts_of_entries put xs) ∙ length-map {B = Put} xs put
+
+-- and no version is expired
+pub floor_of_entries : {X : Type 0} (put : X → Put) (xs : List X) → floor_of (entries put xs) ≡ 0
+floor_of_entries put [] = refl
+floor_of_entries put (x ∷ xs) = floor_of_entries put xs
 
 -- item n - 1 is version n
 pub entry_at : {X : Type 0} (view : X → ℕ × Database) (put : X → Put) (xs : List X) (n : ℕ) (x : X) → map view xs ≡ versions_of (puts_of (entries put xs))

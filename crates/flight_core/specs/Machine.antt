@@ -9,7 +9,7 @@ use Rattle.flight_core.specs.Refusals.{RefusedFor}
 use Rattle.flight_info.specs.Payloads.{Payload}
 use Rattle.flight_core.specs.Asked.{Asked, put, info, tables, schema, fetch}
 use Rattle.flight_info.specs.Replies.{ReplyAt}
-use Rattle.table_versions.specs.Log.{Log, added, puts_in, database_of, version}
+use Rattle.table_versions.specs.Log.{Log, added, puts_in, floor_of, database_of, version}
 use Rattle.flight_core.specs.Puts.{put_glance, put_said}
 use Rattle.fetch_stream.specs.Fetches.{version_of, handle_shown, FetchAt}
 use Rattle.fetch_stream.specs.Streams.{StreamAt, Opens}
@@ -42,7 +42,7 @@ LacksLook ticket payloads fault = IsOk (handle_asked ticket) × (payloads ≡ []
 -- the answer to a fetch at a log
 abbrev pub FetchIn : Log → Payload → List Payload → Option Fault → Type 0
 FetchIn log ticket payloads fault =
-    FetchBy log (handle_shown (puts_in log) ticket) payloads fault ⊎ LacksLook ticket payloads fault
+    FetchBy log (handle_shown (floor_of log) (puts_in log) ticket) payloads fault ⊎ LacksLook ticket payloads fault
 
 -- the stream of what a fetch shows, or the fault that is seen there
 abbrev pub OpensBy : Log → Result HandleAt Fault → Result StreamAt Fault → Type 0
@@ -51,7 +51,7 @@ OpensBy log (Ok handle) result = Opens (version log (version_of handle)) handle 
 
 -- the stream of a fetch at a log, or why there is none
 abbrev pub OpensIn : Log → Payload → Result StreamAt Fault → Type 0
-OpensIn log ticket result = OpensBy log (handle_shown (puts_in log) ticket) result
+OpensIn log ticket result = OpensBy log (handle_shown (floor_of log) (puts_in log) ticket) result
     ⊎ (IsOk (handle_asked ticket) × (result ≡ Err OutOfMemory))
 
 -- at this log what is asked may be answered by this reply, and then the log is the last one
@@ -67,7 +67,7 @@ StepOn log (fetch ticket workers) reply new = (new ≡ log) × FetchIn log ticke
 
 -- A fetch is refused for the fault that it shows before any memory is taken, and never for want of memory in its place.
 abbrev pub FetchShown : Log → Payload → Option Fault → Type 0
-FetchShown log ticket fault = IfErr (handle_shown (puts_in log) ticket) (λ cause. fault ≡ Some cause)
+FetchShown log ticket fault = IfErr (handle_shown (floor_of log) (puts_in log) ticket) (λ cause. fault ≡ Some cause)
 
 -- the same of what is asked, where it is a fetch
 abbrev pub AsShown : Log → Asked → Option Fault → Type 0

@@ -4,7 +4,7 @@ ghost use Rattle.std.specs.Prelude.{◌≡◌, ◌≢◌, ◌≤◌, ◌<◌, �
 ghost use Rattle.scan_base.specs.Reading.{RefusesFirst, first_fault};
 ghost use Rattle.flight_core.specs.Versions.{numbered};
 ghost use Rattle.scan_base.specs.declared.fault.Fault.TheVariants.{OutOfMemory, VersionUnknown};
-ghost use Rattle.table_versions.specs.Log.{added, puts_in, database_of, version};
+ghost use Rattle.table_versions.specs.Log.{added, puts_in, floor_of, database_of, version};
 ghost use Rattle.table_versions.specs.Database.{after, put_faults};
 ghost use Rattle.table_versions.specs.Stored.{put_of, tables_of};
 ghost use Rattle.table_versions.specs.Valid.{IsPut};
@@ -76,9 +76,10 @@ impl Plain {
         })
     }
 
-    // The number of the newest version.
+    // The number of the newest version. None is expired.
     fn newest(&self) -> usize
-        ensures { result ≡ puts_in self.now }
+        ensures number { result ≡ puts_in self.now }
+        ensures floor { floor_of self.now ≡ 0 }
     {
         self.later.len()
     }
@@ -109,6 +110,7 @@ impl Plain {
     /// F18 (`Fault::VersionUnknown`) where fewer puts were accepted, and no other.
     pub fn at(&self, number: u64) -> Result<&Snapshot, Fault>
         ensures within { IfOk result (λ _. number ≤ puts_in self.now) }
+        ensures kept { IfOk result (λ _. floor_of self.now ≤ number) }
         ensures number { IfOk result (λ snapshot. snapshot.now.number ≡ number) }
         ensures tables { IfOk result (λ snapshot. tables_of snapshot.now.catalog ≡ version self.now number) }
         ensures err { IfErr result (λ fault. (fault ≡ VersionUnknown) × (puts_in self.now < number)) }
