@@ -1,5 +1,5 @@
 -- What messages ask.
-use Rattle.std.proofs.Common.{◌≡◌, ◌⊎◌, ◌<◌, ℕ, List, [], ◌∷◌, length, Some, Result, Err, refl, sym, subst, inl, inr, append-nil}
+use Rattle.std.proofs.Common.{◌≡◌, ◌⊎◌, ◌<◌, ℕ, List, [], ◌∷◌, length, Some, Result, Ok, Err, refl, sym, subst, inl, inr, append-nil}
 use Rattle.std.specs.Prelude.{IsOk}
 use Rattle.std.proofs.lemmas.Bool.{lt-leb}
 use Rattle.scan_base.specs.declared.fault.Fault.{Fault}
@@ -31,7 +31,7 @@ asks_none options call one at none = rw (at, none) refl
 
 -- or one message
 pub asks_one : (options : Options) (call : Call) (one : Single) (message : Payload) → method_at call.path ≡ Some (method.Single one) → call.messages ≡ message ∷ []
-    → asked_by options call ≡ asked_with options one message
+    → asked_by options call ≡ Ok (asked_with options one message)
 asks_one options call one message at alone = rw (at, alone) refl
 
 -- a message that is too long is not read

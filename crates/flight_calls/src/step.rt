@@ -6,7 +6,7 @@ ghost use Rattle.table_versions.specs.Stored.{put_of, tables_of};
 ghost use Rattle.flight_proto.specs.Wanted.{wanted_in};
 ghost use Rattle.flight_info.specs.Infos.{handle_asked, schema_wanted};
 ghost use Rattle.flight_info.specs.Payloads.{Payload, FitMessages};
-ghost use Rattle.flight_core.specs.Asked.{put, schema, fetch};
+ghost use Rattle.flight_core.specs.Asked.{put, schema, fetch, expire};
 ghost use Rattle.table_versions.specs.Log.{puts_in, floor_of, version};
 ghost use Rattle.flight_core.specs.Machine.{OpensIn};
 ghost use Rattle.flight_core.specs.Puts.{put_glance, put_said};
@@ -22,7 +22,7 @@ use crate::backend::Backend;
 use fetch_stream::{FetchStream, read_ticket, version_of};
 use flight_core::put_answer;
 use flight_info::{Reply, answer_schema, answer_wanted};
-use flight_proto::{Wanted, read_wanted};
+use flight_proto::{Wanted, read_expiry, read_wanted};
 use scan_base::Fault;
 use sql_text::MOST_BYTES;
 use std::alloc::Global;
@@ -45,6 +45,21 @@ pub fn put_on<B: Backend>(alloc: Global, backend: &mut B, read: Result<Put, Faul
     match backend.put(alloc, put) {
         Ok(()) => Reply::whole(answer),
         Err(fault) => Reply::refusal(alloc, fault),
+    }
+}
+
+// Answers an expiry. Its answer takes no memory.
+pub fn expire_on<B: Backend>(alloc: Global, backend: &mut B, action: &[u8]) -> Answer
+    ensures reply { ReactsBy B.moves (Ok (expire action.now)) (B.seat backend.old) result (B.seat backend.new) }
+    ensures short { FitsMessages result }
+{
+    let version = match read_expiry(action) {
+        Ok(version) => version,
+        Err(fault) => return Answer::Whole(Reply::refusal(alloc, fault)),
+    };
+    match backend.expire(alloc, version) {
+        Ok(floor) => Answer::Floor(floor),
+        Err(fault) => Answer::Whole(Reply::refusal(alloc, fault)),
     }
 }
 

@@ -1,15 +1,16 @@
 -- The core as a machine: what is asked is answered by one step on a log.
-use Rattle.std.specs.Prelude.{◌≡◌, ◌⊎◌, pos, List, [], ◌∷◌, ◌++◌, length, Option, Some, None, Result, Ok, Err, IsOk, IfErr}
+use Rattle.std.specs.Prelude.{◌≡◌, ◌⊎◌, ◌≤◌, ℕ, pos, nat_le, List, [], ◌∷◌, ◌++◌, length, Option, Some, None, Result, Ok, Err, IsOk, IfErr}
 use Rattle.scan_base.specs.declared.fault.Fault.{Fault}
-use Rattle.scan_base.specs.declared.fault.Fault.TheVariants.{OutOfMemory}
-use Rattle.scan_base.specs.Reading.{◌>>=◌}
+use Rattle.scan_base.specs.declared.fault.Fault.TheVariants.{OutOfMemory, VersionUnknown}
+use Rattle.scan_base.specs.Reading.{◌>>=◌, demand}
+use Rattle.flight_proto.specs.Expiry.{expiry_of, floor_bytes}
 use Rattle.flight_proto.specs.PutResult.{rows_put_bytes}
 use Rattle.table_versions.specs.Database.{Database, Put, after}
 use Rattle.flight_core.specs.Refusals.{RefusedFor}
 use Rattle.flight_info.specs.Payloads.{Payload}
-use Rattle.flight_core.specs.Asked.{Asked, put, info, tables, schema, fetch}
+use Rattle.flight_core.specs.Asked.{Asked, put, info, tables, schema, fetch, expire}
 use Rattle.flight_info.specs.Replies.{ReplyAt}
-use Rattle.table_versions.specs.Log.{Log, added, puts_in, floor_of, database_of, version}
+use Rattle.table_versions.specs.Log.{Log, added, expired, puts_in, floor_of, database_of, version}
 use Rattle.flight_core.specs.Puts.{put_glance, put_said}
 use Rattle.fetch_stream.specs.Fetches.{version_of, handle_shown, FetchAt}
 use Rattle.fetch_stream.specs.Streams.{StreamAt, Opens}
@@ -29,6 +30,22 @@ PutStep log payloads answers None new = (put : Put) × (put_said payloads ≡ Ok
     × (answers ≡ rows_put_bytes (pos (length put.rows)) ∷ [])
 PutStep log payloads answers (Some fault) new = (new ≡ log) × (answers ≡ [])
     × RefusedFor (put_glance payloads) (database_put log payloads) fault
+
+-- the number below which an action expires the versions of a log, where the log reaches it, or the first fault
+abbrev pub expiry_due : Log → Payload → Result ℕ Fault
+expiry_due log action = do
+  version ← expiry_of action
+  _ ← demand (nat_le version (puts_in log)) VersionUnknown
+  Ok version
+
+-- An expiry: its mark stands at the end of the log, and it is answered by the floor behind it. A refused one changes nothing
+-- and has no payload: an action that does not read is refused for its own fault, and else for the number, or because memory
+-- was refused.
+abbrev pub ExpireStep : Log → Payload → List Payload → Option Fault → Log → Type 0
+ExpireStep log action answers None new = (version : ℕ) × (expiry_of action ≡ Ok version) × (version ≤ puts_in log)
+    × (new ≡ log ++ expired version ∷ []) × (answers ≡ floor_bytes (floor_of new) ∷ [])
+ExpireStep log action answers (Some fault) new = (new ≡ log) × (answers ≡ [])
+    × RefusedFor (expiry_of action) (expiry_due log action) fault
 
 -- the answer to what a fetch shows: the fault that is seen there, or the answer at the handle's version
 abbrev pub FetchBy : Log → Result HandleAt Fault → List Payload → Option Fault → Type 0
@@ -64,6 +81,7 @@ StepOn log (tables payload parts) reply new = (new ≡ log)
 StepOn log (schema payload) reply new = (new ≡ log)
     × SchemaAt (database_of log) (schema_wanted payload) reply.payloads reply.fault
 StepOn log (fetch ticket workers) reply new = (new ≡ log) × FetchIn log ticket reply.payloads reply.fault
+StepOn log (expire action) reply new = ExpireStep log action reply.payloads reply.fault new
 
 -- A fetch is refused for the fault that it shows before any memory is taken, and never for want of memory in its place.
 abbrev pub FetchShown : Log → Payload → Option Fault → Type 0
