@@ -169,7 +169,7 @@ put_refused moves old new payloads made fault p said = record {
 -- of a log that nobody shares
 pub expires_alone : (result : Result ℕ Fault) (old new : Log) (looks version : ℕ) → IsExpired result old version new → Expires alone result (seat_of old looks) version (seat_of new looks)
 expires_alone (Ok floor) old new looks version is =
-    record { log = old; next = new; at = is; marks = is.1.0; moved = (refl, refl); kept = (expired version ∷ [], is.1.0); learnt = ([], sym (append-nil new)); looks = refl }
+    record { log = old; next = new; at = is; marks = is.1; moved = (refl, refl); kept = (expired version ∷ [], is.1); learnt = ([], sym (append-nil new)); looks = refl }
 expires_alone (Err fault) old new looks version is =
     record { log = old; next = new; at = is; marks = is.0; moved = (refl, refl); kept = ([], is.0 ∙ sym (append-nil old)); learnt = ([], sym (append-nil new)); looks = refl }
 
@@ -203,8 +203,8 @@ pub expiry_made : (moves : Moves) (old new : Seat) (action : Payload) (version f
 expiry_made moves old new action version floor e said = record {
   log = e.log;
   after = e.next;
-  answered = (version, said, e.at.0, e.at.1.0, rw e.at.1.1 refl);
-  goes = record { moved = e.moved; starts = inl (said_number action version said); learnt = e.learnt; kept = e.kept; made = (expired version ∷ [], e.at.1.0, e.marks) };
+  answered = (version, said, e.at.0, e.at.1, rw e.at.2 refl);
+  goes = record { moved = e.moved; starts = inl (said_number action version said); learnt = e.learnt; kept = e.kept; made = (expired version ∷ [], e.at.1, e.marks) };
   looked = λ other looks. absurd (expiry_looks_not action looks);
 }
 

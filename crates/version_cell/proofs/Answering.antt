@@ -39,5 +39,5 @@ pub expired_so : (floor : ℕ) (old : Seat) (version : ℕ) (seen new : Seat) �
 expired_so floor old version seen new behind same = record {
   log = behind.log;
   met = behind.met;
-  answered = (behind.answered.0, same ∙ behind.answered.1.0, behind.answered.1.1 ∙ ap floor_of (sym same));
+  answered = (behind.answered.0, same ∙ behind.answered.1, behind.answered.2 ∙ ap floor_of (sym same));
 }

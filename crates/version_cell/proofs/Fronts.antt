@@ -52,7 +52,7 @@ goes_on (Err fault) log put next answered = ([], answered.0 ∙ sym (append-nil 
 
 -- and so does the log behind an expiry
 pub goes_on_so : (result : Result ℕ Fault) (log : Log) (version : ℕ) (next : Log) → IsExpired result log version next → Begins log next
-goes_on_so (Ok floor) log version next answered = (expired version ∷ [], answered.1.0)
+goes_on_so (Ok floor) log version next answered = (expired version ∷ [], answered.1)
 goes_on_so (Err fault) log version next answered = ([], answered.0 ∙ sym (append-nil log))
 
 -- who had seen no more than a log, and learns of a later one, has seen that
