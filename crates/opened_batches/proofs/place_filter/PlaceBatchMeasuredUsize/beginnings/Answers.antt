@@ -33,7 +33,7 @@ returns-in-These c =
     let has = subst (λ (given : Columns). IsTrue (nat_lt of.index (length table.batches) && test given)) c.in-These.is c.requires in
     let is =
     subst (λ (some : List ℕ). IfSome found (λ known. (batch : BatchAt) × (slice_get table.batches of.index ≡ Some batch)
-        × AreBeginnings known (stats_in batch.columns (slice_index_or some (column - place.first) 0))))
+    × AreBeginnings known (stats_in batch.columns (slice_index_or some (column - place.first) 0))))
     c.as_slice.ensures c.beginnings-in-These.ensures.beginnings in
     subst (λ (given : Columns). IfSome found (λ known. AreBeginnings known (stats_in (given_columns given (batch_columns table of.index)) (column - place.first))))
     (sym c.in-These.is)
