@@ -4,11 +4,13 @@
     python3 bench/judging.py [--program PATH] [--batches N] [--rows N] [--runs N]
 
 It gives `flightscan pipe` one put of 200,000 batches of one row, of three columns of Int64, one of texts, one of a
-dictionary's texts and one of nulls alone, and behind it 100 fetches of one query. No batch can hold a row that the query keeps, so a fetch binds
-its query and judges each batch, and answers a schema. Told are the processor time of a fetch, that of a put alone taken
-off; its nanoseconds for each batch; and for each batch and column that the WHERE looks at in it: of an AND the parts up to
-the first that cannot be true. The row `no rows` has an empty range, so no batch is judged. Each time is the least of five
-runs. 200,000 batches take 100 MB of disk and 400 MB of memory. Build the program first, as for `pipe.py`.
+dictionary's texts, one of nulls alone and one of texts of 36 bytes, and behind it 100 fetches of one query. No batch can
+hold a row that the query keeps, so a fetch binds its query and judges each batch, and answers a schema. Told are the
+processor time of a fetch, that of a put alone taken off; its nanoseconds for each batch; and for each batch and column
+that the WHERE looks at in it: of an AND the parts up to the first that cannot be true. The row `no rows` has an empty
+range, so no batch is judged. The first bytes of the long texts tell how they stand to one literal. To the other, with
+which they share 26 bytes, they do not. Each time is the least of five runs. 200,000 batches take 100 MB of disk and
+400 MB of memory. Build the program first, as for `pipe.py`.
 """
 
 import argparse
@@ -30,6 +32,7 @@ from trees import UTF8, batch, dictionary, encoding, field, integer, schema, tex
 from wire import END, call, chunk, descriptor, packed, query_handle, record_message, record_open, ticket  # noqa: E402
 
 FETCHES = 100
+LONG = "a text of more bytes than a page has"
 QUERIES = [  # a WHERE, and how many columns are looked at in each batch
     ("a = 5", 1),
     ("a < 1", 1),
@@ -42,6 +45,10 @@ QUERIES = [  # a WHERE, and how many columns are looked at in each batch
     ("s BETWEEN 'a' AND 'b'", 1),
     ("s IN ('a', 'b')", 1),
     ("w = 'x'", 1),
+    ("l = 'a text of other bytes than these'", 1),
+    ("l = 'a text of more bytes than this one'", 1),
+    ("l BETWEEN 'a text of a' AND 'a text of b'", 1),
+    ("l IS NULL", 1),
     ("a = 1 AND b = 1 AND c = 5", 3),
     ("a = 5 OR b = 5 OR c = 5", 3),
     ("a = 1 AND s = 'text' AND w = 'x'", 3),
@@ -53,11 +60,11 @@ QUERIES = [  # a WHERE, and how many columns are looked at in each batch
 def put(batches, rows):
     """The records of a put, in which all batches are alike."""
     i64 = integer(64, True)
-    fields = [field(name, i64) for name in "abc"] + [field("s", UTF8), field("w", UTF8, dictionary=encoding(7)), field("n", i64, nullable=True)]
+    fields = [field(name, i64) for name in "abc"] + [field("s", UTF8), field("w", UTF8, dictionary=encoding(7)), field("n", i64, nullable=True), field("l", UTF8)]
     words = dictionary(7, batch(2, (0, b"", *texts([b"word", b"other"]))))
     ones = 0, b"", struct.pack(f"<{rows}q", *[1] * rows)
     nulls = rows, bytes(-(-rows // 8)), bytes(8 * rows)
-    made = batch(rows, ones, ones, ones, (0, b"", *texts([b"text"] * rows)), (0, b"", bytes(4 * rows)), nulls)
+    made = batch(rows, ones, ones, ones, (0, b"", *texts([b"text"] * rows)), (0, b"", bytes(4 * rows)), nulls, (0, b"", *texts([LONG.encode()] * rows)))
     front = chunk(1, descriptor(packed(b"CommandStatementIngest", b"\x0a\x02\x08\x01\x12\x01t")))
     yield record_open(b"DoPut")
     yield record_message(front + chunk(2, written("Message", schema(*fields), "spread")))

@@ -238,6 +238,30 @@ def gone_while_joining(run: Run) -> str:
     return f"at most {longest:.1f} s"
 
 
+WIDE = (Column("s", "Utf8", False), Column("v", "Int64", True))
+# a join whose second place is wide, and groups by the same text again and again
+LONG = ("SELECT x.v FROM w AS x JOIN w AS y ON x.s = y.s AND x.v = y.v",
+        f"SELECT COUNT(*) FROM w GROUP BY {', '.join(['s'] * 64)}")
+
+
+@case("clients of a join and of groups that take long: each has the schema before a quarter of the time of its answer")
+def schema_first(run: Run) -> str:
+    shares = []
+    with run.serving() as server, Connection(server.port) as connection:
+        ask(connection, put_of("w", WIDE, [("x" * 7_000, row) for row in range(2_000)]), PutCount(2_000))
+        for text in LONG:
+            connection.send(fetch_of(1, 0, 2_000, text))
+            began = time.perf_counter()
+            same("the first record is a Message", b"\x02\x00", connection.take(2))
+            first = time.perf_counter() - began
+            connection.take(connection.number(4))
+            wire.answer(connection)
+            shares.append(first / (time.perf_counter() - began))
+    more = f"behind {max(shares):.0%} of the time"
+    same(f"it came {more}", True, max(shares) < 0.25)
+    return more
+
+
 @case("a client that waits before it calls: with --idle 0 its connection stays")
 def patient_server(run: Run) -> None:
     with run.serving("--idle", "0") as server:

@@ -14,7 +14,8 @@ many values, or few. The values that are used have codes of which two are neighb
 codes are taken for one, the statistics are others. Each column is also asked at the ends of its values in each batch.
 
 A last table has 530 batches. A server keeps the statistics of each 256 batches in a page, so these have two pages, and 18 batches
-behind them. A page holds texts of at most 16 bytes. Texts of 16 bytes come in each page, and behind them some of 17.
+behind them. A page holds the first characters of a text, in at most 16 bytes. Texts of 15 to 18 bytes come in each page. Some share
+all that a page holds of them, and some have a character of two bytes at the bytes 16 and 17.
 
 Which batches are opened is written here from docs/SQL.md, section 7, over `may_hold` in truths.py. Each case is looked at in
 two more ways, which use no statistics or no rule about them: each row that is kept lies in a batch that is opened; and the
@@ -47,7 +48,8 @@ DEPTHS = [0, 0, 1, 1, 2]  # of a part
 TEXTS = [[f"abcdefgh{number:02}" for number in range(40)],
          [first + second for first in "aAbéz" for second in ["", " ", "a", "b", "é", "\U00010000"]],
          ["", "a", "a\0", "aa", "abcdefgh", "abcdefgh\0", "abcdefghi", "abcdefghij", "b"]]
-PAGED_TEXTS = [f"abcdefghijklmn{number:02}" + "z" * (number % 20 in (13, 17)) for number in range(40)]  # of 16 bytes, or 17
+PAGED_TEXTS = sorted([f"abcdefghijklmn{number:02}" + "z" * (number % 3) for number in range(24)]  # of 16 to 18 bytes
+                     + [f"abcdefghijklm{number:02}" + ["é", "éz", "z", ""][number % 4] for number in range(16)])  # some cut at byte 15
 CLASSES = {"f": bool, "g": bool, "s": str, "c": str, "c16": str, "c32": str, "c64": str}
 WIDTHS = {"c": 8, "c16": 16, "c32": 32, "c64": 64}  # of the indices of dictionaries
 
@@ -182,8 +184,8 @@ def many_batches():
     """A table of more batches than two pages of statistics have."""
     draws = Draws("pages")
     kinds = [Kind(name, domain_of(draws, name), manner, nulls)
-             for name, manner, nulls in [("i64", "rising", "some"), ("u16", "random", "batches"), ("f", "one", "some"), ("c", "falling", "any")]]
-    kinds.insert(3, Kind("s", PAGED_TEXTS, "rising", "none"))
+             for name, manner, nulls in [("i64", "rising", "some"), ("u16", "random", "batches"), ("f", "one", "some")]]
+    kinds += [Kind("s", PAGED_TEXTS, "rising", "none"), Kind("c", PAGED_TEXTS, "random", "any")]
     return Batched(draws, "pages", kinds, PAGED_BATCHES, (PAGED_SIZES[number % len(PAGED_SIZES)] for number in range(PAGED_BATCHES)))
 
 

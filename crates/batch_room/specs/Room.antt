@@ -8,11 +8,11 @@ use Rattle.array_select.specs.Room.{text_bytes_of}
 
 -- as many cells as a batch has, where it has more than one row
 abbrev pub most_batch_cells : ℕ
-most_batch_cells = 524288
+most_batch_cells = 131072
 
 -- as many bytes as the texts of all its columns have then
 abbrev pub most_batch_texts : ℕ
-most_batch_texts = 8388608
+most_batch_texts = 2097152
 
 -- how many bytes the texts of a column of a type may have, where those of one may have so many: values of other types are no texts
 abbrev pub allowed : ℕ → DataType → ℕ

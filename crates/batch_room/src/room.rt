@@ -9,11 +9,11 @@ use array_select::{MOST_BATCH_ROWS, has_texts};
 use arrow_schema::DataType;
 
 /// As many cells as a batch has, where it has more than one row. A cell has 16 bytes or fewer beside its text, so that all of
-/// them have 8 MB.
-pub const MOST_BATCH_CELLS: usize = 524_288;
+/// them have 2 MB.
+pub const MOST_BATCH_CELLS: usize = 131_072;
 
-/// As many bytes as the texts of all columns of a batch have, where it has more than one row: 8 MB.
-pub const MOST_BATCH_TEXTS: usize = 8_388_608;
+/// As many bytes as the texts of all columns of a batch have, where it has more than one row: 2 MB.
+pub const MOST_BATCH_TEXTS: usize = 2_097_152;
 
 /// The last byte of text that an offset can name.
 pub const MOST_OFFSET: usize = 2_147_483_647;

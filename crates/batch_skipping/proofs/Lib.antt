@@ -6,4 +6,6 @@ pub mod Ends
 pub mod SameCells
 pub mod InBatch
 pub mod Nulls
+pub mod Begun
+pub mod Standings
 mod Rows

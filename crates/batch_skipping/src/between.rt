@@ -1,12 +1,11 @@
 //! The possible truths of comparisons of values of one class. Most batches are judged by these: a value is its number or its text,
 //! and no other kind is thought of.
 
-ghost use Rattle.std.specs.Prelude.{◌≡◌, ◌&&◌, ◌∷◌, [], true, IfSome, is_some};
+ghost use Rattle.std.specs.Prelude.{◌≡◌, ◌∷◌, [], true, IfSome, is_some};
 ghost use Rattle.scan_base.specs.Comparison.{order_of};
-ghost use Rattle.scan_base.specs.declared.comparison.Comparison.TheVariants.{Equal};
 ghost use Rattle.scan_base.specs.declared.value.Value.{Value};
 ghost use Rattle.scan_base.specs.Value.{value_of};
-ghost use Rattle.batch_skipping.specs.Can.{can_be_within, can_compare, equal_between, less_between, of_sides};
+ghost use Rattle.batch_skipping.specs.Can.{can_be_within, can_compare, equal_between, is_one_value, less_between, of_sides};
 ghost use Rattle.batch_skipping.specs.inside.Between.{stats_between};
 ghost use Rattle.batch_stats.specs.Sides.{side_at};
 ghost use Rattle.batch_stats.specs.Stats.{stand, stats_of};
@@ -159,8 +158,8 @@ impl<'a, K: OneClass<'a>> Between<K> {
 
     // Whether all values of both are one value. Mostly the least ones differ, so they are looked at first.
     fn is_one_value(&self, other: &Between<K>) -> bool
-        ensures { result ≡ (stand Equal (K.as_value (self.now).least) (K.as_value (self.now).greatest)
-            && (stand Equal (K.as_value (other.now).least) (K.as_value (other.now).greatest) && stand Equal (K.as_value (self.now).least) (K.as_value (other.now).least))) }
+        ensures { result ≡ is_one_value (K.as_value (self.now).least, K.as_value (self.now).greatest)
+            (K.as_value (other.now).least, K.as_value (other.now).greatest) }
     {
         if !self.least.stands(Comparison::Equal, &other.least) {
             return false;

@@ -6,13 +6,16 @@ ghost use Rattle.scan_base.specs.Predicate.{names_only, operand_names};
 ghost use Rattle.scan_base.specs.View.{pred_of};
 ghost use Rattle.batch_skipping.specs.Can.{can, can_be_among, can_be_null, can_be_within, can_compare, side_of};
 ghost use Rattle.batch_skipping.specs.inside.Between.{stats_between};
+ghost use Rattle.batch_skipping.specs.inside.Standing.{StandSo};
+ghost use Rattle.batch_stats.specs.Beginnings.{AreBeginnings};
 ghost use Rattle.batch_stats.specs.Sides.{side_at};
 ghost use Rattle.batch_stats.specs.Stats.{StatsAt};
 
 use crate::between::{Between, OneClass};
 use crate::compare::{can_be_null, can_compare};
 use crate::possible::Possible;
-use batch_stats::Side;
+use crate::standing::{Standing, texts_can_be_null};
+use batch_stats::{Beginnings, Side};
 use scan_base::{Comparison, Operand, Predicate, Truth, ValueRef};
 
 /// The statistics of the columns of a batch, by what names a column.
@@ -27,6 +30,11 @@ pub trait Measured<C> {
     fn side(&self, column: &C) -> Side<'_>
         requires { IsTrue (has self.now column.now) }
         ensures { side_at result ≡ stats self.now column.now };
+
+    /// How the least and the greatest text of a column begin, where this is known without them. It is `None` of other values.
+    fn beginnings(&self, column: &C) -> Option<Beginnings<'_>>
+        requires { IsTrue (has self.now column.now) }
+        ensures { IfSome result (λ known. AreBeginnings known (stats self.now column.now)) };
 }
 
 // The statistics of an operand: of a literal those of its one value.
@@ -113,6 +121,85 @@ fn range_within<'a, K: OneClass<'a>, C, M: Measured<C>>(
     }
 }
 
+// How the texts of an operand begin, where it is a column of which this is known.
+fn beginnings_of<'a, C, M: Measured<C>>(
+    operand: &Operand<C>,
+    batch: &'a M,
+) -> Option<Beginnings<'a>>
+    requires { IsTrue (operand_names (M.has batch.now) operand.now) }
+    ensures { IfSome result (λ known. AreBeginnings known (side_of (M.stats batch.now) operand.now)) }
+{
+    match operand {
+        Operand::Column(column) => batch.beginnings(column),
+        Operand::Literal(_) | Operand::Date(_) => None,
+    }
+}
+
+// How texts that begin so stand to a literal, where this is a text and their first bytes tell.
+fn standing_to<C>(known: &Beginnings<'_>, literal: &Operand<C>) -> Option<Standing>
+    ensures { IfSome result (λ standing. (stats : C → StatsAt) (a : StatsAt) → AreBeginnings known.now a → StandSo standing a (side_of stats literal.now)) }
+{
+    match literal {
+        Operand::Literal(value) => Standing::of(known, value.borrowed()),
+        Operand::Column(_) | Operand::Date(_) => None,
+    }
+}
+
+// The possible truths of a comparison of a column of texts with a literal, where their first bytes tell.
+fn begun_compared<C, M: Measured<C>>(
+    comparison: Comparison,
+    left: &Operand<C>,
+    right: &Operand<C>,
+    batch: &M,
+) -> Option<Possible>
+    requires left { IsTrue (operand_names (M.has batch.now) left.now) }
+    requires right { IsTrue (operand_names (M.has batch.now) right.now) }
+    ensures { IfSome result (λ possible. possible ≡ can_compare comparison (side_of (M.stats batch.now) left.now) (side_of (M.stats batch.now) right.now)) }
+{
+    let known = beginnings_of(left, batch)?;
+    let standing = standing_to(&known, right)?;
+    Some(standing.can_compare(comparison))
+}
+
+// The same of BETWEEN.
+fn begun_within<C, M: Measured<C>>(
+    operand: &Operand<C>,
+    low: &Operand<C>,
+    high: &Operand<C>,
+    batch: &M,
+) -> Option<Possible>
+    requires operand { IsTrue (operand_names (M.has batch.now) operand.now) }
+    requires low { IsTrue (operand_names (M.has batch.now) low.now) }
+    requires high { IsTrue (operand_names (M.has batch.now) high.now) }
+    ensures { IfSome result (λ possible. possible ≡ can_be_within (side_of (M.stats batch.now) operand.now)
+        (side_of (M.stats batch.now) low.now) (side_of (M.stats batch.now) high.now)) }
+{
+    let known = beginnings_of(operand, batch)?;
+    let low = standing_to(&known, low)?;
+    let high = standing_to(&known, high)?;
+    let above = low.can_compare(Comparison::GreaterOrEqual);
+    Some(above.and(high.can_compare(Comparison::LessOrEqual)))
+}
+
+// The same of the OR of the equalities with each item.
+fn begun_among<C, M: Measured<C>>(
+    operand: &Operand<C>,
+    items: &[Operand<C>],
+    batch: &M,
+) -> Option<Possible>
+    requires operand { IsTrue (operand_names (M.has batch.now) operand.now) }
+    requires items { IsTrue (list_all (operand_names (M.has batch.now)) items.now) }
+    ensures { IfSome result (λ possible. possible ≡ can_be_among (M.stats batch.now) (side_of (M.stats batch.now) operand.now) items.now) }
+{
+    let known = beginnings_of(operand, batch)?;
+    let mut found = Possible::only(Truth::False);
+    for index in (0..items.len()).rev() {
+        let item = standing_to(&known, &items[index])?;
+        found = item.can_compare(Comparison::Equal).or(found);
+    }
+    Some(found)
+}
+
 // The functions of the leaves are not inlined: a chain has a frame of `can` for each side, which is to be small.
 
 // left comparison right, of any values
@@ -143,6 +230,9 @@ fn can_be_compared<C, M: Measured<C>>(
     ensures { result ≡ can_compare comparison (side_of (M.stats batch.now) left.now) (side_of (M.stats batch.now) right.now) }
 {
     if let Some(possible) = ranges_compared::<i128, C, M>(comparison, left, right, batch) {
+        return possible;
+    }
+    if let Some(possible) = begun_compared(comparison, left, right, batch) {
         return possible;
     }
     match ranges_compared::<&str, C, M>(comparison, left, right, batch) {
@@ -185,6 +275,9 @@ fn can_be_within<C, M: Measured<C>>(
         (side_of (M.stats batch.now) low.now) (side_of (M.stats batch.now) high.now) }
 {
     if let Some(possible) = range_within::<i128, C, M>(operand, low, high, batch) {
+        return possible;
+    }
+    if let Some(possible) = begun_within(operand, low, high, batch) {
         return possible;
     }
     match range_within::<&str, C, M>(operand, low, high, batch) {
@@ -256,6 +349,9 @@ fn can_be_among<C, M: Measured<C>>(
     requires items { IsTrue (list_all (operand_names (M.has batch.now)) items.now) }
     ensures { result ≡ can_be_among (M.stats batch.now) (side_of (M.stats batch.now) operand.now) items.now }
 {
+    if let Some(possible) = begun_among(operand, items, batch) {
+        return possible;
+    }
     if let Some(possible) = range_among::<i128, C, M>(operand, items, batch) {
         return possible;
     }
@@ -271,7 +367,10 @@ fn can_be_missing<C, M: Measured<C>>(operand: &Operand<C>, batch: &M) -> Possibl
     requires { IsTrue (operand_names (M.has batch.now) operand.now) }
     ensures { result ≡ can_be_null (side_of (M.stats batch.now) operand.now) }
 {
-    can_be_null(&side_of(operand, batch))
+    match beginnings_of(operand, batch) {
+        Some(known) => texts_can_be_null(&known),
+        None => can_be_null(&side_of(operand, batch)),
+    }
 }
 
 // The possible truths of a predicate.

@@ -1,11 +1,10 @@
 //! The possible truths of a comparison of two sides, and of IS NULL.
 
-ghost use Rattle.std.specs.Prelude.{◌≡◌, ◌&&◌, is_some};
+ghost use Rattle.std.specs.Prelude.{◌≡◌, is_some};
 ghost use Rattle.std.specs.Ordering.{int_cmp};
 ghost use Rattle.scan_base.specs.Comparison.{order_of, satisfies};
-ghost use Rattle.scan_base.specs.declared.comparison.Comparison.TheVariants.{Equal};
 ghost use Rattle.scan_base.specs.Value.{value_of};
-ghost use Rattle.batch_skipping.specs.Can.{can_be_null, can_compare, equal_between, less_between, of_sides};
+ghost use Rattle.batch_skipping.specs.Can.{can_be_null, can_compare, equal_between, is_one_value, less_between, of_sides};
 ghost use Rattle.batch_stats.specs.Sides.{ends_at, side_at};
 ghost use Rattle.batch_stats.specs.Stats.{stand};
 
@@ -60,8 +59,7 @@ fn stand(comparison: Comparison, left: &ValueRef<'_>, right: &ValueRef<'_>) -> b
 
 // Whether all values between these ends are one value. Mostly the least ones differ, so they are looked at first.
 fn are_one_value(left: &Ends<'_>, right: &Ends<'_>) -> bool
-    ensures { result ≡ (stand Equal (ends_at left.now).0 (ends_at left.now).1
-        && (stand Equal (ends_at right.now).0 (ends_at right.now).1 && stand Equal (ends_at left.now).0 (ends_at right.now).0)) }
+    ensures { result ≡ is_one_value (ends_at left.now) (ends_at right.now) }
 {
     if !stand(Comparison::Equal, &left.least, &right.least) {
         return false;

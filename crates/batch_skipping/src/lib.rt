@@ -6,6 +6,7 @@ pub mod can;
 mod compare;
 pub mod laws;
 pub mod possible;
+mod standing;
 
 pub use crate::can::{Measured, may_hold};
 pub use crate::possible::Possible;

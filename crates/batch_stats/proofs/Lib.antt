@@ -7,4 +7,5 @@ pub mod TextKeys
 pub mod TextPlaces
 pub mod Coded
 pub mod CodeSets
+pub mod Begun
 pub mod Rows

@@ -1,6 +1,7 @@
 //! The statistics of a column: the least and the greatest value that is not null, and how many are null.
 #![tactic(auto)]
 
+pub mod beginnings;
 mod code_sets;
 mod codes;
 mod entries;
@@ -15,6 +16,7 @@ mod texts;
 mod validity;
 mod wide;
 
+pub use crate::beginnings::{Beginning, Beginnings};
 pub use crate::measured::MeasuredBatch;
 pub use crate::owned::OwnedStats;
 pub use crate::side::{Ends, Side};

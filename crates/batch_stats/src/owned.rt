@@ -1,100 +1,144 @@
-//! Statistics that hold their values themselves.
+//! Statistics that are kept without their column.
 
-ghost use Rattle.std.specs.Prelude.{◌≡◌, IfSome, option_map};
-ghost use Rattle.scan_base.specs.declared.value.Value.TheVariants.{Text};
+ghost use Rattle.std.specs.Prelude.{◌≡◌, IfSome, Some};
 ghost use Rattle.scan_base.specs.Value.{value_of};
-ghost use Rattle.batch_stats.specs.Sides.{ends_at, side_at};
-ghost use Rattle.batch_stats.specs.inside.Owned.{ends_owned};
+ghost use Rattle.batch_stats.specs.Beginnings.{AreBeginnings, AreFirst};
+ghost use Rattle.batch_stats.specs.Owned.{AreKept};
+ghost use Rattle.batch_stats.specs.Sides.{side_at};
+ghost use Rattle.batch_stats.specs.Stats.{StatsAt};
 
-use crate::side::{Ends, Side};
+use crate::beginnings::{Beginning, Beginnings};
+use crate::side::Side;
 use arrayvec::ArrayString;
 use scan_base::ValueRef;
-use std::marker::Model;
 
-// How many bytes a text may have that statistics hold themselves.
+// How many bytes are kept of a text.
 const MOST_BYTES: usize = 16;
 
-/// The statistics of a column of numbers or of truth values, of one whose least and greatest text have at most 16 bytes each,
-/// or of one without a value. They are read without the column. A contract sees them as the statistics.
-#[derive(Drop)]
-pub struct OwnedStats {
-    pub(crate) ends: OwnedEnds,
-    pub(crate) nulls: usize,
-}
-
-// The least and the greatest value.
+/// The statistics of a column, to be kept without it. They take 64 bytes.
 #[derive(Clone, Copy, Drop)]
-pub(crate) enum OwnedEnds {
-    // Each value is null, or there is none.
-    Nulls,
+pub enum OwnedStats {
+    /// Each value is null, or there is none.
+    Nulls {
+        nulls: usize,
+    },
     Flags {
         least: bool,
         greatest: bool,
+        nulls: usize,
     },
     Numbers {
         least: i128,
         greatest: i128,
+        nulls: usize,
     },
+    /// Of both texts the first bytes, at most 16, and whether they are all of it.
     Texts {
         least: ShortText,
+        least_is_whole: bool,
         greatest: ShortText,
+        greatest_is_whole: bool,
+        nulls: usize,
     },
 }
 
-// A text of at most 16 bytes.
-pub(crate) type ShortText = ArrayString<MOST_BYTES>;
+/// A text of at most 16 bytes.
+pub type ShortText = ArrayString<MOST_BYTES>;
 
-// A copy of a text, where it is short.
-pub(crate) fn short_text(value: ValueRef<'_>) -> Option<ShortText>
-    ensures { IfSome result (λ text. Text text.bytes ≡ value_of value.entry) }
-{
-    match value {
-        ValueRef::Text(text) => ArrayString::from(text).ok(),
-        _ => None,
-    }
+// The first characters of a text, in at most 16 bytes, and whether they are all of it.
+#[derive(Clone, Copy, Drop)]
+struct ShortBeginning {
+    text: ShortText,
+    is_whole: bool,
 }
 
-impl Model for OwnedStats {
-    ghost use Rattle.batch_stats.specs.Stats.{StatsAt};
-
-    ghost Value = { StatsAt };
-
-    ghost use Rattle.batch_stats.specs.inside.Owned.{ends_owned};
-
-    ghost view = { λ s. record { ends = ends_owned s.ends; nulls = s.nulls } };
+// Those of a text. They always fit.
+#[tactic(auto, using(crate::proofs::Begun::first_cut))]
+fn short_beginning(text: &str) -> Option<ShortBeginning>
+    ensures { IfSome result (λ begun. AreFirst begun.text.bytes begun.is_whole text.now) }
+{
+    let end = text.floor_char_boundary(MOST_BYTES);
+    let is_whole = end == text.len();
+    let text = ArrayString::from(&text[..end]).ok()?;
+    Some(ShortBeginning { text, is_whole })
 }
 
 impl OwnedStats {
-    /// What the values are between, and how many are null.
-    pub fn side(&self) -> Side<'_>
-        ensures { side_at result ≡ self.now }
+    // Those of texts. It is `None` of other values.
+    pub(crate) fn of_texts(
+        least: ValueRef<'_>,
+        greatest: ValueRef<'_>,
+        nulls: usize,
+    ) -> Option<OwnedStats>
+        ensures { IfSome result (λ owned. AreKept owned
+            (record { ends = Some (value_of least.entry, value_of greatest.entry); nulls = nulls })) }
     {
-        Side {
-            ends: self.ends.values(),
-            nulls: self.nulls,
-        }
+        let (ValueRef::Text(least), ValueRef::Text(greatest)) = (least, greatest) else {
+            return None;
+        };
+        let least = short_beginning(least)?;
+        let greatest = short_beginning(greatest)?;
+        Some(OwnedStats::Texts {
+            least: least.text,
+            least_is_whole: least.is_whole,
+            greatest: greatest.text,
+            greatest_is_whole: greatest.is_whole,
+            nulls,
+        })
     }
-}
 
-impl OwnedEnds {
-    // The two values, where there are some.
-    fn values(&self) -> Option<Ends<'_>>
-        ensures { option_map ends_at result ≡ ends_owned self.now }
+    /// What the values are between, and how many are null. It is `None` of texts of which one is not whole.
+    pub fn side(&self) -> Option<Side<'_>>
+        ensures { IfSome result (λ side. (stats : StatsAt) → AreKept self.now stats → stats ≡ side_at side) }
     {
         match self {
-            OwnedEnds::Nulls => None,
-            OwnedEnds::Flags { least, greatest } => Some(Ends {
-                least: ValueRef::Bool(*least),
-                greatest: ValueRef::Bool(*greatest),
+            OwnedStats::Nulls { nulls } => Some(Side {
+                ends: None,
+                nulls: *nulls,
             }),
-            OwnedEnds::Numbers { least, greatest } => Some(Ends {
-                least: ValueRef::Int(*least),
-                greatest: ValueRef::Int(*greatest),
+            OwnedStats::Flags {
+                least,
+                greatest,
+                nulls,
+            } => {
+                let (least, greatest) = (ValueRef::Bool(*least), ValueRef::Bool(*greatest));
+                Some(Side::between(least, greatest, *nulls))
+            }
+            OwnedStats::Numbers {
+                least,
+                greatest,
+                nulls,
+            } => {
+                let (least, greatest) = (ValueRef::Int(*least), ValueRef::Int(*greatest));
+                Some(Side::between(least, greatest, *nulls))
+            }
+            OwnedStats::Texts { .. } => self.beginnings()?.whole(),
+        }
+    }
+
+    /// How the least and the greatest text begin. It is `None` of other values.
+    pub fn beginnings(&self) -> Option<Beginnings<'_>>
+        ensures { IfSome result (λ known. (stats : StatsAt) → AreKept self.now stats → AreBeginnings known stats) }
+    {
+        match self {
+            OwnedStats::Texts {
+                least,
+                least_is_whole,
+                greatest,
+                greatest_is_whole,
+                nulls,
+            } => Some(Beginnings {
+                least: Beginning {
+                    first: least.as_str(),
+                    is_whole: *least_is_whole,
+                },
+                greatest: Beginning {
+                    first: greatest.as_str(),
+                    is_whole: *greatest_is_whole,
+                },
+                nulls: *nulls,
             }),
-            OwnedEnds::Texts { least, greatest } => Some(Ends {
-                least: ValueRef::Text(least.as_str()),
-                greatest: ValueRef::Text(greatest.as_str()),
-            }),
+            _ => None,
         }
     }
 }

@@ -1,7 +1,8 @@
 //! What some values are between, and how many of them are null.
 
-ghost use Rattle.std.specs.Prelude.{◌≡◌, [], ◌∷◌};
+ghost use Rattle.std.specs.Prelude.{◌≡◌, [], ◌∷◌, Some};
 ghost use Rattle.scan_base.specs.declared.value.Value.TheVariants.{Int};
+ghost use Rattle.scan_base.specs.Value.{value_of};
 ghost use Rattle.batch_stats.specs.Sides.{side_at};
 ghost use Rattle.batch_stats.specs.Stats.{stats_of};
 
@@ -22,6 +23,16 @@ pub struct Side<'a> {
 }
 
 impl<'a> Side<'a> {
+    // Values between these two, and so many nulls.
+    pub(crate) fn between(least: ValueRef<'a>, greatest: ValueRef<'a>, nulls: usize) -> Side<'a>
+        ensures { side_at result ≡ record { ends = Some (value_of least.entry, value_of greatest.entry); nulls = nulls } }
+    {
+        Side {
+            ends: Some(Ends { least, greatest }),
+            nulls,
+        }
+    }
+
     /// One value.
     pub fn of(value: &'a Value) -> Side<'a>
         ensures { side_at result ≡ stats_of (value.now ∷ []) }

@@ -5,13 +5,14 @@ ghost use Rattle.scan_base.specs.declared.comparison.Comparison.TheVariants.{Les
 ghost use Rattle.scan_base.specs.Value.{value_of};
 ghost use Rattle.arrays.specs.Column.{slot_of, values_of, ColumnAt};
 ghost use Rattle.batch_stats.specs.Held.{ends_held, AreSlots, IsStatsOf};
+ghost use Rattle.batch_stats.specs.Owned.{AreKept};
 ghost use Rattle.batch_stats.specs.Sides.{ends_at, side_at};
 ghost use Rattle.batch_stats.specs.Stats.{stand, stats_of, with_value};
 
 use crate::entries::entries_stats;
 use crate::flags::flags_stats;
 use crate::numbers::{decimals_stats, integers_stats};
-use crate::owned::{OwnedEnds, OwnedStats, short_text};
+use crate::owned::OwnedStats;
 use crate::side::{Ends, Side};
 use crate::texts::texts_stats;
 use arrays::{Cells, Column, Layout};
@@ -139,24 +140,29 @@ impl Stats {
         }
     }
 
-    /// The same without the column, unless the values are texts, one of the two of more than 16 bytes.
+    /// The same without the column. Of texts it keeps the first characters, at most 16 bytes. It is `None` only of texts that are
+    /// none: no column has such ends.
     pub fn owned(&self, column: &Column) -> Option<OwnedStats>
         requires { IsStatsOf column.now self.now }
-        ensures { IfSome result (λ owned. owned ≡ stats_of (values_of column.now)) }
+        ensures { IfSome result (λ owned. AreKept owned (stats_of (values_of column.now))) }
     {
-        let ends = match *self {
-            Stats::Nulls => OwnedEnds::Nulls,
-            Stats::Flags { least, greatest } => OwnedEnds::Flags { least, greatest },
-            Stats::Numbers { least, greatest } => OwnedEnds::Numbers { least, greatest },
-            Stats::Texts { least, greatest } => OwnedEnds::Texts {
-                least: short_text(column.value_at(least))?,
-                greatest: short_text(column.value_at(greatest))?,
-            },
-        };
-        Some(OwnedStats {
-            ends,
-            nulls: column.null_count(),
-        })
+        let nulls = column.null_count();
+        match *self {
+            Stats::Nulls => Some(OwnedStats::Nulls { nulls }),
+            Stats::Flags { least, greatest } => Some(OwnedStats::Flags {
+                least,
+                greatest,
+                nulls,
+            }),
+            Stats::Numbers { least, greatest } => Some(OwnedStats::Numbers {
+                least,
+                greatest,
+                nulls,
+            }),
+            Stats::Texts { least, greatest } => {
+                OwnedStats::of_texts(column.value_at(least), column.value_at(greatest), nulls)
+            }
+        }
     }
 }
 

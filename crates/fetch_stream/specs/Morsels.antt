@@ -1,5 +1,5 @@
 -- A stream that falls into morsels: each is a stream of its own, and in order they are the whole.
-use Rattle.std.specs.Prelude.{◌≡◌, ℕ, true, false, List, [], get_or, None, Result, Ok, Err}
+use Rattle.std.specs.Prelude.{◌≡◌, ℕ, Bool, true, false, List, [], get_or, None, Result, Ok, Err}
 use Rattle.std.specs.List.{flat_map}
 use Rattle.scan_base.specs.declared.fault.Fault.{Fault}
 use Rattle.scan_base.specs.declared.fault.Fault.TheVariants.{OutOfMemory}
@@ -8,9 +8,10 @@ use Rattle.table_versions.specs.Table.{Row}
 use Rattle.flight_info.specs.Payloads.{Payload}
 use Rattle.fetch_stream.specs.Streams.{StreamAt, GivesPayload}
 
--- the schema of an answer, and its rows, morsel by morsel
+-- the schema of an answer, and whether a payload has said it; and its rows, morsel by morsel
 pub record MorselsAt : Type 0 where
   pub schema : Schema
+  pub begun : Bool
   pub rows : List (List Row)
 
 -- all rows are still to come, before the payload of the schema
@@ -23,7 +24,13 @@ behind_schema schema rows = record { schema = schema; begun = true; left = rows;
 
 -- what the morsels are in order
 abbrev pub whole_stream : MorselsAt → StreamAt
-whole_stream morsels = before_schema morsels.schema (flat_map (λ (rows : List Row). rows) morsels.rows)
+whole_stream morsels = record {
+  schema = morsels.schema;
+  begun = morsels.begun;
+  left = flat_map (λ (rows : List Row). rows) morsels.rows;
+  given = 0;
+  refused = None;
+}
 
 -- one of them, counted from 0: it says no schema
 abbrev pub morsel_stream : MorselsAt → ℕ → StreamAt

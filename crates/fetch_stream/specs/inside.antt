@@ -4,5 +4,6 @@ pub mod Collected
 pub mod Cut
 pub mod Given
 pub mod MadeAhead
+pub mod Opening
 pub mod Steps
 pub mod Written

@@ -7,6 +7,7 @@ ghost use Rattle.arrays.specs.Batch.{cut_batch};
 ghost use Rattle.flight_proto.specs.FlightData.{data_of};
 ghost use Rattle.ipc_batch.specs.Written.{body_length};
 ghost use Rattle.plain_batches.specs.Plain.{plain_length};
+ghost use Rattle.fetch_stream.specs.Morsels.{GivesSchema};
 ghost use Rattle.fetch_stream.specs.Streams.{most_body_bytes};
 ghost use Rattle.fetch_stream.specs.inside.Written.{SaysSchema, SaysWritten, SaysBatchBehind};
 
@@ -16,6 +17,7 @@ use arrow_schema::{Schema, write_schema};
 use flight_proto::{put_flight_data, put_flight_data_head};
 use ipc_batch::SizedBatch;
 use plain_batches::plain_batch;
+use scan_base::Fault;
 use std::alloc::{AllocError, Global};
 
 // The most bytes of a message's body. One row has fewer: at most 64 texts of at most 65,536 bytes.
@@ -32,6 +34,14 @@ pub(crate) fn schema_payload(alloc: Global, schema: &Schema) -> Result<Payload, 
     put_flight_data(&mut head, None, &header, &[])?;
     let len = head.len();
     Ok(Payload::new(head, Vec::new(alloc), len))
+}
+
+/// The payload of a schema, as the first of a stream.
+pub(crate) fn said_schema(alloc: Global, schema: &Schema) -> Result<Payload, Fault>
+    requires { IsSchema schema.now }
+    ensures { GivesSchema schema.now result }
+{
+    Ok(schema_payload(alloc, schema)?)
 }
 
 // The payload of a batch: its header, and the buffers of its body.

@@ -16,13 +16,14 @@ use scan_exec::Scan;
 use std::alloc::{AllocError, Global};
 use std::marker::Model;
 
-/// The morsels of a stream of which nothing was given. The payloads of each can be made apart from those of the others, also
+/// The morsels of a stream of which no row was given. The payloads of each can be made apart from those of the others, also
 /// by several threads. Behind the payload of the schema, those of all morsels in order are what the stream gives, as long as
-/// it has no more rows than an answer may: who reads them counts their rows. A contract sees the schema, and the rows of each
-/// morsel.
+/// it has no more rows than an answer may: who reads them counts their rows. A contract sees the schema, whether a payload has
+/// said it, and the rows of each morsel.
 pub struct Morsels<'s> {
     scan: &'s Scan,
     count: usize,
+    begun: bool,
 }
 
 impl<'s> Model for Morsels<'s> {
@@ -31,7 +32,7 @@ impl<'s> Model for Morsels<'s> {
 
     ghost Value = { MorselsAt };
 
-    ghost view = { λ m. morsels_at m.scan.now m.count };
+    ghost view = { λ m. morsels_at m.scan.now m.count m.begun };
 
     ghost invariant = { λ m. FallsInto m.scan.now m.count };
 }
@@ -39,17 +40,21 @@ impl<'s> Model for Morsels<'s> {
 // Written out, so that dropping it is one call (docs/DECISIONS.md).
 impl<'s> Drop for Morsels<'s> {
     fn drop(self) {
-        let Morsels { scan: _, count: _ } = self;
+        let Morsels {
+            scan: _,
+            count: _,
+            begun: _,
+        } = self;
     }
 }
 
 impl<'s> Morsels<'s> {
-    // The morsels of a scan that falls into so many.
-    pub(crate) fn new(scan: &'s Scan, count: usize) -> Morsels<'s>
+    // The morsels of a scan that falls into so many, of whose schema a payload has told or not.
+    pub(crate) fn new(scan: &'s Scan, count: usize, begun: bool) -> Morsels<'s>
         requires { FallsInto scan.now count }
-        ensures { result ≡ morsels_at scan.now count }
+        ensures { result ≡ morsels_at scan.now count begun }
     {
-        Morsels { scan, count }
+        Morsels { scan, count, begun }
     }
 
     /// How many there are.
@@ -57,6 +62,13 @@ impl<'s> Morsels<'s> {
         ensures { result ≡ length self.now.rows }
     {
         self.count
+    }
+
+    /// Whether a payload of the stream has said its schema.
+    pub fn begun(&self) -> bool
+        ensures { result ≡ self.now.begun }
+    {
+        self.begun
     }
 
     /// The payload of the schema.

@@ -21,19 +21,19 @@ ghost use Rattle.fetch_stream.specs.inside.Steps.{GivesFirst, Refills, GivesRows
 use crate::cutter::Cutter;
 use crate::message::schema_payload;
 use crate::morsels::Morsels;
+use crate::opening::Opening;
 use crate::payload::Payload;
 use crate::source::Source;
 use arrays::Batch;
 use arrays::laws::batch_slices_keep_rows;
 use arrow_schema::Schema;
-use endpoint_split::{Handle, Range};
-use flight_info::{Planned, plan_text, tables_batch, tables_schema};
+use endpoint_split::Handle;
 use row_sources::{Patience, Turn};
 use scan_base::Fault;
-use scan_exec::{GroupsBatches, InOneWalk, Making, Scan};
-use std::alloc::{AllocError, Global};
+use scan_exec::{GroupsBatches, InOneWalk, Making};
+use std::alloc::Global;
 use std::marker::Model;
-use table_versions::{CatalogVersion, Snapshot};
+use table_versions::Snapshot;
 
 /// The answer to a handle, one payload at a time: the message of its schema, and then record batches. A contract sees
 /// what is still to come, and what refused the stream. It shares the tables of its version, and holds no message.
@@ -108,7 +108,7 @@ impl FetchStream {
     }
 
     // The same stream, with so many workers, of a range of so many rows.
-    fn with_work(self, workers: usize, rows: usize) -> FetchStream
+    pub(crate) fn with_work(self, workers: usize, rows: usize) -> FetchStream
         ensures { result ≡ self }
     {
         let FetchStream {
@@ -129,8 +129,8 @@ impl FetchStream {
         }
     }
 
-    // The same stream, behind the payload of its schema.
-    pub(crate) fn behind_schema(self) -> FetchStream
+    /// The same stream, behind the payload of its schema, for who gives that payload otherwise (`Opening::first_payload`).
+    pub fn behind_schema(self) -> FetchStream
         ensures { result ≡ record self { begun = true } }
     {
         let FetchStream {
@@ -170,8 +170,8 @@ impl FetchStream {
         ensures opens { Opens (tables_of snapshot.now.catalog) (handle_seen handle.now) result }
         ensures first { may_mean (handle_seen handle.now) ≡ false → result ≡ Err BadTicket }
     {
-        let stream = open(alloc, snapshot.catalog(), handle)?;
-        Ok(stream.with_work(workers, rows_asked(handle)))
+        let opening = Opening::new(alloc, snapshot, handle, workers)?;
+        Ok(opening.stream(alloc)?)
     }
 
     /// How many workers may make its payloads at most.
@@ -183,6 +183,14 @@ impl FetchStream {
     /// tells how much work there is.
     pub fn rows(&self) -> usize {
         self.rows
+    }
+
+    // The schema of the answer.
+    pub(crate) fn schema(&self) -> &Schema
+        ensures is { result.now ≡ self.now.schema }
+        ensures valid { self.now.refused ≡ None → IsSchema result.now }
+    {
+        self.source.schema()
     }
 
     /// How many rows were given.
@@ -203,8 +211,8 @@ impl FetchStream {
         self.source.taken(self.cutter.batch.rows())
     }
 
-    /// The morsels of a stream of which nothing was given: `None` for the list of tables, for groups, and for a stream that
-    /// has begun or was refused.
+    /// The morsels of a stream of which no row was given: `None` for the list of tables, for groups, and for a stream whose rows
+    /// are begun or that was refused.
     pub fn morsels(&self) -> Option<Morsels<'_>>
         ensures { IfSome result (λ morsels. self.now ≡ whole_stream morsels) }
     {
@@ -215,11 +223,11 @@ impl FetchStream {
         let None = self.refused else {
             return None;
         };
-        if self.begun || self.cutter.at < self.cutter.batch.rows() {
+        if self.cutter.at < self.cutter.batch.rows() {
             return None;
         }
         let count = scan.morsels()?;
-        Some(Morsels::new(scan, count))
+        Some(Morsels::new(scan, count, self.begun))
     }
 
     /// The next payload, and `None` behind the last one: first the message of the schema, and then record batches of at
@@ -344,73 +352,4 @@ fn turn_of_rows<G: GroupsBatches>(
         Turn::Working => Ok(Turn::Working),
         Turn::End => Ok(Turn::End),
     }
-}
-
-// How many rows the range of a handle has.
-fn rows_asked(handle: &Handle<'_>) -> usize {
-    match handle {
-        Handle::Query { range, .. } => range.to.saturating_sub(range.from) as usize,
-        Handle::Tables { .. } => 0,
-    }
-}
-
-// How many rows a range of a query has at least: all of the first place, where the query makes groups.
-fn least_rows(planned: &Planned) -> usize
-    ensures whole { planned.now.grouped ≡ true → result ≡ planned.now.rows }
-    ensures part { planned.now.grouped ≡ false → result ≡ 0 }
-{
-    if planned.grouped { planned.rows } else { 0 }
-}
-
-// The stream of what a handle means.
-fn open(alloc: Global, catalog: &CatalogVersion, handle: &Handle<'_>) -> Result<FetchStream, Fault>
-    ensures opens { Opens (tables_of catalog.now) (handle_seen handle.now) result }
-    ensures first { may_mean (handle_seen handle.now) ≡ false → result ≡ Err BadTicket }
-{
-    match handle {
-        Handle::Query { range, .. } if range.from > range.to => Err(Fault::BadTicket),
-        Handle::Query { range, query, .. } => match open_query(alloc, catalog, query, *range) {
-            Err(fault) if fault != Fault::OutOfMemory => Err(Fault::BadTicket),
-            opened => opened,
-        },
-        Handle::Tables { .. } => Ok(open_tables(alloc, catalog)?),
-    }
-}
-
-// The stream of what a query means over a range of its first place, which does not end before it begins.
-fn open_query(
-    alloc: Global,
-    catalog: &CatalogVersion,
-    text: &str,
-    range: Range,
-) -> Result<FetchStream, Fault>
-    requires ordered { range.from ≤ range.to }
-    ensures opened { IfOk result (λ stream. (answer : Table)
-        × Meant (tables_of catalog.now) range.from range.to text.now answer × (stream ≡ opened answer)) }
-    ensures refused { IfErr result (λ fault. fault ≢ OutOfMemory →
-        (answer : Table) → Meant (tables_of catalog.now) range.from range.to text.now answer → ⊥) }
-    ensures first { RefusesFirst result (demand (nat_le (length text.now) most_query_bytes) LimitReached) }
-{
-    let planned = plan_text(alloc, catalog, text)?;
-    let (from, to) = (range.from as usize, range.to as usize);
-    if to > planned.rows {
-        return Err(Fault::BadTicket);
-    }
-    let count = to - from;
-    let least = least_rows(&planned);
-    if count < least {
-        return Err(Fault::BadTicket);
-    }
-    let scan = Scan::new(alloc, catalog.seed(), planned.plan, from..to)?;
-    let nothing = Batch::new(Vec::new(alloc), 0);
-    Ok(FetchStream::of(nothing, Source::Scanned(scan)))
-}
-
-// The stream of the list of tables.
-fn open_tables(alloc: Global, catalog: &CatalogVersion) -> Result<FetchStream, AllocError>
-    ensures { IfOk result (λ stream. stream ≡ opened (tables_listed (tables_of catalog.now))) }
-{
-    let schema = tables_schema(alloc)?;
-    let batch = tables_batch(alloc, catalog)?;
-    Ok(FetchStream::of(batch, Source::Listed(schema)))
 }

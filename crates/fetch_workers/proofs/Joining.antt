@@ -220,7 +220,7 @@ joined_working patience morsels answered done all present next goes few gives =
     rw (gives.0, gives.1) (refl, goes, few, gives.2)
 
 -- no morsel was answered, and no payload given
-pub begins : (morsels : MorselsAt) → joined_stream morsels 0 false None 0 None ≡ whole_stream morsels
+pub begins : (morsels : MorselsAt) → joined_stream morsels 0 morsels.begun None 0 None ≡ whole_stream morsels
 begins morsels = refl
 
 -- the first payload

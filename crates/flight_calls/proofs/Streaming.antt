@@ -1,5 +1,5 @@
 -- A stream as it is sent.
-use Rattle.std.proofs.Common.{◌≡◌, ◌≤◌, ℕ, zero, suc, arith, List, [], ◌∷◌, ◌++◌, length, Option, Some, None, Result, Ok, Err, inl, refl, sym, ap, subst}
+use Rattle.std.proofs.Common.{◌≡◌, ◌≤◌, ℕ, zero, suc, arith, true, List, [], ◌∷◌, ◌++◌, length, Option, Some, None, Result, Ok, Err, inl, refl, sym, ap, subst, ◌∙◌, append_assoc, append-nil}
 use Rattle.std.proofs.lemmas.List.Elements.{All-append, All-cons, All-nil}
 use Rattle.scan_base.specs.declared.fault.Fault.{Fault}
 use Rattle.scan_base.specs.declared.fault.Fault.TheVariants.{OutOfMemory}
@@ -14,18 +14,19 @@ use Rattle.table_versions.specs.Database.{Database}
 use Rattle.flight_info.specs.Payloads.{Payload, FitMessages}
 use Rattle.flight_info.specs.Replies.{ReplyAt}
 use Rattle.fetch_stream.specs.Fetches.{FetchAt}
-use Rattle.fetch_stream.specs.Streams.{StreamAt, Opens, Gives, HasGiven, StreamsAnswer, opened}
+use Rattle.fetch_stream.specs.Morsels.{GivesSchema, before_schema, behind_schema}
+use Rattle.fetch_stream.specs.Streams.{StreamAt, Opens, Gives, GivesPayload, HasGiven, MayRefuse, StreamsAnswer}
 use Rattle.fetch_stream.proofs.Answering.{gave, ended, was_refused}
 use Rattle.row_sources.specs.declared.turn.Patience.{Patience}
 use Rattle.row_sources.specs.declared.turn.Patience.TheVariants.{Endless}
 use Rattle.std.specs.Prelude.{◌≢◌}
-use Rattle.flight_calls.specs.Answered.{SendsReply}
-use Rattle.flight_calls.proofs.Writing.{messages_bytes, none_sent, nothing_sent, nothing_not_sent, payload_sent, payload_not_sent, status_sent}
+use Rattle.flight_calls.specs.Answered.{SendsReply, SendsRest}
+use Rattle.flight_calls.proofs.Writing.{messages_bytes, none_sent, nothing_sent, nothing_not_sent, payload_sent, payload_not_sent, rest_sent, status_sent}
 
 -- what a stream has given was sent
 pub record HasSent (first stream : StreamAt) (a b : Option (List ℕ)) (before after : List ℕ) : Type 0 where
   pub payloads : List Payload
-  pub given : (answer : Table) → first ≡ opened answer → HasGiven answer payloads stream
+  pub given : (answer : Table) (earlier : List Payload) → HasGiven answer earlier first → HasGiven answer (earlier ++ payloads) stream
   pub going : first.refused ≡ None → stream.refused ≡ None
   pub fits : FitMessages payloads
   pub sent : Sent a b before after (messages_bytes payloads)
@@ -38,6 +39,10 @@ some_left (suc looks) patience ends not = omega arith
 -- of a fetch at this handle
 abbrev pub SendsFetch : Database → HandleAt → Result (Unit {0}) Fault → Option (List ℕ) → Option (List ℕ) → List ℕ → List ℕ → Type 0
 SendsFetch database handle = SendsReply (λ (reply : ReplyAt). FetchAt database handle reply.payloads reply.fault)
+
+both_fit : (payloads more : List Payload) → FitMessages payloads → FitMessages more → FitMessages (payloads ++ more)
+unfolding FitMessages
+both_fit payloads more all rest = All-append (λ (p : Payload). length p ≤ most_message_bytes) payloads more all rest
 
 one_fits : (payloads : List Payload) (payload : Payload) → FitMessages payloads → length payload ≤ most_message_bytes → FitMessages (payloads ++ payload ∷ [])
 unfolding FitMessages
@@ -54,20 +59,26 @@ module _ (law : StreamsAnswer) where
   pub stream_begins : (first : StreamAt) (a : Option (List ℕ)) (before : List ℕ) → HasSent first first a a before before
   stream_begins first a before = record {
     payloads = [];
-    given = λ answer is. subst (HasGiven answer []) (sym is) (law.begin answer);
+    given = λ answer earlier has. subst (λ (p : List Payload). HasGiven answer p first) (sym (append-nil earlier)) has;
     going = λ none. none;
     fits = no_payloads;
     sent = none_sent a before;
   }
 
-  -- one payload more was sent
+  -- one payload more was given
+  more_given : (answer : Table) (earlier payloads : List Payload) (stream next : StreamAt) (payload : Payload) → HasGiven answer (earlier ++ payloads) stream → GivesPayload stream payload next
+      → HasGiven answer (earlier ++ (payloads ++ payload ∷ [])) next
+  more_given answer earlier payloads stream next payload has one =
+      subst (λ (p : List Payload). HasGiven answer p next) (append_assoc earlier payloads (payload ∷ [])) (law.go_on answer (earlier ++ payloads) stream next payload has one)
+
+  -- and sent
   pub stream_goes_on : (first stream next : StreamAt) (payload : Payload) (a b c : Option (List ℕ)) (before mid after : List ℕ) → HasSent first stream a b before mid → Gives stream (Ok (Some payload)) next
       → Sent b c mid after (spelling (Message payload)) → HasSent first next a c before after
   stream_goes_on first stream next payload a b c before mid after has gives more =
       let one = gave stream next payload gives in
       record {
         payloads = has.payloads ++ payload ∷ [];
-        given = λ answer is. law.go_on answer has.payloads stream next payload (has.given answer is) one;
+        given = λ answer earlier at. more_given answer earlier has.payloads stream next payload (has.given answer earlier at) one;
         going = λ none. one.refused;
         fits = one_fits has.payloads payload has.fits one.fits;
         sent = payload_sent a b c before mid after has.payloads payload has.sent more;
@@ -75,14 +86,13 @@ module _ (law : StreamsAnswer) where
 
   -- or not: what went before it and it are a beginning of an answer that memory cut short
   pub stream_fails : (fault : Fault) (first stream next : StreamAt) (payload : Payload) (a b c : Option (List ℕ)) (before mid after : List ℕ) → HasSent first stream a b before mid
-      → Gives stream (Ok (Some payload)) next → NotSent b c mid after (spelling (Message payload)) → (database : Database) (handle : HandleAt) → Opens database handle (Ok first)
-      → SendsFetch database handle (Err fault) a c before after
-  stream_fails fault first stream next payload a b c before mid after has gives failed database handle opens =
+      → Gives stream (Ok (Some payload)) next → NotSent b c mid after (spelling (Message payload)) → SendsRest first (Err fault) a c before after
+  stream_fails fault first stream next payload a b c before mid after has gives failed database handle answer earlier means at none =
       let one = gave stream next payload gives in
-      let all = law.go_on opens.0 has.payloads stream next payload (has.given opens.0 opens.2) one in
+      let all = more_given answer earlier has.payloads stream next payload (has.given answer earlier at) one in
       record {
         reply = record { payloads = has.payloads ++ payload ∷ []; fault = Some OutOfMemory };
-        right = law.refused database handle opens.0 (has.payloads ++ payload ∷ []) next OutOfMemory opens.1 all (inl refl);
+        right = law.refused database handle answer (earlier ++ (has.payloads ++ payload ∷ [])) next OutOfMemory means all (inl refl);
         fits = one_fits has.payloads payload has.fits one.fits;
         sent = payload_not_sent a b c before mid after has.payloads payload (status_of (Some OutOfMemory)) has.sent failed;
       }
@@ -101,37 +111,70 @@ module _ (law : StreamsAnswer) where
 
   -- or the other end was gone: what went before is a beginning of an answer that memory cut short
   pub stream_stops : (fault : Fault) (first stream : StreamAt) (a b c : Option (List ℕ)) (before mid after : List ℕ) → HasSent first stream a b before mid
-      → NotSent b c mid after [] → (database : Database) (handle : HandleAt) → Opens database handle (Ok first)
-      → SendsFetch database handle (Err fault) a c before after
-  stream_stops fault first stream a b c before mid after has failed database handle opens = record {
+      → NotSent b c mid after [] → SendsRest first (Err fault) a c before after
+  stream_stops fault first stream a b c before mid after has failed database handle answer earlier means at none = record {
     reply = record { payloads = has.payloads; fault = Some OutOfMemory };
-    right = law.refused database handle opens.0 has.payloads stream OutOfMemory opens.1 (has.given opens.0 opens.2) (inl refl);
+    right = law.refused database handle answer (earlier ++ has.payloads) stream OutOfMemory means (has.given answer earlier at) (inl refl);
     fits = has.fits;
     sent = nothing_not_sent a b c before mid after has.payloads (status_of (Some OutOfMemory)) has.sent failed;
   }
 
   -- the stream ended, and then its status was sent, or not
   pub stream_ends : (r : Result (Unit {0}) Fault) (first stream next : StreamAt) (a b c : Option (List ℕ)) (before mid after : List ℕ) → HasSent first stream a b before mid → Gives stream (Ok None) next
-      → Sends r b c mid after (spelling (status_of None)) → (database : Database) (handle : HandleAt) → Opens database handle (Ok first) → SendsFetch database handle r a c before after
-  stream_ends r first stream next a b c before mid after has gives last database handle opens =
+      → Sends r b c mid after (spelling (status_of None)) → SendsRest first r a c before after
+  stream_ends r first stream next a b c before mid after has gives last database handle answer earlier means at none =
       let end = ended stream next gives in
       record {
         reply = record { payloads = has.payloads; fault = None };
-        right = law.end database handle opens.0 has.payloads stream opens.1 (has.given opens.0 opens.2) end.0 end.1;
+        right = law.end database handle answer (earlier ++ has.payloads) stream means (has.given answer earlier at) end.0 end.1;
         fits = has.fits;
         sent = status_sent r a b c before mid after has.payloads (status_of None) has.sent last;
       }
 
-  -- the stream was refused
+  -- the stream was refused for this
+  pub stream_ends_by : (r : Result (Unit {0}) Fault) (fault : Fault) (first stream : StreamAt) (a b c : Option (List ℕ)) (before mid after : List ℕ) → HasSent first stream a b before mid
+      → (stream.refused ≡ None → MayRefuse stream fault) → Sends r b c mid after (spelling (status_of (Some fault))) → SendsRest first r a c before after
+  stream_ends_by r fault first stream a b c before mid after has why last database handle answer earlier means at none = record {
+    reply = record { payloads = has.payloads; fault = Some fault };
+    right = law.refused database handle answer (earlier ++ has.payloads) stream fault means (has.given answer earlier at) (why (has.going none));
+    fits = has.fits;
+    sent = status_sent r a b c before mid after has.payloads (status_of (Some fault)) has.sent last;
+  }
+
   pub stream_refused : (r : Result (Unit {0}) Fault) (fault : Fault) (first stream next : StreamAt) (a b c : Option (List ℕ)) (before mid after : List ℕ) → HasSent first stream a b before mid
-      → Gives stream (Err fault) next → Sends r b c mid after (spelling (status_of (Some fault))) → (database : Database) (handle : HandleAt) → Opens database handle (Ok first)
-      → SendsFetch database handle r a c before after
-  stream_refused r fault first stream next a b c before mid after has gives last database handle opens =
-      let none : first.refused ≡ None = ap (λ (s : StreamAt). s.refused) opens.2 in
-      let why = was_refused stream next fault (has.going none) gives in
+      → Gives stream (Err fault) next → Sends r b c mid after (spelling (status_of (Some fault))) → SendsRest first r a c before after
+  stream_refused r fault first stream next a b c before mid after has gives last =
+      stream_ends_by r fault first stream a b c before mid after has (λ none. was_refused stream next fault none gives) last
+
+  -- what was still to be given was sent behind it, or not
+  pub stream_rest : (r : Result (Unit {0}) Fault) (first stream last : StreamAt) → last ≡ stream → (a b c : Option (List ℕ)) (before mid after : List ℕ) → HasSent first stream a b before mid
+      → SendsRest last r b c mid after → SendsRest first r a c before after
+  stream_rest r first stream last is a b c before mid after has rest database handle answer earlier means at none =
+      let there = subst (λ (s : StreamAt). HasGiven answer (earlier ++ has.payloads) s) (sym is) (has.given answer earlier at) in
+      let behind = rest database handle answer (earlier ++ has.payloads) means there (ap (λ (s : StreamAt). s.refused) is ∙ has.going none) in
       record {
-        reply = record { payloads = has.payloads; fault = Some fault };
-        right = law.refused database handle opens.0 has.payloads stream fault opens.1 (has.given opens.0 opens.2) why;
-        fits = has.fits;
-        sent = status_sent r a b c before mid after has.payloads (status_of (Some fault)) has.sent last;
+        reply = record { payloads = has.payloads ++ behind.reply.payloads; fault = behind.reply.fault };
+        right = subst (λ (p : List Payload). FetchAt database handle p behind.reply.fault) (append_assoc earlier has.payloads behind.reply.payloads) behind.right;
+        fits = both_fit has.payloads behind.reply.payloads has.fits behind.fits;
+        sent = rest_sent r a b c before mid after has.payloads behind.reply.payloads (status_of behind.reply.fault) has.sent behind.sent;
       }
+
+-- ---- the answer to a fetch
+
+-- a stream before the payload of its schema
+abbrev fresh : StreamAt → StreamAt
+fresh stream = before_schema stream.schema stream.left
+
+-- its first payload
+pub first_given : (stream : StreamAt) (payload : Payload) → stream ≡ fresh stream → GivesSchema stream.schema (Ok payload) → Gives stream (Ok (Some payload)) (behind_schema stream.schema stream.left)
+first_given stream payload is gives = subst (λ (s : StreamAt). Gives s (Ok (Some payload)) (behind_schema stream.schema stream.left)) (sym is) (gives stream.left)
+
+-- the stream behind it
+pub made_behind : (stream made last : StreamAt) → stream ≡ fresh stream → made ≡ stream → last ≡ record made { begun = true } → last ≡ behind_schema stream.schema stream.left
+made_behind stream made last is same goes = goes ∙ ap (λ (s : StreamAt). record s { begun = true }) (same ∙ is)
+
+-- all that was sent of a stream is the answer to the fetch whose stream it is
+pub sends_fetch : (database : Database) (handle : HandleAt) (law : StreamsAnswer) (first : StreamAt) (r : Result (Unit {0}) Fault) (a c : Option (List ℕ)) (before after : List ℕ) → Opens database handle (Ok first)
+    → SendsRest first r a c before after → SendsFetch database handle r a c before after
+sends_fetch database handle law first r a c before after opens sends =
+    sends database handle opens.0 [] opens.1 (subst (λ (s : StreamAt). HasGiven opens.0 [] s) (sym opens.2) (law.begin opens.0)) (ap (λ (s : StreamAt). s.refused) opens.2)

@@ -109,3 +109,16 @@ pub nothing_not_sent : (a b c : Option (List ℕ)) (before mid after : List ℕ)
     → Sent a b before mid (messages_bytes payloads) → NotSent b c mid after [] → NotSent a c before after (answer_bytes payloads status)
 nothing_not_sent a b c before mid after payloads status sent failed =
     rw (status_last payloads status) (second_not_sent a b c before mid after (messages_bytes payloads) (spelling status) sent (head_not_sent b c mid after [] (spelling status) failed))
+
+-- the rest of an answer behind these payloads
+rest_behind : (payloads more : List Payload) (status : Record) → answer_bytes (payloads ++ more) status ≡ messages_bytes payloads ++ answer_bytes more status
+rest_behind payloads more status =
+    ap (λ (l : List Record). flat_map spelling (l ++ status ∷ [])) (map-append Message payloads more)
+    ∙ ap (flat_map spelling) (append_assoc (map Message payloads) (map Message more) (status ∷ []))
+    ∙ flat_map-append spelling (map Message payloads) (map Message more ++ status ∷ [])
+
+-- it was sent, or not
+pub rest_sent : {A E : Type 0} (r : Result A E) (a b c : Option (List ℕ)) (before mid after : List ℕ) (payloads more : List Payload) (status : Record)
+    → Sent a b before mid (messages_bytes payloads) → Sends r b c mid after (answer_bytes more status) → Sends r a c before after (answer_bytes (payloads ++ more) status)
+rest_sent r a b c before mid after payloads more status sent last =
+    rw (rest_behind payloads more status) (sent_behind r a b c before mid after (messages_bytes payloads) (answer_bytes more status) sent last)

@@ -1,15 +1,16 @@
 -- Inside: what answers a call, before it is written and then.
-use Rattle.std.specs.Prelude.{◌≡◌, ◌≢◌, ℕ, List, [], Option, Some, Result, Ok, OnErr}
+use Rattle.std.specs.Prelude.{◌≡◌, ◌≢◌, ℕ, List, [], ◌++◌, Option, Some, None, Result, Ok, OnErr}
 use Rattle.scan_base.specs.declared.fault.Fault.{Fault}
 use Rattle.scan_base.specs.declared.fault.Fault.TheVariants.{OutOfMemory}
 use Rattle.grpc_frame.specs.Ends.{CountsFailure, FailsByTransport, Writes}
 use Rattle.grpc_frame.specs.Sending.{Sends}
 use Rattle.endpoint_split.specs.Handle.{HandleAt}
 use Rattle.table_versions.specs.Database.{Database}
+use Rattle.table_versions.specs.Table.{Table}
 use Rattle.flight_info.specs.Payloads.{Payload, FitMessages}
 use Rattle.flight_info.specs.Replies.{ReplyAt}
-use Rattle.fetch_stream.specs.Fetches.{FetchAt}
-use Rattle.fetch_stream.specs.Streams.{StreamAt, Opens}
+use Rattle.fetch_stream.specs.Fetches.{FetchAt, HandleMeans}
+use Rattle.fetch_stream.specs.Streams.{StreamAt, HasGiven}
 use Rattle.flight_core.specs.Asked.{Asked, fetch}
 use Rattle.table_versions.specs.Log.{Log}
 use Rattle.flight_core.specs.Machine.{OpensIn}
@@ -63,11 +64,16 @@ pub record SendsReply (Right : ReplyAt → Type 0) (result : Result (Unit {0}) F
   pub fits : FitMessages reply.payloads
   pub sent : Sends result old new before after (answer_bytes reply)
 
--- What a stream gives was sent, or a beginning of it, as the answer to the fetch whose stream it is. Where it was not sent whole,
--- nothing waits to be sent, and a write failed, which is counted.
+-- what a stream still has to give was sent, or a beginning of it: behind what it has given, it is the answer to the fetch whose
+-- stream it is
+abbrev pub SendsRest : StreamAt → Result (Unit {0}) Fault → Option (List ℕ) → Option (List ℕ) → List ℕ → List ℕ → Type 0
+SendsRest stream result old new before after = (database : Database) (handle : HandleAt) (answer : Table) (given : List Payload) →
+    HandleMeans database handle answer → HasGiven answer given stream → stream.refused ≡ None →
+    SendsReply (λ reply. FetchAt database handle (given ++ reply.payloads) reply.fault) result old new before after
+
+-- The same, and where it was not sent whole, nothing waits to be sent, and a write failed, which is counted.
 pub record SendsStream (stream : StreamAt) (result : Result (Unit {0}) Fault) (old new : Option (List ℕ)) (before after : List ℕ) (failed failed' : ℕ) : Type 0 where
-  pub bytes : (database : Database) (handle : HandleAt) → Opens database handle (Ok stream) →
-      SendsReply (λ reply. FetchAt database handle reply.payloads reply.fault) result old new before after
+  pub bytes : SendsRest stream result old new before after
   pub empty : OnErr result (after ≡ [])
   pub counted : CountsFailure result failed failed'
   pub kind : FailsByTransport result

@@ -16,10 +16,10 @@ ghost use Rattle.flight_core.specs.Asked.{Asked};
 ghost use Rattle.table_versions.specs.Log.{Log};
 ghost use Rattle.flight_calls.specs.Calls.{ReplyTo};
 ghost use Rattle.flight_calls.specs.Owed.{answer_bytes, last_status};
-ghost use Rattle.flight_calls.specs.Answered.{AnsweredBy, IsReplyOf, FitsMessages, WritesReply, SendsReply};
+ghost use Rattle.flight_calls.specs.Answered.{AnsweredBy, IsReplyOf, FitsMessages, WritesReply, SendsReply, SendsRest};
 
 use crate::setting::Setting;
-use fetch_stream::{Executor, FetchStream, Payload, Payloads, ReadsPayloads};
+use fetch_stream::{Executor, FetchStream, Opening, Payload, Payloads, ReadsPayloads};
 use flight_core::Reply;
 use flight_core::laws::streams_answer;
 use grpc_frame::{Outbox, Output};
@@ -35,14 +35,14 @@ const LOOKED_ROWS: usize = 1_048_576;
 pub enum Answer {
     /// A reply.
     Whole(Reply),
-    /// The payloads of a fetch, one at a time, and then a Status.
-    Stream(FetchStream),
+    /// The payloads of a fetch, one at a time, and then a Status. Behind the first one the stream of the others is made.
+    Stream(Opening),
 }
 
 /// Writes an answer: each payload in a Message, of which a large part is not copied, and then the Status. Where it is
 /// small it is one write. A payload of a stream is sent before the next one is made, and of it no more than an outbox
-/// gathers waits for the next write. Where 1,048,576 rows were looked at without one that is given, it is written, and the
-/// other end is looked at.
+/// gathers waits for the next write. Where the second one may come late (`Opening::takes_long`), the first is written at once.
+/// Where 1,048,576 rows were looked at without one that is given, what waits is written. Behind either the other end is looked at.
 ///
 /// # Errors
 ///
@@ -85,7 +85,7 @@ fn send_answer<W: Output, X: Executor>(
 {
     match answer {
         Answer::Whole(reply) => send_reply(writer, outbox, &reply),
-        Answer::Stream(stream) => send_fetch(setting, writer, outbox, stream),
+        Answer::Stream(opening) => send_fetch(setting, writer, outbox, opening),
     }
 }
 
@@ -125,17 +125,63 @@ fn send_payload<W: Output>(
     Ok(())
 }
 
-// Sends the answer to a fetch: the payloads of its stream, as the executor has them made, and then the Status.
+// Sends the answer to a fetch: the payload of its schema, and behind it those of its stream, which is made then.
 fn send_fetch<W: Output, X: Executor>(
+    setting: &Setting<'_, X>,
+    writer: &mut W,
+    outbox: &mut Outbox,
+    opening: Opening,
+) -> Result<(), Fault>
+    requires failures { CanFail (W.failures writer.old) }
+    ensures bytes { (database : Database) (handle : HandleAt) → Opens database handle (Ok opening) →
+        SendsReply (λ reply. FetchAt database handle reply.payloads reply.fault) result
+        (W.contents writer.old) (W.contents writer.new) outbox.old outbox.new }
+    ensures empty { OnErr result (outbox.new ≡ []) }
+    ensures counted { CountsFailure result (W.failures writer.old) (W.failures writer.new) }
+    ensures kind { FailsByTransport result }
+{
+    let alloc = setting.alloc;
+    streams_answer();
+    let first = match opening.first_payload(alloc) {
+        Ok(first) => first,
+        Err(fault) => return outbox.send_status(writer, Some(fault)),
+    };
+    send_first(writer, outbox, &first, opening.takes_long())?;
+    match opening.stream(alloc) {
+        Ok(stream) => send_rest(setting, writer, outbox, stream.behind_schema()),
+        Err(_) => outbox.send_status(writer, Some(Fault::OutOfMemory)),
+    }
+}
+
+// Sends the payload of a schema. Where the next one may come late, it is written at once, and the other end is looked at.
+fn send_first<W: Output>(
+    writer: &mut W,
+    outbox: &mut Outbox,
+    first: &Payload,
+    late: bool,
+) -> Result<(), Fault>
+    requires failures { CanFail (W.failures writer.old) }
+    ensures bytes { Sends result (W.contents writer.old) (W.contents writer.new)
+        outbox.old outbox.new (spelling (Message first.now)) }
+    ensures counted { CountsFailure result (W.failures writer.old) (W.failures writer.new) }
+    ensures kind { FailsByTransport result }
+{
+    send_payload(writer, outbox, first)?;
+    if late {
+        return outbox.look(writer);
+    }
+    Ok(())
+}
+
+// Sends what a stream still has to give, as the executor has it made, and then the Status.
+fn send_rest<W: Output, X: Executor>(
     setting: &Setting<'_, X>,
     writer: &mut W,
     outbox: &mut Outbox,
     stream: FetchStream,
 ) -> Result<(), Fault>
     requires failures { CanFail (W.failures writer.old) }
-    ensures bytes { (database : Database) (handle : HandleAt) → Opens database handle (Ok stream) →
-        SendsReply (λ reply. FetchAt database handle reply.payloads reply.fault) result
-        (W.contents writer.old) (W.contents writer.new) outbox.old outbox.new }
+    ensures bytes { SendsRest stream result (W.contents writer.old) (W.contents writer.new) outbox.old outbox.new }
     ensures empty { OnErr result (outbox.new ≡ []) }
     ensures counted { CountsFailure result (W.failures writer.old) (W.failures writer.new) }
     ensures kind { FailsByTransport result }
@@ -187,8 +233,7 @@ fn send_stream<W: Output, P: Payloads>(
     payloads: &mut P,
 ) -> Result<(), Fault>
     requires failures { CanFail (W.failures writer.old) }
-    ensures bytes { (database : Database) (handle : HandleAt) → Opens database handle (Ok (P.stream payloads.old)) →
-        SendsReply (λ reply. FetchAt database handle reply.payloads reply.fault) result
+    ensures bytes { SendsRest (P.stream payloads.old) result
         (W.contents writer.old) (W.contents writer.new) outbox.old outbox.new }
     ensures empty { OnErr result (outbox.new ≡ []) }
     ensures counted { CountsFailure result (W.failures writer.old) (W.failures writer.new) }

@@ -19,7 +19,7 @@ ghost use Rattle.flight_calls.specs.Stepping.{RefusedBy};
 
 use crate::answer::Answer;
 use crate::backend::Backend;
-use fetch_stream::{FetchStream, read_ticket, version_of};
+use fetch_stream::{Opening, read_ticket, version_of};
 use flight_core::put_answer;
 use flight_info::{Reply, answer_schema, answer_wanted};
 use flight_proto::{Wanted, read_wanted};
@@ -101,13 +101,13 @@ fn version_on<B: Backend>(backend: &mut B, number: u64) -> Result<Snapshot, Faul
     }
 }
 
-// Opens the stream that answers a fetch.
+// Opens what answers a fetch.
 fn open_on<B: Backend>(
     alloc: Global,
     backend: &mut B,
     ticket: &[u8],
     workers: usize,
-) -> Result<FetchStream, Fault>
+) -> Result<Opening, Fault>
     ensures learns { Learns B.moves (B.seat backend.old) (B.seat backend.new) }
     ensures looked { IsOk (handle_asked ticket.now) → result ≢ Err OutOfMemory
         → (B.seat backend.old).looks < (B.seat backend.new).looks }
@@ -115,7 +115,7 @@ fn open_on<B: Backend>(
 {
     let handle = read_ticket(ticket)?;
     let snapshot = version_on(backend, version_of(&handle))?;
-    FetchStream::new(alloc, &snapshot, &handle, workers)
+    Opening::new(alloc, &snapshot, &handle, workers)
 }
 
 // What answers a fetch.
@@ -125,7 +125,7 @@ pub fn fetch_on<B: Backend>(alloc: Global, backend: &mut B, ticket: &[u8], worke
     ensures short { FitsMessages result }
 {
     match open_on(alloc, backend, ticket, workers) {
-        Ok(stream) => Answer::Stream(stream),
+        Ok(opening) => Answer::Stream(opening),
         Err(fault) => Answer::Whole(Reply::refusal(alloc, fault)),
     }
 }

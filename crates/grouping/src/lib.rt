@@ -5,6 +5,7 @@ mod answer;
 pub mod answers;
 mod batches;
 mod cell;
+mod coded;
 mod counts;
 pub mod groups;
 mod item_tallies;

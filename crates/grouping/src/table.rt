@@ -9,6 +9,7 @@ ghost use Rattle.grouping.specs.inside.Knowing.{AreEntryKeys, AreKeys, AreKnown,
 ghost use Rattle.grouping.specs.inside.Placing.{found_by, ArePlaced, FirstsStay};
 ghost use Rattle.grouping.specs.RowKeys.{key_of, same_first};
 
+use crate::coded::groups_by_codes;
 use crate::key::RowKey;
 use crate::known::{Known, index_count, know_nothing, known_group, push_known, short_group};
 use crate::slots::{Entries, Number, Slots, entry_slots, integer_slots};
@@ -47,7 +48,7 @@ fn groups_of<'t>(
     ensures known { OnOk result (AreKnown value_tagged (map key_of firsts.new.keys) known.new) }
 {
     if chosen.columns.len() != 1 || known.is_empty() {
-        let groups = groups_one_by_one(alloc, firsts, chosen)?;
+        let groups = groups_by_codes(alloc, firsts, chosen)?;
         return Ok(groups);
     }
     let column = &chosen.batch.columns()[chosen.columns[0]];
@@ -164,7 +165,7 @@ fn groups_of_entries<'t>(
         IntegerType::UInt8 => groups_of_indices::<u8>(alloc, firsts, known, entries, chosen),
         IntegerType::UInt16 => groups_of_indices::<u16>(alloc, firsts, known, entries, chosen),
         IntegerType::UInt32 => groups_of_indices::<u32>(alloc, firsts, known, entries, chosen),
-        IntegerType::UInt64 => groups_one_by_one(alloc, firsts, chosen),
+        IntegerType::UInt64 => groups_by_codes(alloc, firsts, chosen),
     }
 }
 
@@ -230,8 +231,12 @@ fn groups_by<'t, T: Tags>(
     Ok(groups)
 }
 
-// The group of each of these rows, by the first rows alone.
-fn groups_one_by_one<'t>(
+/// The group of each of these rows, by the first rows alone.
+///
+/// # Errors
+///
+/// `AllocError` where memory is refused.
+pub(crate) fn groups_one_by_one<'t>(
     alloc: Global,
     firsts: &mut IndexSet<RowKey<'t>, HashSeed>,
     chosen: &Chosen<'t, '_>,

@@ -38,8 +38,12 @@ impl Output for SocketWriter {
 }
 
 // Whether the other end may still be there: it did not end what it sends, and the stream has no error. No byte is taken, and
-// it does not wait. Nothing else may read or write the stream meanwhile.
+// it does not wait. Nothing else may read or write the stream meanwhile. The error is asked for first, since a peek tells of it
+// only where no byte waits to be read.
 fn is_there(stream: &TcpStream) -> bool {
+    let Ok(None) = stream.take_error() else {
+        return false;
+    };
     if stream.set_nonblocking(true).is_err() {
         return false;
     }

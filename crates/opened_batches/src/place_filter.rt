@@ -10,7 +10,7 @@ ghost use Rattle.opened_batches.specs.Opened.{given_columns, given_width};
 ghost use Rattle.opened_batches.specs.inside.Judged.{all_can, batch_columns};
 
 use batch_skipping::{Measured, may_hold};
-use batch_stats::Side;
+use batch_stats::{Beginnings, Side};
 use scan_base::{Operand, Predicate};
 use std::alloc::{AllocError, Global};
 use table_versions::TableVersion;
@@ -154,6 +154,17 @@ impl Measured<usize> for PlaceBatch<'_> {
         match self.place.columns {
             Columns::All => self.table.side(self.index, number),
             Columns::These(numbers) => self.table.side(self.index, numbers.as_slice()[number]),
+        }
+    }
+
+    fn beginnings(&self, column: &usize) -> Option<Beginnings<'_>> {
+        let number = *column - self.place.first;
+        match self.place.columns {
+            Columns::All => self.table.beginnings(self.index, number),
+            Columns::These(numbers) => {
+                let number = numbers.as_slice()[number];
+                self.table.beginnings(self.index, number)
+            }
         }
     }
 }

@@ -7,6 +7,7 @@ ghost use Rattle.scan_exec.specs.Answering.{IsGiving, answer_for, giving_at};
 ghost use Rattle.scan_exec.specs.Giving.{GivesTurn, of_rows};
 
 use crate::different::Different;
+use crate::different_keys::DifferentKeys;
 use crate::group_work::GroupsBatches;
 use crate::grouped::{GroupedRows, Stage, Wanted};
 use crate::making::Making;
@@ -81,7 +82,8 @@ fn turn_of_rows(
 }
 
 // What a result takes of the rows of a source. Rows that are grouped are read without their filters, as slices; which of
-// them are grouped is for the filters to choose then. Items that are the same are made once.
+// them are grouped is for the filters to choose then. A column that the key names more than once is one part of it for the
+// groups, and items that are the same are made once.
 pub(crate) fn answer_of(
     alloc: Global,
     source: RowSource,
@@ -102,12 +104,14 @@ pub(crate) fn answer_of(
                 picker,
                 types,
             } = source.without_filters(alloc)?;
-            let different = Different::of(alloc, items.as_slice())?;
+            let once = DifferentKeys::of(alloc, keys.as_slice())?;
+            let named = once.items(alloc, items.as_slice())?;
+            let different = Different::of(alloc, named.as_slice())?;
             let wanted = Wanted {
                 picker,
                 seed,
                 types,
-                keys: keys.into_vec(),
+                keys: once.columns,
                 items: different.items,
             };
             let groups = GroupedRows {

@@ -1,19 +1,25 @@
 -- Pages of statistics, as batches and pages are added.
 use Rattle.std.specs.Prelude.{IfSome}
-use Rattle.std.proofs.Common.{◌≡◌, ◌<◌, ◌≤◌, ℕ, zero, suc, ◌+◌, ◌*◌, ◌/◌, ◌%◌, IsTrue, List, [], ◌∷◌, ◌++◌, length, Option, Some, None, Bor, Vec, Global, refl, sym, ap, subst, arith, length-append, slice_get, option_map}
+use Rattle.std.proofs.Common.{◌≡◌, ◌<◌, ◌≤◌, ℕ, zero, suc, ◌+◌, ◌*◌, ◌/◌, ◌%◌, IsTrue, List, [], ◌∷◌, ◌++◌, length, Option, Some, None, Bor, Vec, Global, refl, sym, ap, ◌∙◌, subst, arith, length-append, slice_get, option_map}
 use Rattle.std.specs.List.{flat_map}
 use Rattle.std.specs.Slice.{IsItemAt}
 use Rattle.std.proofs.lemmas.Option.{slice_get_read}
 use Rattle.arrow_schema.specs.declared.schema.Schema.{Schema}
 use Rattle.arrays.specs.Batch.{BatchAt, rows_of}
 use Rattle.arrays.specs.Typed.{AreOfTypes}
+use Rattle.batch_stats.specs.declared.beginnings.Beginnings.{Beginnings}
+use Rattle.batch_stats.specs.declared.owned.OwnedStats.{OwnedStats}
+use Rattle.batch_stats.specs.declared.side.Side.{Side}
 use Rattle.batch_stats.specs.Columns.{stats_in}
+use Rattle.batch_stats.specs.Beginnings.{AreBeginnings}
+use Rattle.batch_stats.specs.Owned.{AreKept}
+use Rattle.batch_stats.specs.Sides.{side_at}
 use Rattle.batch_stats.specs.Stats.{StatsAt}
 use Rattle.scan_base.specs.Limits.{most_rows}
 use Rattle.table_versions.specs.declared.placed_batch.PlacedBatch.{PlacedBatch}
 use Rattle.table_versions.specs.declared.stats_page.StatsPage.{StatsPage}
 use Rattle.table_versions.specs.Kept.{AreSound, IsKept, Stands}
-use Rattle.table_versions.specs.StatsPages.{AreRowsFrom, AreStatsFrom, IsPageFrom, ArePages, AreStored}
+use Rattle.table_versions.specs.StatsPages.{AreOfBatch, AreRowsFrom, AreStatsFrom, IsPageFrom, ArePages, AreStored}
 use Rattle.table_versions.specs.Stored.{TableAt, has_rows}
 use Rattle.table_versions.specs.Batches.{ArePlaced, placed_table}
 use Rattle.table_versions.proofs.Placing.{batches, batches_push, batch_there, placed_push}
@@ -33,6 +39,11 @@ got_append f [] more j y at = cc
 got_append f (x ∷ xs) more zero y at = at
 got_append f (x ∷ xs) more (suc j) y at = got_append f xs more j y at
 
+there_append : {X : Type 0} (xs more : List X) (j : ℕ) (y : X) → slice_get xs j ≡ Some y → slice_get (xs ++ more) j ≡ Some y
+there_append [] more j y at = cc
+there_append (x ∷ xs) more zero y at = at
+there_append (x ∷ xs) more (suc j) y at = there_append xs more j y at
+
 -- pages are right, whatever batches come behind
 pub pages_append : (batches more : List BatchAt) (pages : List StatsPage) → ArePages batches pages → ArePages (batches ++ more) pages
 pages_append batches more pages are = record {
@@ -41,8 +52,9 @@ pages_append batches more pages are = record {
       let is = are.each p page at in
       record {
         rows = λ i n one. got_append (λ (batch : BatchAt). batch.rows) batches more (p * 256 + i) n (is.rows i n one);
-        columns = λ column all there i stats one.
-            got_append (λ (batch : BatchAt). stats_in batch.columns column) batches more (p * 256 + i) stats (is.columns column all there i stats one);
+        columns = λ column all there i owned one.
+            let of = is.columns column all there i owned one in
+            (of.0, there_append batches more (p * 256 + i) of.0 of.1, of.2);
       };
 }
 
@@ -77,12 +89,11 @@ module _ (all : List BatchAt) (first index : ℕ) (batch : BatchAt) (there : sli
       (subst (λ (j : ℕ). option_map (λ (one : BatchAt). one.rows) (slice_get all j) ≡ Some batch.rows) (sym long) (ap (option_map (λ (one : BatchAt). one.rows)) there))
 
   -- and the statistics of its column
-  pub stats_more : (column : ℕ) (stats : List StatsAt) → AreStatsFrom all first column stats → first + length stats ≡ index →
-      AreStatsFrom all first column (stats ++ stats_in batch.columns column ∷ [])
-  stats_more column stats are long =
-      each_push (λ i one. option_map (λ (each : BatchAt). stats_in each.columns column) (slice_get all (first + i)) ≡ Some one) stats (stats_in batch.columns column) are
-      (subst (λ (j : ℕ). option_map (λ (each : BatchAt). stats_in each.columns column) (slice_get all j) ≡ Some (stats_in batch.columns column)) (sym long)
-      (ap (option_map (λ (each : BatchAt). stats_in each.columns column)) there))
+  pub stats_more : (column : ℕ) (stats : List OwnedStats) (next : OwnedStats) → AreKept next (stats_in batch.columns column) → AreStatsFrom all first column stats →
+      first + length stats ≡ index → AreStatsFrom all first column (stats ++ next ∷ [])
+  stats_more column stats next kept are long =
+      each_push (λ i owned. AreOfBatch all (first + i) column owned) stats next are
+      (subst (λ (j : ℕ). AreOfBatch all j column next) (sym long) (batch, there, kept))
 
 -- a batch that has its place is one of the table
 pub is_batch : (schema : Schema) (placed : List PlacedBatch) (rows : ℕ) → ArePlaced schema placed rows → (i : ℕ) (one : PlacedBatch) → slice_get placed i ≡ Some one →
@@ -96,14 +107,27 @@ pub lent_at : {X : Type 0} (xs : List X) (i : ℕ) (x : Bor X) → IsItemAt xs i
 lent_at xs i x at = slice_get_read xs (length xs) i x.now refl at.3.0 at.1
 
 -- the statistics that are lent of a page are those of the batch
-pub paged_stats : (all : List BatchAt) (index : ℕ) (page : StatsPage) → IsPageFrom all (index / 256 * 256) page → (column : ℕ) (list : Vec StatsAt Global) →
-    slice_get page.columns.items column ≡ Some list → (found : Option (Bor StatsAt)) → IsItemAt list.items (index % 256) found →
-    IfSome found (λ stats. option_map (λ (batch : BatchAt). stats_in batch.columns column) (slice_get all index) ≡ Some stats.now)
+pub paged_stats : (all : List BatchAt) (index : ℕ) (page : StatsPage) → IsPageFrom all (index / 256 * 256) page → (column : ℕ) (list : Vec OwnedStats Global) →
+    slice_get page.columns.items column ≡ Some list → (found : Option (Bor OwnedStats)) → IsItemAt list.items (index % 256) found →
+    IfSome found (λ owned. AreOfBatch all index column owned.now)
 paged_stats all index page is column list there None at = tt
-paged_stats all index page is column list there (Some stats) at =
+paged_stats all index page is column list there (Some owned) at =
     let place : index / 256 * 256 + index % 256 ≡ index = omega arith in
-    subst (λ (j : ℕ). option_map (λ (batch : BatchAt). stats_in batch.columns column) (slice_get all j) ≡ Some stats.now) place
-    (is.columns column list there (index % 256) stats.now (lent_at list.items (index % 256) stats at))
+    subst (λ (j : ℕ). AreOfBatch all j column owned.now) place (is.columns column list there (index % 256) owned.now (lent_at list.items (index % 256) owned at))
+
+module _ (all : List BatchAt) (index column : ℕ) (owned : OwnedStats) (of : AreOfBatch all index column owned) where
+  -- and so are the values that these have
+  pub paged_side : (found : Option Side) → IfSome found (λ side. (stats : StatsAt) → AreKept owned stats → stats ≡ side_at side) →
+      IfSome found (λ side. option_map (λ (batch : BatchAt). stats_in batch.columns column) (slice_get all index) ≡ Some (side_at side))
+  paged_side None held = tt
+  paged_side (Some side) held =
+      ap (option_map (λ (batch : BatchAt). stats_in batch.columns column)) of.1 ∙ ap Some (held (stats_in of.0.columns column) of.2)
+
+  -- and the beginnings of its texts
+  pub paged_beginnings : (found : Option Beginnings) → IfSome found (λ known. (stats : StatsAt) → AreKept owned stats → AreBeginnings known stats) →
+      IfSome found (λ known. (batch : BatchAt) × (slice_get all index ≡ Some batch) × AreBeginnings known (stats_in batch.columns column))
+  paged_beginnings None held = tt
+  paged_beginnings (Some known) held = (of.0, of.1, held (stats_in of.0.columns column) of.2)
 
 module _ (table : TableAt) (rows : ℕ) (kept : IsKept table rows) where
   -- a batch of which the rows are known has some

@@ -3,8 +3,9 @@ use Rattle.std.specs.Prelude.{◌≡◌, ◌≤◌, ℕ, ◌+◌, ◌*◌, List,
 use Rattle.std.specs.Global.{Global}
 use Rattle.arrow_schema.specs.declared.schema.Schema.{Schema}
 use Rattle.arrays.specs.Batch.{BatchAt}
+use Rattle.batch_stats.specs.declared.owned.OwnedStats.{OwnedStats}
 use Rattle.batch_stats.specs.Columns.{stats_in}
-use Rattle.batch_stats.specs.Stats.{StatsAt}
+use Rattle.batch_stats.specs.Owned.{AreKept}
 use Rattle.table_versions.specs.declared.placed_batch.PlacedBatch.{PlacedBatch}
 use Rattle.table_versions.specs.declared.stats_page.StatsPage.{StatsPage}
 use Rattle.table_versions.specs.Batches.{ArePlaced}
@@ -14,15 +15,19 @@ abbrev pub AreRowsFrom : List BatchAt → ℕ → List ℕ → Type 0
 AreRowsFrom batches first rows = (i n : ℕ) → slice_get rows i ≡ Some n →
     option_map (λ (batch : BatchAt). batch.rows) (slice_get batches (first + i)) ≡ Some n
 
--- these are the statistics of a column of batches, from the batch `first` on
-abbrev pub AreStatsFrom : List BatchAt → ℕ → ℕ → List StatsAt → Type 0
-AreStatsFrom batches first column all = (i : ℕ) (stats : StatsAt) → slice_get all i ≡ Some stats →
-    option_map (λ (batch : BatchAt). stats_in batch.columns column) (slice_get batches (first + i)) ≡ Some stats
+-- these are kept of a column of the batch of a number
+abbrev pub AreOfBatch : List BatchAt → ℕ → ℕ → OwnedStats → Type 0
+AreOfBatch batches index column owned =
+    (batch : BatchAt) × (slice_get batches index ≡ Some batch) × AreKept owned (stats_in batch.columns column)
+
+-- these are kept of a column of batches, from the batch `first` on
+abbrev pub AreStatsFrom : List BatchAt → ℕ → ℕ → List OwnedStats → Type 0
+AreStatsFrom batches first column all = (i : ℕ) (owned : OwnedStats) → slice_get all i ≡ Some owned → AreOfBatch batches (first + i) column owned
 
 -- what a page has is of the batches from the batch `first` on
 pub record IsPageFrom (batches : List BatchAt) (first : ℕ) (page : StatsPage) : Type 0 where
   pub rows : AreRowsFrom batches first page.rows.items
-  pub columns : (column : ℕ) (all : Vec StatsAt Global) → slice_get page.columns.items column ≡ Some all → AreStatsFrom batches first column all.items
+  pub columns : (column : ℕ) (all : Vec OwnedStats Global) → slice_get page.columns.items column ≡ Some all → AreStatsFrom batches first column all.items
 
 -- page p has the batches from the batch 256 p on
 pub record ArePages (batches : List BatchAt) (pages : List StatsPage) : Type 0 where

@@ -134,7 +134,7 @@ impl GrowingTable {
         Ok(rows)
     }
 
-    // The statistics of a column of these batches, up to the first that holds no values itself.
+    // The statistics of a column of these batches.
     fn column_from(
         &self,
         alloc: Global,
@@ -146,7 +146,7 @@ impl GrowingTable {
         ensures { IfOk result (λ all. AreStatsFrom self.now.batches first column all.items) }
     {
         let batches = &self.batches;
-        let mut all = Vec::new(alloc);
+        let mut all = Vec::with_capacity(alloc, PAGE_BATCHES)?;
         for index in first..first + PAGE_BATCHES {
             match batches.get(index).batch.owned_stats(column) {
                 Some(stats) => all.push(stats)?,

@@ -6,7 +6,7 @@ use batch_stats::OwnedStats;
 pub(crate) const PAGE_BATCHES: usize = 256;
 
 // What is read of 256 batches without the batches: how many rows each has, and the statistics of its columns. Those of one column
-// stand one behind the other, up to the first batch whose statistics hold no values themselves.
+// stand one behind the other.
 #[derive(Drop)]
 pub(crate) struct StatsPage {
     pub(crate) rows: Vec<usize>,

@@ -5,12 +5,13 @@ ghost use Rattle.std.specs.Arc.{arc_value};
 ghost use Rattle.arrow_schema.specs.Schema.{IsSchema};
 ghost use Rattle.arrays.specs.Batch.{BatchAt, rows_of};
 ghost use Rattle.arrays.specs.Typed.{AreOfTypes};
+ghost use Rattle.batch_stats.specs.Beginnings.{AreBeginnings};
 ghost use Rattle.batch_stats.specs.Columns.{stats_in};
 ghost use Rattle.batch_stats.specs.Sides.{side_at};
 ghost use Rattle.scan_base.specs.Limits.{most_columns, most_rows};
 ghost use Rattle.table_versions.specs.Kept.{AreSound, IsKept};
 ghost use Rattle.table_versions.specs.Standing.{StandsIn};
-ghost use Rattle.table_versions.specs.StatsPages.{IsPageFrom};
+ghost use Rattle.table_versions.specs.StatsPages.{AreOfBatch, IsPageFrom};
 ghost use Rattle.table_versions.specs.Stored.{table_of};
 
 use crate::growing::GrowingTable;
@@ -18,7 +19,7 @@ use crate::placed_batch::PlacedBatch;
 use crate::stats_page::{PAGE_BATCHES, StatsPage};
 use arrays::Batch;
 use arrow_schema::Schema;
-use batch_stats::{MeasuredBatch, OwnedStats, Side};
+use batch_stats::{Beginnings, MeasuredBatch, OwnedStats, Side};
 use shared_pages::Pages;
 use std::alloc::{AllocError, Global};
 use std::marker::Model;
@@ -132,17 +133,35 @@ impl TableVersion {
     }
 
     /// What the values of a column of a batch are between, and how many are null. In the full pages of 256 batches it is read
-    /// without the batch, but for texts of more than 16 bytes and what stands behind them in their page.
+    /// without the batch, unless one of the two is a text of more than 16 bytes.
     pub fn side(&self, index: usize, column: usize) -> Side<'_>
         requires batch { index < length self.now.batches }
         requires column { column < length self.now.schema.fields }
         ensures stats { option_map (λ (batch : BatchAt). stats_in batch.columns column) (slice_get self.now.batches index) ≡ Some (side_at result) }
         ensures wide { IfSome (slice_get self.now.batches index) (λ batch. length batch.columns ≡ length self.now.schema.fields) }
     {
-        match self.paged_stats(index, column) {
-            Some(stats) => stats.side(),
+        match self.paged_side(index, column) {
+            Some(side) => side,
             None => self.measured(index).side(column),
         }
+    }
+
+    /// How the least and the greatest text of a column of a batch begin. It is `None` of other values, and of a batch that has
+    /// no page.
+    pub fn beginnings(&self, index: usize, column: usize) -> Option<Beginnings<'_>>
+        ensures wide { IfSome result (λ _. IfSome (slice_get self.now.batches index) (λ batch. length batch.columns ≡ length self.now.schema.fields)) }
+        ensures beginnings { IfSome result (λ known. (batch : BatchAt) × (slice_get self.now.batches index ≡ Some batch)
+            × AreBeginnings known (stats_in batch.columns column)) }
+    {
+        self.paged_stats(index, column)?.beginnings()
+    }
+
+    // The values that the page of a batch has of a column.
+    fn paged_side(&self, index: usize, column: usize) -> Option<Side<'_>>
+        ensures wide { IfSome result (λ _. IfSome (slice_get self.now.batches index) (λ batch. length batch.columns ≡ length self.now.schema.fields)) }
+        ensures stats { IfSome result (λ side. option_map (λ (batch : BatchAt). stats_in batch.columns column) (slice_get self.now.batches index) ≡ Some (side_at side)) }
+    {
+        self.paged_stats(index, column)?.side()
     }
 
     // The rows of a batch that has a page.
@@ -153,10 +172,10 @@ impl TableVersion {
         self.page_of(index)?.rows.get(index % PAGE_BATCHES).copied()
     }
 
-    // The statistics of a column of a batch that has a page, where that has them.
+    // The statistics of a column of a batch that has a page.
     fn paged_stats(&self, index: usize, column: usize) -> Option<&OwnedStats>
         ensures wide { IfSome result (λ _. IfSome (slice_get self.now.batches index) (λ batch. length batch.columns ≡ length self.now.schema.fields)) }
-        ensures stats { IfSome result (λ stats. option_map (λ (batch : BatchAt). stats_in batch.columns column) (slice_get self.now.batches index) ≡ Some stats.now) }
+        ensures stats { IfSome result (λ owned. AreOfBatch self.now.batches index column owned.now) }
     {
         self.page_of(index)?
             .columns

@@ -1,5 +1,5 @@
 -- Inside: payloads of a morsel that are made ahead.
-use Rattle.std.specs.Prelude.{◌≡◌, ◌≢◌, ◌≤◌, ◌⊎◌, ℕ, ◌+◌, true, List, [], ◌∷◌, length, map, drop, Option, Some, None, Result, Ok, Err}
+use Rattle.std.specs.Prelude.{◌≡◌, ◌≢◌, ◌≤◌, ◌⊎◌, ℕ, ◌+◌, Bool, true, List, [], ◌∷◌, length, map, drop, Option, Some, None, Result, Ok, Err}
 use Rattle.std.specs.List.{range_with_len}
 use Rattle.scan_base.specs.declared.fault.Fault.{Fault}
 use Rattle.arrow_schema.specs.declared.schema.Schema.{Schema}
@@ -17,8 +17,9 @@ use Rattle.fetch_stream.specs.declared.source.Source.TheVariants.{Scanned}
 use Rattle.fetch_stream.specs.inside.Ahead.{IsSource}
 
 -- the morsels of a scan
-abbrev pub morsels_at : ScanAt → ℕ → MorselsAt
-morsels_at scan count = record { schema = scan.schema; rows = map (morsel_rows scan) (range_with_len 0 count) }
+abbrev pub morsels_at : ScanAt → ℕ → Bool → MorselsAt
+morsels_at scan count begun =
+    record { schema = scan.schema; begun = begun; rows = map (morsel_rows scan) (range_with_len 0 count) }
 
 -- a scan of rows that falls into so many morsels
 pub record FallsInto (scan : ScanAt) (count : ℕ) : Type 0 where

@@ -1,4 +1,4 @@
-use Rattle.std.proofs.Common.{◌≡◌, ◌≤◌, false, [], None, sym, ◌∙◌, arith}
+use Rattle.std.proofs.Common.{◌≡◌, ◌≤◌, [], None, sym, ◌∙◌, arith}
 use Rattle.fetch_stream.specs.inside.Ahead.{uncut}
 use Rattle.fetch_stream.proofs.Falling.{source_of, whole_of}
 use Rattle.fetch_stream.proofs.Stepping.{all_cut}
@@ -17,8 +17,7 @@ pub returns : goal.returns
 returns c =
     let inside = c.self.inside in
     let none : inside.refused ≡ None = cc in
-    let first : inside.begun ≡ false = cc in
     let high : inside.cutter.batch.rows ≤ inside.cutter.at = omega arith in
     let goes = c.self.invariant none in
     let nothing : uncut inside.cutter ≡ [] = all_cut c.batch_slices_keep_rows.ensures inside.cutter goes.placed high in
-    rw c.new.ensures (sym c.self.view_is ∙ whole_of inside.cutter inside.source c.in-Scanned.scan c.in_ok-count.count inside.begun inside.refused c.in-Scanned.is first none nothing c.in_ok-count.ensures)
+    rw c.new.ensures (sym c.self.view_is ∙ whole_of inside.cutter inside.source c.in-Scanned.scan c.in_ok-count.count inside.begun inside.refused c.in-Scanned.is none nothing c.in_ok-count.ensures)

@@ -1,8 +1,7 @@
-use Rattle.std.proofs.Common.{◌≡◌, ◌∷◌, ◌++◌, [], List, length, Some, slice_get, sym, ap, ◌∙◌, subst, arith, length-append}
+use Rattle.std.proofs.Common.{◌≡◌, ◌∷◌, ◌++◌, [], List, length, Some, slice_get, sym, ap, subst, arith, length-append}
 use Rattle.std.proofs.lemmas.List.{length-map}
 use Rattle.std.specs.Arc.{arc_value}
-use Rattle.batch_stats.specs.Columns.{stats_in}
-use Rattle.batch_stats.specs.Stats.{StatsAt}
+use Rattle.batch_stats.specs.declared.owned.OwnedStats.{OwnedStats}
 use Rattle.table_versions.specs.declared.placed_batch.PlacedBatch.{PlacedBatch}
 use Rattle.table_versions.specs.StatsPages.{AreStatsFrom}
 use Rattle.table_versions.specs.Stored.{TableAt}
@@ -32,10 +31,10 @@ loop-index-preserved c =
     let one = c.deref.result.now in
     let there : slice_get all c.loop-index.index ≡ Some one.batch =
     rw (← c.self.view_is) (batch_there c.self.inside.batches c.loop-index.index one (rw (← c.deref.ensures) at c.get.ensures)) in
-    let items : c.push.new.self.items ≡ stats ++ stats_in one.batch.columns column ∷ [] =
-    c.in_ok-push-in-Some.ensures.items ∙ ap (λ (n : StatsAt). stats ++ n ∷ []) c.in-Some.ensures in
-    let more = stats_more all first c.loop-index.index one.batch there column stats c.loop-index.invariant.are c.loop-index.invariant.long in
+    let next = c.in-Some.stats in
+    let items : c.push.new.self.items ≡ stats ++ next ∷ [] = c.in_ok-push-in-Some.ensures.items in
+    let more = stats_more all first c.loop-index.index one.batch there column stats next c.in-Some.ensures c.loop-index.invariant.are c.loop-index.invariant.long in
     record {
-      long = omega (arith, c.loop-index.invariant.long, ap (λ (some : List StatsAt). length some) items, length-append stats (stats_in one.batch.columns column ∷ []));
-      are = subst (λ (some : List StatsAt). AreStatsFrom all first column some) (sym items) more;
+      long = omega (arith, c.loop-index.invariant.long, ap (λ (some : List OwnedStats). length some) items, length-append stats (next ∷ []));
+      are = subst (λ (some : List OwnedStats). AreStatsFrom all first column some) (sym items) more;
     }

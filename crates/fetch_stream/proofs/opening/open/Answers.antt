@@ -1,7 +1,7 @@
 use Rattle.std.proofs.Common.{refl}
 use Rattle.table_versions.specs.Stored.{tables_of}
 use Rattle.flight_info.specs.Tables.{tables_listed}
-use Rattle.fetch_stream.proofs.stream.open.Goals as goal
+use Rattle.fetch_stream.proofs.opening.open.Goals as goal
 
 pub returns-in_ok-open_tables-in-Tables-clause-opens : goal.returns-in_ok-open_tables-in-Tables-clause-opens
 returns-in_ok-open_tables-in-Tables-clause-opens c =

@@ -1,13 +1,12 @@
-use Rattle.std.proofs.Common.{◌≡◌, ◌≤◌, [], refl, ◌∙◌, arith}
+use Rattle.std.proofs.Common.{◌≤◌, List, ap, ◌∙◌, arith}
 use Rattle.std.proofs.lemmas.Result.{err_from_is_err_and}
-use Rattle.arrays.specs.Batch.{rows_of}
-use Rattle.scan_exec.specs.Scan.{left}
 use Rattle.table_versions.specs.Stored.{tables_of}
-use Rattle.typed_plan.specs.Plan.{plan_rows}
+use Rattle.table_versions.specs.Table.{Row}
 use Rattle.typed_plan.specs.View.{plan_of}
-use Rattle.fetch_stream.proofs.Going.{opens_behind}
+use Rattle.scan_exec.proofs.PlanGives.{rows_law}
+use Rattle.fetch_stream.specs.Morsels.{before_schema}
 use Rattle.fetch_stream.proofs.Meaning.{misses_mean_nothing, out_of_range, part_of_groups, range_is, meant, plan_answer}
-use Rattle.fetch_stream.proofs.stream.open_query.Goals as goal
+use Rattle.fetch_stream.proofs.opening.open_query.Goals as goal
 
 pub returns-in_err-planned-clause-refused : goal.returns-in_err-planned-clause-refused
 returns-in_err-planned-clause-refused c =
@@ -34,13 +33,10 @@ returns-clause-opened c =
     let plan = plan_of planned.plan in
     let from = c.args.range.from in
     let to = c.args.range.to in
-    let scan = c.in_ok-scan.scan in
     let within : to ≤ planned.rows = omega (arith, c.if-to-planned.false) in
     let is = c.in_ok-planned.ensures.planned in
     let range = range_is database from to planned.rows planned.grouped c.args.text.now plan is (omega (arith, c.requires)) within
     (λ groups. omega (arith, c.least_rows-least.ensures.whole groups, c.if-count-least.false)) in
     let means = meant database from to planned.rows planned.grouped c.args.text.now plan is range in
-    let rows : left scan ≡ plan_rows plan database from to = c.in_ok-scan.ensures.rows catalog c.in_ok-planned.ensures.held in
-    let schema : scan.schema ≡ plan.schema = c.in_ok-scan.ensures.begins.schema in
-    let nothing : rows_of c.new-nothing.result ≡ [] = rw c.new-nothing.ensures refl in
-    (plan_answer plan database from to, means, c.of.ensures ∙ opens_behind scan.schema (rows_of c.new-nothing.result) (left scan) (plan_answer plan database from to) schema nothing rows)
+    let rows = rows_law catalog planned.plan from to c.plan-typed.ensures.typed c.tables-columns.ensures.columns c.in_ok-planned.ensures.held in
+    (plan_answer plan database from to, means, c.of.ensures ∙ ap (λ (some : List Row). before_schema planned.plan.schema some) rows)

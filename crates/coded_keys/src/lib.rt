@@ -1,0 +1,9 @@
+//! Rows of a batch that have the key of an earlier row, told without a look at the texts of a dictionary.
+#![tactic(auto)]
+
+mod codes;
+pub mod rows;
+pub mod seen;
+
+pub use crate::rows::KeyRows;
+pub use crate::seen::SeenRows;

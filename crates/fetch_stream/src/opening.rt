@@ -1,0 +1,328 @@
+//! Openings: what a handle means, before a row of it is read.
+
+ghost use Rattle.std.specs.Prelude.{◌≡◌, ◌≢◌, ◌≤◌, true, false, length, nat_le, Err, IfOk, IfErr};
+ghost use Rattle.scan_base.specs.declared.fault.Fault.TheVariants.{BadTicket, LimitReached, OutOfMemory};
+ghost use Rattle.scan_base.specs.Limits.{most_query_bytes};
+ghost use Rattle.scan_base.specs.Reading.{RefusesFirst, demand};
+ghost use Rattle.endpoint_split.specs.Seen.{handle_seen};
+ghost use Rattle.arrow_schema.specs.Schema.{IsSchema};
+ghost use Rattle.table_versions.specs.Table.{Table};
+ghost use Rattle.table_versions.specs.Stored.{tables_of};
+ghost use Rattle.flight_info.specs.Meant.{Meant};
+ghost use Rattle.flight_info.specs.Tables.{tables_listed};
+ghost use Rattle.fetch_stream.specs.Fetches.{may_mean};
+ghost use Rattle.fetch_stream.specs.Morsels.{GivesSchema, before_schema};
+ghost use Rattle.fetch_stream.specs.Streams.{Opens, opened};
+ghost use Rattle.fetch_stream.specs.inside.Opening.{IsMeaning, rows_meant, stream_meant};
+
+use crate::message::said_schema;
+use crate::payload::Payload;
+use crate::source::Source;
+use crate::stream::FetchStream;
+use arrays::Batch;
+use arrow_schema::Schema;
+use endpoint_split::{Handle, Range};
+use flight_info::{Planned, plan_text, tables_batch, tables_schema};
+use hash_seed::HashSeed;
+use scan_base::Fault;
+use scan_exec::Scan;
+use std::alloc::{AllocError, Global};
+use std::marker::Model;
+use table_versions::{CatalogVersion, Snapshot};
+use typed_plan::{Output, TypedPlan};
+
+// How many rows of a place are joined or grouped in no time that shows.
+const FEW_ROWS: usize = 64;
+
+// A query that is planned, the range of its first place that is scanned, and what the hashes of its keys begin with.
+pub(crate) struct PlannedScan {
+    pub(crate) seed: HashSeed,
+    pub(crate) plan: TypedPlan,
+    pub(crate) from: usize,
+    pub(crate) to: usize,
+}
+
+// Written out, so that dropping it is one call (docs/DECISIONS.md).
+impl Drop for PlannedScan {
+    fn drop(self) {
+        let PlannedScan {
+            seed: _,
+            plan: _,
+            from: _,
+            to: _,
+        } = self;
+    }
+}
+
+// What is meant: a scan that is not made yet, or the list of tables.
+pub(crate) enum Meaning {
+    Planned(PlannedScan),
+    Listed(FetchStream),
+}
+
+// Written out, so that dropping it is one call (docs/DECISIONS.md).
+impl Drop for Meaning {
+    fn drop(self) {
+        match self {
+            Meaning::Planned(_) => {}
+            Meaning::Listed(_) => {}
+        }
+    }
+}
+
+/// What a handle means, before a row of it is read. Its first payload can be told at once, and making its stream may take long:
+/// the further places of a join are read and hashed then. A contract sees the stream, of which nothing was given.
+pub struct Opening {
+    meaning: Meaning,
+    // How many workers may make payloads, and how many rows the range has (`FetchStream`).
+    workers: usize,
+    rows: usize,
+}
+
+impl Model for Opening {
+    ghost use Rattle.fetch_stream.specs.Streams.{StreamAt};
+    ghost use Rattle.fetch_stream.specs.inside.Opening.{IsMeaning, stream_meant};
+
+    ghost Value = { StreamAt };
+
+    ghost view = { λ o. stream_meant o.meaning };
+
+    ghost invariant = { λ o. IsMeaning o.meaning };
+}
+
+// Written out, so that dropping it is one call (docs/DECISIONS.md).
+impl Drop for Opening {
+    fn drop(self) {
+        let Opening {
+            meaning: _,
+            workers: _,
+            rows: _,
+        } = self;
+    }
+}
+
+impl Opening {
+    // Of what is meant.
+    fn of(meaning: Meaning) -> Opening
+        requires { IsMeaning meaning }
+        ensures { result ≡ stream_meant meaning }
+    {
+        Opening {
+            meaning,
+            workers: 1,
+            rows: 0,
+        }
+    }
+
+    // The same, with so many workers, of a range of so many rows.
+    fn with_work(self, workers: usize, rows: usize) -> Opening
+        ensures { result ≡ self }
+    {
+        let Opening {
+            meaning,
+            workers: _,
+            rows: _,
+        } = self;
+        Opening {
+            meaning,
+            workers,
+            rows,
+        }
+    }
+
+    /// What a handle means at a version of the catalog. A dictionary of texts is answered as texts. The list of tables has a row
+    /// for each table of this version, in byte order of the names. So many workers may make the payloads, if an executor lets
+    /// them: what its stream gives is the same for any number.
+    ///
+    /// # Errors
+    ///
+    /// F17 (`Fault::BadTicket`) where the query does not parse or is not bound at this version, where the range is not
+    /// within the rows of its first place, and where the query makes groups and the range is not all of them, so never for
+    /// the list of tables; F21 (`Fault::OutOfMemory`) where memory is
+    /// refused, but neither for a query of more than 16,384 bytes nor for a range that ends before it begins.
+    pub fn new(
+        alloc: Global,
+        snapshot: &Snapshot,
+        handle: &Handle<'_>,
+        workers: usize,
+    ) -> Result<Opening, Fault>
+        ensures opens { Opens (tables_of snapshot.now.catalog) (handle_seen handle.now) result }
+        ensures first { may_mean (handle_seen handle.now) ≡ false → result ≡ Err BadTicket }
+    {
+        let opening = open(alloc, snapshot.catalog(), handle)?;
+        Ok(opening.with_work(workers, rows_asked(handle)))
+    }
+
+    /// The payload of the schema, behind which the stream is `FetchStream::behind_schema`.
+    ///
+    /// # Errors
+    ///
+    /// F21 (`Fault::OutOfMemory`) where memory is refused.
+    pub fn first_payload(&self, alloc: Global) -> Result<Payload, Fault>
+        ensures gives { GivesSchema self.now.schema result }
+        ensures before { self.now ≡ before_schema self.now.schema self.now.left }
+    {
+        said_schema(alloc, schema_of(&self.meaning))
+    }
+
+    /// Whether its second payload may come late: it joins or makes groups, and a place has more than 64 rows. Contracts say
+    /// nothing of it.
+    pub fn takes_long(&self) -> bool {
+        match &self.meaning {
+            Meaning::Planned(scan) => scan.takes_long(),
+            Meaning::Listed(_) => false,
+        }
+    }
+
+    /// The stream. The further places of a join are read here.
+    ///
+    /// # Errors
+    ///
+    /// `AllocError` where memory is refused.
+    pub fn stream(self, alloc: Global) -> Result<FetchStream, AllocError>
+        ensures { IfOk result (λ stream. stream ≡ self) }
+    {
+        let Opening {
+            meaning,
+            workers,
+            rows,
+        } = self;
+        let stream = meaning.stream(alloc)?;
+        Ok(stream.with_work(workers, rows))
+    }
+}
+
+impl Meaning {
+    // The stream of it.
+    fn stream(self, alloc: Global) -> Result<FetchStream, AllocError>
+        requires { IsMeaning self }
+        ensures { IfOk result (λ stream. stream ≡ stream_meant self) }
+    {
+        match self {
+            Meaning::Planned(scan) => scan.stream(alloc),
+            Meaning::Listed(stream) => Ok(stream),
+        }
+    }
+}
+
+impl PlannedScan {
+    // The stream of it. The scan is made here.
+    fn stream(self, alloc: Global) -> Result<FetchStream, AllocError>
+        requires { IsSchema self.plan.schema }
+        ensures { IfOk result (λ stream. stream ≡ before_schema self.plan.schema (rows_meant self)) }
+    {
+        let PlannedScan {
+            seed,
+            plan,
+            from,
+            to,
+        } = self;
+        let scan = Scan::new(alloc, seed, plan, from..to)?;
+        let nothing = Batch::new(Vec::new(alloc), 0);
+        Ok(FetchStream::of(nothing, Source::Scanned(scan)))
+    }
+
+    // Whether it joins or makes groups, and a place has more than a few rows.
+    fn takes_long(&self) -> bool {
+        let tables = self.plan.tables();
+        if tables.len() < 2 && !matches!(self.plan.output(), Output::Groups { .. }) {
+            return false;
+        }
+        for table in tables {
+            if table.rows() > FEW_ROWS {
+                return true;
+            }
+        }
+        false
+    }
+}
+
+// The schema of what is meant.
+fn schema_of(meaning: &Meaning) -> &Schema
+    requires { IsMeaning meaning.now }
+    ensures is { result.now ≡ (stream_meant meaning.now).schema }
+    ensures valid { IsSchema result.now }
+{
+    match meaning {
+        Meaning::Planned(scan) => scan.plan.schema(),
+        Meaning::Listed(stream) => stream.schema(),
+    }
+}
+
+// How many rows the range of a handle has.
+fn rows_asked(handle: &Handle<'_>) -> usize {
+    match handle {
+        Handle::Query { range, .. } => range.to.saturating_sub(range.from) as usize,
+        Handle::Tables { .. } => 0,
+    }
+}
+
+// How many rows a range of a query has at least: all of the first place, where the query makes groups.
+fn least_rows(planned: &Planned) -> usize
+    ensures whole { planned.now.grouped ≡ true → result ≡ planned.now.rows }
+    ensures part { planned.now.grouped ≡ false → result ≡ 0 }
+{
+    if planned.grouped { planned.rows } else { 0 }
+}
+
+// What a handle means.
+fn open(alloc: Global, catalog: &CatalogVersion, handle: &Handle<'_>) -> Result<Opening, Fault>
+    ensures opens { Opens (tables_of catalog.now) (handle_seen handle.now) result }
+    ensures first { may_mean (handle_seen handle.now) ≡ false → result ≡ Err BadTicket }
+{
+    match handle {
+        Handle::Query { range, .. } if range.from > range.to => Err(Fault::BadTicket),
+        Handle::Query { range, query, .. } => match open_query(alloc, catalog, query, *range) {
+            Err(fault) if fault != Fault::OutOfMemory => Err(Fault::BadTicket),
+            opened => opened,
+        },
+        Handle::Tables { .. } => Ok(open_tables(alloc, catalog)?),
+    }
+}
+
+// What a query means over a range of its first place, which does not end before it begins.
+fn open_query(
+    alloc: Global,
+    catalog: &CatalogVersion,
+    text: &str,
+    range: Range,
+) -> Result<Opening, Fault>
+    requires ordered { range.from ≤ range.to }
+    ensures opened { IfOk result (λ opening. (answer : Table)
+        × Meant (tables_of catalog.now) range.from range.to text.now answer × (opening ≡ opened answer)) }
+    ensures refused { IfErr result (λ fault. fault ≢ OutOfMemory →
+        (answer : Table) → Meant (tables_of catalog.now) range.from range.to text.now answer → ⊥) }
+    ensures first { RefusesFirst result (demand (nat_le (length text.now) most_query_bytes) LimitReached) }
+{
+    let planned = plan_text(alloc, catalog, text)?;
+    let (from, to) = (range.from as usize, range.to as usize);
+    if to > planned.rows {
+        return Err(Fault::BadTicket);
+    }
+    let count = to - from;
+    let least = least_rows(&planned);
+    if count < least {
+        return Err(Fault::BadTicket);
+    }
+    let _typed = planned.plan.plan();
+    let _columns = planned.plan.tables();
+    let seed = catalog.seed();
+    let plan = planned.plan;
+    let scan = PlannedScan {
+        seed,
+        plan,
+        from,
+        to,
+    };
+    Ok(Opening::of(Meaning::Planned(scan)))
+}
+
+// The list of tables.
+fn open_tables(alloc: Global, catalog: &CatalogVersion) -> Result<Opening, AllocError>
+    ensures { IfOk result (λ opening. opening ≡ opened (tables_listed (tables_of catalog.now))) }
+{
+    let schema = tables_schema(alloc)?;
+    let batch = tables_batch(alloc, catalog)?;
+    let stream = FetchStream::of(batch, Source::Listed(schema));
+    Ok(Opening::of(Meaning::Listed(stream)))
+}

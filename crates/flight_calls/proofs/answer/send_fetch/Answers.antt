@@ -1,0 +1,43 @@
+use Rattle.std.proofs.Common.{inl, refl}
+use Rattle.std.proofs.lemmas.Result.{err_from_is_err_and}
+use Rattle.flight_calls.proofs.Streaming.{first_given, made_behind, sends_fetch, stream_begins, stream_ends_by, stream_fails, stream_goes_on, stream_rest}
+use Rattle.flight_calls.proofs.answer.send_fetch.Goals as goal
+
+-- no memory for the first payload
+pub returns-in-Err-clause-bytes : goal.returns-in-Err-clause-bytes
+returns-in-Err-clause-bytes g c database handle opens =
+    let law = c.streams_answer.ensures in
+    let opening = c.args.opening in
+    sends_fetch database handle law opening _ _ _ _ _ opens
+    (stream_ends_by law _ _ opening opening _ _ _ _ _ _ (stream_begins law opening _ _) (λ none. inl c.in-Err.ensures.gives) c.send_status.ensures.bytes)
+
+-- it was not sent
+pub returns-in_err-send_first-clause-bytes : goal.returns-in_err-send_first-clause-bytes
+returns-in_err-send_first-clause-bytes g c =
+    let p = err_from_is_err_and c.from_residual.result c.from_residual.ensures.1 in
+    let law = c.streams_answer.ensures in
+    let opening = c.args.opening in
+    let gives = first_given opening c.in-Ok.first c.in-Ok.ensures.before c.in-Ok.ensures.gives in
+    rw p.1 (λ database handle opens. sends_fetch database handle law opening _ _ _ _ _ opens
+    (stream_fails law _ opening opening _ _ _ _ _ _ _ _ (stream_begins law opening _ _) gives c.in_err-send_first.ensures.bytes))
+
+-- it was, and then the rest, or not
+pub returns-in-Ok-stream-clause-bytes : goal.returns-in-Ok-stream-clause-bytes
+returns-in-Ok-stream-clause-bytes g c database handle opens =
+    let law = c.streams_answer.ensures in
+    let opening = c.args.opening in
+    let gives = first_given opening c.in-Ok.first c.in-Ok.ensures.before c.in-Ok.ensures.gives in
+    let sent = stream_goes_on law opening opening _ _ _ _ _ _ _ _ (stream_begins law opening _ _) gives c.in_ok-send_first.ensures.bytes in
+    let made = made_behind opening c.in-Ok-stream.stream c.behind_schema.result c.in-Ok.ensures.before c.in-Ok-stream.ensures c.behind_schema.ensures in
+    sends_fetch database handle law opening _ _ _ _ _ opens
+    (stream_rest law _ opening _ _ made _ _ _ _ _ _ sent c.send_rest.ensures.bytes)
+
+-- no memory for the rest
+pub returns-clause-bytes : goal.returns-clause-bytes
+returns-clause-bytes g c database handle opens =
+    let law = c.streams_answer.ensures in
+    let opening = c.args.opening in
+    let gives = first_given opening c.in-Ok.first c.in-Ok.ensures.before c.in-Ok.ensures.gives in
+    let sent = stream_goes_on law opening opening _ _ _ _ _ _ _ _ (stream_begins law opening _ _) gives c.in_ok-send_first.ensures.bytes in
+    sends_fetch database handle law opening _ _ _ _ _ opens
+    (stream_ends_by law _ _ opening _ _ _ _ _ _ _ sent (λ none. inl refl) c.send_status-in-Err-stream.ensures.bytes)
