@@ -15,6 +15,9 @@ last word is 0. Under a null of fixed width such a column has zeros.
 A line `Slots 5 20 Int8 9 ..` has a column of 40 slots of the column that stands behind it: for each of 20 turns one of all
 its slots and one of those that are kept, the next turn's five further on, and from the front again behind the last. Under
 a null of fixed width it has zeros, and where the column has a dictionary it is one of texts.
+
+A line `Coded ..` has the column of texts that stands behind the word: as indices over its own texts, then those texts, and then
+the indices once more, since the program codes the column in a batch and alone.
 """
 
 import sys
@@ -184,21 +187,36 @@ def picked(step, turns, kind, count, validity, values, behind, first, to):
     return slots, anew(kind if behind == "-" or kind == "Utf8" else "Utf8", slots)
 
 
-def answer(line):
+def column_of(line):
+    """The slots and the buffers of a line's column."""
     if line.startswith("Built "):
         _, kind, count, nulls = line.split()
-        return told(*built(kind, int(count), int(nulls)))
+        return built(kind, int(count), int(nulls))
     if line.startswith("Slots "):
         _, step, turns, *words = line.split()
-        return told(*picked(int(step), int(turns), *words))
+        return picked(int(step), int(turns), *words)
     kind, count, validity, values, behind, first, to, *step = line.split()
     places = range(int(first), int(to), int(step[0]) if step else 1)
+    all_slots = slots_of(kind, int(count), validity, values, behind)
+    slots = [all_slots[place] for place in places]
+    return slots, written(kind, values, places, slots)
+
+
+def coded(slots):
+    """The same slots as indices of four bytes over their own texts, each once and by first appearance; and those texts."""
+    firsts = {text: place for place, text in enumerate(dict.fromkeys(slot for slot in slots if slot is not None))}
+    indices = told(slots, anew("Int32", [None if slot is None else firsts[slot] for slot in slots]))
+    texts = list(firsts)
+    return "\n".join([indices, told(texts, anew("Utf8", texts)), indices])
+
+
+def answer(line):
     try:
-        all_slots = slots_of(kind, int(count), validity, values, behind)
+        if line.startswith("Coded "):
+            return coded(column_of(line.removeprefix("Coded "))[0])
+        return told(*column_of(line))
     except Bad:
         return BAD
-    slots = [all_slots[place] for place in places]
-    return told(slots, written(kind, values, places, slots))
 
 
 def told(slots, buffers):

@@ -2,7 +2,7 @@
 
 ghost use Rattle.std.specs.Prelude.{◌≡◌, ◌≤◌, ◌<◌, ◌^◌, All, IfOk, length, map};
 ghost use Rattle.scan_base.specs.Value.{value_of};
-ghost use Rattle.arrow_schema.specs.Answer.{answer_type};
+ghost use Rattle.arrow_schema.specs.Answer.{copied_type};
 ghost use Rattle.arrow_schema.specs.declared.data_type.DataType.{DataType};
 ghost use Rattle.arrow_schema.specs.declared.data_type.DataType.TheVariants as type;
 ghost use Rattle.arrays.specs.Column.{values_of};
@@ -31,7 +31,7 @@ pub(crate) fn fill_column<S: Source>(
     requires short { length (texts_joined (map S.held slots.now)) < 2 ^ 31 }
     ensures values { IfOk result (λ column. values_of column ≡ map S.held slots.now) }
     ensures long { IfOk result (λ column. column.len ≡ length slots.now) }
-    ensures typed { IfOk result (λ column. IsOfType (answer_type data_type) column.layout) }
+    ensures typed { IfOk result (λ column. IsOfType (copied_type data_type) column.layout) }
 {
     let validity = fill_validity(alloc, slots)?;
     let kept = fill_values(alloc, data_type, slots)?;

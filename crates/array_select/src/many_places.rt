@@ -1,7 +1,7 @@
 //! Slots of several columns at places, in buffers of their own.
 
 ghost use Rattle.std.specs.Prelude.{◌≡◌, ◌<◌, ◌^◌, All, IfOk, false, get_or, length, map, nat_le, not};
-ghost use Rattle.arrow_schema.specs.Answer.{answer_type};
+ghost use Rattle.arrow_schema.specs.Answer.{copied_type};
 ghost use Rattle.scan_base.specs.Value.{is_null};
 ghost use Rattle.scan_base.specs.declared.value.Value.TheVariants.{Null};
 ghost use Rattle.arrays.specs.Column.{slot_of, values_of, IsColumn};
@@ -43,7 +43,7 @@ pub fn gather_many(
     columns: &[&Column],
     places: &[SlotPlace],
 ) -> Result<Column, AllocError>
-    requires plain { answer_type data_type ≡ data_type }
+    requires plain { copied_type data_type ≡ data_type }
     requires typed { All (λ column. IsOfType data_type column.layout) (map (λ column. column.now) columns.now) }
     requires there { All (IsPlaceIn (map (λ column. column.now) columns.now)) places.now }
     requires short { length (texts_joined (map (value_in (map (λ column. column.now) columns.now)) places.now)) < 2 ^ 31 }
@@ -136,7 +136,7 @@ impl<'a> SlotPlaces<'a> {
         validity: &Option<Bits>,
     ) -> Result<Values, AllocError>
         requires there { AreThere self.now }
-        requires plain { answer_type data_type ≡ data_type }
+        requires plain { copied_type data_type ≡ data_type }
         requires typed { All (λ column. IsOfType data_type column.layout) (columns_of self.now) }
         requires short { length (texts_joined (values_at self.now)) < 2 ^ 31 }
         requires stand { All IsColumn (columns_of self.now) }

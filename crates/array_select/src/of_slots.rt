@@ -1,7 +1,7 @@
 //! Columns of the slots of others.
 
 ghost use Rattle.std.specs.Prelude.{◌≡◌, ◌<◌, ◌^◌, All, IfOk, length, map, nat_le};
-ghost use Rattle.arrow_schema.specs.Answer.{answer_type};
+ghost use Rattle.arrow_schema.specs.Answer.{copied_type};
 ghost use Rattle.arrays.specs.Column.{values_of};
 ghost use Rattle.array_select.specs.OfSlots.{slot_value, IsSlotOf};
 ghost use Rattle.arrays.specs.Typed.{IsOfType};
@@ -34,7 +34,7 @@ pub fn column_of_slots(
     requires short { length (texts_joined (map slot_value slots.now)) < 2 ^ 31 }
     ensures values { IfOk result (λ column. values_of column ≡ map slot_value slots.now) }
     ensures long { IfOk result (λ column. column.len ≡ length slots.now) }
-    ensures typed { IfOk result (λ column. IsOfType (answer_type data_type) column.layout) }
+    ensures typed { IfOk result (λ column. IsOfType (copied_type data_type) column.layout) }
 {
     fill_column(alloc, data_type, slots)
 }

@@ -138,7 +138,7 @@ impl Heard {
     fn texts_again(&self, alloc: Global) -> Result<Heard> {
         let message = self.written_texts(alloc)?;
         let schema = self.reader.schema().context("no schema")?;
-        let mut heard = schema_again(alloc, &schema.answered(alloc)?)?;
+        let mut heard = schema_again(alloc, &schema.plain(alloc)?)?;
         heard.answer = read(alloc, &mut heard.reader, &message.header, &message.body)?;
         Ok(heard)
     }

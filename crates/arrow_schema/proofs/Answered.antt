@@ -1,75 +1,49 @@
--- The laws of the columns of an answer.
-use Rattle.std.proofs.Common.{◌≡◌, false, List, [], ◌∷◌, map, None, refl, arith, get_or}
+-- The columns of an answer may be written.
+use Rattle.std.proofs.Common.{◌≡◌, ◌≤◌, ℕ, ◌+◌, false, List, [], ◌∷◌, map, length, refl, ap, ◌∙◌, arith, get_or}
 use Rattle.std.specs.List.{list_any}
-use Rattle.std.proofs.lemmas.List.{length-map}
-use Rattle.std.proofs.lemmas.List.Elements.{All-map}
+use Rattle.scan_base.specs.Limits.{most_columns}
 use Rattle.scan_base.specs.Lists.{repeats}
 use Rattle.arrow_schema.specs.declared.data_type.DataType.{DataType}
 use Rattle.arrow_schema.specs.declared.data_type.DataType.TheVariants.{Integer, Utf8, Bool as Flags, Decimal128, Date, Dictionary}
 use Rattle.arrow_schema.specs.declared.schema.Field.{Field}
 use Rattle.arrow_schema.specs.Header.{same_dictionary, shares_dictionary}
-use Rattle.arrow_schema.specs.Schema.{IsType, IsField}
-use Rattle.arrow_schema.specs.Written.{encoding_of}
-use Rattle.arrow_schema.specs.Answer.{answer_type, answer_field, AnsweredIsSchema, AnsweredIsPlain, AnsweredOnce}
+use Rattle.arrow_schema.specs.Schema.{IsType}
+use Rattle.arrow_schema.specs.Answer.{answered_at, answered_from}
 
-plain : (t : DataType) → encoding_of (answer_type t) ≡ None
-plain (Integer integer) = refl
-plain Utf8 = refl
-plain Flags = refl
-plain Decimal128 = refl
-plain Date = refl
-plain (Dictionary encoding) = refl
+pub answered_typed : (number : ℕ) (t : DataType) → number ≤ most_columns → IsType (answered_at number t)
+answered_typed number (Integer integer) few = tt
+answered_typed number Utf8 few = tt
+answered_typed number Flags few = tt
+answered_typed number Decimal128 few = tt
+answered_typed number Date few = tt
+answered_typed number (Dictionary encoding) few = tt
 
-typed : (t : DataType) → IsType t → IsType (answer_type t)
-typed (Integer integer) is = tt
-typed Utf8 is = tt
-typed Flags is = tt
-typed Decimal128 is = tt
-typed Date is = tt
-typed (Dictionary encoding) is = tt
+unshared : (number : ℕ) (t other : DataType) → shares_dictionary (answered_at number t) other ≡ false
+unshared number (Integer integer) other = refl
+unshared number Utf8 other = refl
+unshared number Flags other = refl
+unshared number Decimal128 other = refl
+unshared number Date other = refl
+unshared number (Dictionary encoding) other = refl
 
-once : (t : DataType) → answer_type (answer_type t) ≡ answer_type t
-once (Integer integer) = refl
-once Utf8 = refl
-once Flags = refl
-once Decimal128 = refl
-once Date = refl
-once (Dictionary encoding) = refl
+none_shared : (number : ℕ) (t : DataType) (field : Field) (others : List Field) → field.data_type ≡ answered_at number t →
+    list_any (same_dictionary field) others ≡ false
+none_shared number t field [] is = refl
+none_shared number t field (other ∷ others) is =
+    rw (ap (λ (own : DataType). shares_dictionary own other.data_type) is ∙ unshared number t other.data_type, none_shared number t field others is) refl
 
-unshared : (t other : DataType) → shares_dictionary (answer_type t) other ≡ false
-unshared (Integer integer) other = refl
-unshared Utf8 other = refl
-unshared Flags other = refl
-unshared Decimal128 other = refl
-unshared Date other = refl
-unshared (Dictionary encoding) other = refl
+-- columns of answered types have no dictionary in common
+pub answered_apart : (number : ℕ) (fields : List Field) (types : List DataType) →
+    map (λ (field : Field). field.data_type) fields ≡ answered_from number types → repeats same_dictionary fields ≡ false
+answered_apart number [] types are = refl
+answered_apart number (field ∷ fields) [] are = absurd (omega (arith, ap length are))
+answered_apart number (field ∷ fields) (t ∷ types) are =
+    rw (none_shared number t field fields (ap first are), answered_apart (number + 1) fields types (ap rest are)) refl
+  where
+    first : List DataType → DataType
+    first [] = Utf8
+    first (one ∷ more) = one
 
-none_shared : (field : Field) (others : List Field) → list_any (same_dictionary (answer_field field)) others ≡ false
-none_shared field [] = refl
-none_shared field (other ∷ others) = rw (unshared field.data_type other.data_type, none_shared field others) refl
-
-apart : (fields : List Field) → repeats same_dictionary (map answer_field fields) ≡ false
-apart [] = refl
-apart (field ∷ fields) = rw (none_shared field (map answer_field fields), apart fields) refl
-
-pub answered_is_schema : AnsweredIsSchema
-answered_is_schema schema is =
-    let count = length-map schema.fields answer_field in
-    let some = is.some in
-    let few = is.few in
-    record {
-      some = omega arith;
-      few = omega arith;
-      fields = All-map IsField answer_field schema.fields (λ k d lt. (let field = is.fields k d lt in record { named = field.named; typed = typed (get_or schema.fields k d).data_type field.typed }));
-      apart = apart schema.fields;
-    }
-
-pub answered_is_plain : AnsweredIsPlain
-answered_is_plain schema = All-map (λ (field : Field). encoding_of field.data_type ≡ None) answer_field schema.fields (λ k d lt. plain (get_or schema.fields k d).data_type)
-
-fields_once : (fields : List Field) → map answer_field (map answer_field fields) ≡ map answer_field fields
-fields_once [] = refl
-fields_once (field ∷ fields) = rw (once field.data_type, fields_once fields) refl
-
-pub answered_once : AnsweredOnce
-answered_once schema = rw (fields_once schema.fields) refl
+    rest : List DataType → List DataType
+    rest [] = []
+    rest (one ∷ more) = more

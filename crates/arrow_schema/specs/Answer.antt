@@ -1,5 +1,6 @@
--- The columns of an answer.
-use Rattle.std.specs.Prelude.{◌≡◌, map, All, None}
+-- The types of columns that are copied, and of those of an answer.
+use Rattle.std.specs.Prelude.{◌≡◌, ◌⊎◌, ℕ, ◌+◌, List, [], ◌∷◌, map, All, None}
+use Rattle.std.specs.List.{AllZip}
 use Rattle.arrow_schema.specs.declared.data_type.DataType.{DataType}
 use Rattle.arrow_schema.specs.declared.data_type.DataType.TheVariants.{Utf8, Dictionary}
 use Rattle.arrow_schema.specs.declared.schema.Field.{Field}
@@ -7,27 +8,51 @@ use Rattle.arrow_schema.specs.declared.schema.Schema.{Schema}
 use Rattle.arrow_schema.specs.Schema.{IsSchema}
 use Rattle.arrow_schema.specs.Written.{encoding_of}
 
--- until dictionary answers are built, a dictionary of texts is answered as texts
-abbrev pub answer_type : DataType → DataType
-answer_type (Dictionary encoding) = Utf8
-answer_type other = other
+-- slots that are copied from several columns have no dictionary in common: where those are dictionaries, they lie as texts
+abbrev pub copied_type : DataType → DataType
+copied_type (Dictionary encoding) = Utf8
+copied_type other = other
+
+-- columns of the one type lie as one of the other: of that type itself, or of the one in which they are copied
+abbrev pub LiesAs : DataType → DataType → Type 0
+LiesAs data_type lies = (lies ≡ data_type) ⊎ (lies ≡ copied_type data_type)
+
+-- The type of the result's column of this number, counted from 0, for values of this type. Until dictionary answers are
+-- built, a dictionary of texts is answered as texts.
+abbrev pub answered_at : ℕ → DataType → DataType
+answered_at number (Dictionary encoding) = Utf8
+answered_at number other = other
+
+-- the same of columns one beside another, the first of which has this number
+abbrev pub answered_from : ℕ → List DataType → List DataType
+answered_from number [] = []
+answered_from number (data_type ∷ types) = answered_at number data_type ∷ answered_from (number + 1) types
 
 -- a column keeps its name, and whether it may be null
-abbrev pub answer_field : Field → Field
-answer_field field = record field { data_type = answer_type field.data_type }
+abbrev pub answered_field : ℕ → Field → Field
+answered_field number field = record field { data_type = answered_at number field.data_type }
 
--- the columns of a table, all of them, in order
-abbrev pub answer_schema : Schema → Schema
-answer_schema schema = record { fields = map answer_field schema.fields }
+-- Columns of these types lie behind the fields of a result, which say as what their values are answered.
+pub record LieBehind (fields : List Field) (lies : List DataType) : Type 0 where
+  pub types : List DataType
+  pub answered : map (λ field. field.data_type) fields ≡ answered_from 0 types
+  pub lie : AllZip LiesAs types lies
 
--- what answers a schema is one
-abbrev pub AnsweredIsSchema : Type 0
-AnsweredIsSchema = (schema : Schema) → IsSchema schema → IsSchema (answer_schema schema)
+-- the columns of a schema, each dictionary of texts as texts
+abbrev pub plain_field : Field → Field
+plain_field field = record field { data_type = copied_type field.data_type }
 
--- no column of an answer has a dictionary
-abbrev pub AnsweredIsPlain : Type 0
-AnsweredIsPlain = (schema : Schema) → All (λ (field : Field). encoding_of field.data_type ≡ None) (answer_schema schema).fields
+abbrev pub plain_schema : Schema → Schema
+plain_schema schema = record { fields = map plain_field schema.fields }
 
--- what answers an answer is that answer
-abbrev pub AnsweredOnce : Type 0
-AnsweredOnce = (schema : Schema) → answer_schema (answer_schema schema) ≡ answer_schema schema
+-- without its dictionaries a schema is one
+abbrev pub PlainIsSchema : Type 0
+PlainIsSchema = (schema : Schema) → IsSchema schema → IsSchema (plain_schema schema)
+
+-- no column has a dictionary then
+abbrev pub PlainHasNone : Type 0
+PlainHasNone = (schema : Schema) → All (λ (field : Field). encoding_of field.data_type ≡ None) (plain_schema schema).fields
+
+-- and there is nothing more to take away
+abbrev pub PlainStays : Type 0
+PlainStays = (schema : Schema) → plain_schema (plain_schema schema) ≡ plain_schema schema

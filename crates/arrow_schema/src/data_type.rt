@@ -1,7 +1,7 @@
 //! The types of columns.
 
 ghost use Rattle.std.specs.Prelude.{◌≡◌};
-ghost use Rattle.arrow_schema.specs.Answer.{answer_type};
+ghost use Rattle.arrow_schema.specs.Answer.{answered_at, copied_type};
 ghost use Rattle.arrow_schema.specs.DataType.{bit_width, is_signed};
 
 /// The whole numbers of fixed width.
@@ -64,10 +64,21 @@ impl IntegerType {
 }
 
 impl DataType {
-    /// The type as which a column of this type is answered. Until dictionary answers are built, a
-    /// dictionary of texts is answered as texts.
-    pub fn answered(self) -> DataType
-        ensures { result ≡ answer_type self }
+    /// The type in which slots lie that are copied from columns of this type: those of a dictionary lie
+    /// as texts.
+    pub fn copied(self) -> DataType
+        ensures { result ≡ copied_type self }
+    {
+        match self {
+            DataType::Dictionary(_) => DataType::Utf8,
+            other => other,
+        }
+    }
+
+    /// The type of the result's column of this number, counted from 0, for values of this type. Until
+    /// dictionary answers are built, a dictionary of texts is answered as texts.
+    pub fn answered(self, _number: u64) -> DataType
+        ensures { result ≡ answered_at _number self }
     {
         match self {
             DataType::Dictionary(_) => DataType::Utf8,

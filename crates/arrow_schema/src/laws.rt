@@ -1,6 +1,6 @@
 //! Laws. Each function here has an empty body: its contract is the law.
 
-ghost use Rattle.arrow_schema.specs.Answer.{AnsweredIsSchema, AnsweredIsPlain, AnsweredOnce};
+ghost use Rattle.arrow_schema.specs.Answer.{PlainIsSchema, PlainHasNone, PlainStays};
 ghost use Rattle.arrow_schema.specs.Message.{MessagesReadBack};
 ghost use Rattle.arrow_schema.specs.Written.{SchemasReadBack};
 ghost use Rattle.arrow_schema.specs.Says.{ReadIsSaid, ReadIsSchema};
@@ -29,19 +29,19 @@ pub fn read_schemas_are_schemas()
     ensures { ReadIsSchema }
 {}
 
-/// The columns as which those of a schema are answered may be written.
-pub fn answered_schemas_are_schemas()
-    ensures { AnsweredIsSchema }
+/// The columns of a schema may be written without their dictionaries.
+pub fn plain_schemas_are_schemas()
+    ensures { PlainIsSchema }
 {}
 
-/// No column is answered with a dictionary.
-#[tactic(auto, using(crate::proofs::Answered::answered_is_plain))]
-pub fn answered_schemas_are_plain()
-    ensures { AnsweredIsPlain }
+/// No column has a dictionary then.
+#[tactic(auto, using(crate::proofs::Plain::plain_has_none))]
+pub fn plain_schemas_have_none()
+    ensures { PlainHasNone }
 {}
 
-/// What is answered of an answer's columns is those columns.
-#[tactic(auto, using(crate::proofs::Answered::answered_once))]
-pub fn answered_schemas_are_answered_once()
-    ensures { AnsweredOnce }
+/// Columns without dictionaries stay as they are.
+#[tactic(auto, using(crate::proofs::Plain::plain_stays))]
+pub fn plain_schemas_stay()
+    ensures { PlainStays }
 {}

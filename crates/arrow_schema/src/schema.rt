@@ -1,7 +1,7 @@
 //! The columns of a table.
 
 ghost use Rattle.std.specs.Prelude.{◌≡◌, IfOk};
-ghost use Rattle.arrow_schema.specs.Answer.{answer_field, answer_schema};
+ghost use Rattle.arrow_schema.specs.Answer.{answered_field, plain_field, plain_schema};
 ghost use Rattle.arrow_schema.specs.Schema.{IsSchema};
 
 use crate::data_type::DataType;
@@ -41,15 +41,28 @@ impl Field {
         })
     }
 
-    /// The column as which this one is answered: it keeps its name, and whether a cell may be null.
-    /// It fails with [`AllocError`] where memory is refused, and with no other error.
-    pub fn answered(&self) -> Result<Field, AllocError>
-        ensures { IfOk result (λ answer. answer ≡ answer_field self.now) }
+    /// The result's column of this number, counted from 0, that gives the values of this one: it keeps its
+    /// name, and whether a cell may be null. It fails with [`AllocError`] where memory is refused, and with no
+    /// other error.
+    pub fn answered(&self, number: u64) -> Result<Field, AllocError>
+        ensures { IfOk result (λ answer. answer ≡ answered_field number self.now) }
     {
         Ok(Field {
             name: self.name.clone()?,
             nullable: self.nullable,
-            data_type: self.data_type.answered(),
+            data_type: self.data_type.answered(number),
+        })
+    }
+
+    /// The same column, and a dictionary of texts as texts. It fails with [`AllocError`] where memory is
+    /// refused, and with no other error.
+    pub fn plain(&self) -> Result<Field, AllocError>
+        ensures { IfOk result (λ plain. plain ≡ plain_field self.now) }
+    {
+        Ok(Field {
+            name: self.name.clone()?,
+            nullable: self.nullable,
+            data_type: self.data_type.copied(),
         })
     }
 }
@@ -67,15 +80,15 @@ impl Schema {
         Ok(Schema { fields })
     }
 
-    /// The columns as which these are answered, all of them, in order. It fails with [`AllocError`]
-    /// where memory is refused, and with no other error.
-    pub fn answered(&self, alloc: Global) -> Result<Schema, AllocError>
-        ensures answer { IfOk result (λ answer. answer ≡ answer_schema self.now) }
+    /// The same columns, and each dictionary of texts as texts. It fails with [`AllocError`] where memory is
+    /// refused, and with no other error.
+    pub fn plain(&self, alloc: Global) -> Result<Schema, AllocError>
+        ensures plain { IfOk result (λ plain. plain ≡ plain_schema self.now) }
         ensures valid { IsSchema self.now → IfOk result IsSchema }
     {
         let mut fields = Items::new(alloc);
         for field in self.fields.as_slice() {
-            fields.push(field.answered()?)?;
+            fields.push(field.plain()?)?;
         }
         Ok(Schema { fields })
     }

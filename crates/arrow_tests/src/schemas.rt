@@ -47,11 +47,11 @@ fn copied(rt: HostRuntime) -> Result<(), Fail> {
     Ok(())
 }
 
-// A dictionary of texts is answered as texts.
+// A dictionary of texts is a column of texts then.
 #[test]
-fn answered(rt: HostRuntime) -> Result<(), Fail> {
-    let answer = read_schema(rt.alloc(), &SCHEMA)?.answered(rt.alloc())?;
-    assert!(rt; are_k(answer.fields.as_slice(), DataType::Utf8));
+fn plain(rt: HostRuntime) -> Result<(), Fail> {
+    let plain = read_schema(rt.alloc(), &SCHEMA)?.plain(rt.alloc())?;
+    assert!(rt; are_k(plain.fields.as_slice(), DataType::Utf8));
     Ok(())
 }
 

@@ -2,7 +2,7 @@
 use Rattle.std.specs.Prelude.{◌≡◌, ℕ, List, Result, Ok, Err, MatchResult}
 use Rattle.std.specs.List.{flat_map}
 use Rattle.scan_base.specs.declared.fault.Fault.{Fault}
-use Rattle.arrow_schema.specs.Answer.{answer_schema}
+use Rattle.arrow_schema.specs.Answer.{plain_schema}
 use Rattle.arrays.specs.Batch.{BatchAt, rows_of}
 use Rattle.table_versions.specs.Table.{Table}
 use Rattle.row_lines.specs.Lines.{lines_of}
@@ -31,7 +31,7 @@ table_aligned table = table_of table.schema table.rows
 -- an answer was written as an Arrow IPC stream; or it was not, a beginning of a stream was, and the fault is printed
 pub record TellsStream (table : Table) (status : ExitStatus) (out out' said said' : Said) : Type 0 where
   pub result : Result (Unit {0}) Fault
-  pub wrote : WritesStream result (answer_schema table.schema) table.rows out.bytes out'.bytes
+  pub wrote : WritesStream result (plain_schema table.schema) table.rows out.bytes out'.bytes
   pub counted : CountsTransport result out.failures out'.failures
   pub batches : List BatchAt
   pub are : flat_map rows_of batches ≡ table.rows

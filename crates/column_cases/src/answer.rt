@@ -5,21 +5,37 @@ ghost use Rattle.array_buffers.specs.Written.{buffers_written};
 
 use crate::built::built;
 use crate::case::Case;
+use crate::coded::coded;
 use crate::made::layout;
 use crate::picked::picked;
 use crate::places::gathered;
 use array_buffers::{append_buffer, buffer_count, buffer_length, texts_length};
 use arrays::{Batch, Cells, Column};
+use hash_seed::HashSeed;
 use scan_base::{Fault, ValueRef};
 use std::alloc::Global;
 use std::io;
 
-/// Says the slots and the buffers of a line's column, or why it is refused. Of many slots or bytes it says a sum.
-pub(crate) fn answer(rt: &impl Print, alloc: Global, line: &str) -> io::Result<()> {
-    match kept(alloc, line) {
-        Ok(batch) => tell_all(rt, alloc, batch.columns()),
+/// Says the slots and the buffers of a line's columns, or why it is refused. Of many slots or bytes it says a sum.
+pub(crate) fn answer(rt: &impl Print, alloc: Global, seed: HashSeed, line: &str) -> io::Result<()> {
+    match columns(alloc, seed, line) {
+        Ok(columns) => tell_all(rt, alloc, columns.as_slice()),
         Err(fault) => println!(rt; "{fault}"),
     }
+}
+
+// The column of a line, or what is made of it where it is to be coded.
+fn columns(alloc: Global, seed: HashSeed, line: &str) -> Result<Vec<Column>, Fault> {
+    let mut made = Vec::new(alloc);
+    let of_coded = line.strip_prefix("Coded ");
+    for column in kept(alloc, of_coded.unwrap_or(line))?.columns() {
+        if of_coded.is_some() {
+            made = coded(alloc, seed, column)?;
+        } else {
+            made.push(column.slice(0, column.len())?)?;
+        }
+    }
+    Ok(made)
 }
 
 // The slots that a line builds, picks, keeps, or gathers of those, as a batch of one column.

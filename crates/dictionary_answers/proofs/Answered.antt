@@ -1,5 +1,5 @@
 -- Columns that are answered one by one.
-use Rattle.std.proofs.Common.{◌≡◌, ◌≤◌, ◌<◌, ℕ, zero, suc, ◌+◌, List, [], ◌∷◌, ◌++◌, length, map, take, get_or, refl, sym, ap, ◌∙◌, arith}
+use Rattle.std.proofs.Common.{◌≡◌, ◌≤◌, ◌<◌, ℕ, zero, suc, ◌+◌, List, [], ◌∷◌, ◌++◌, length, map, take, get_or, refl, sym, ap, ◌∙◌, arith, append_assoc, append-nil}
 use Rattle.std.specs.List.{range_with_len}
 use Rattle.std.proofs.lemmas.List.FromFn.{length-map-range_with_len, get_or-map-range_with_len}
 use Rattle.scan_base.specs.declared.value.Value.{Value}
@@ -9,7 +9,7 @@ use Rattle.arrow_schema.specs.declared.data_type.DataType.TheVariants.{Integer, 
 use Rattle.arrow_schema.specs.declared.schema.Field.{Field}
 use Rattle.arrays.specs.Column.{ColumnAt, slot_of, values_of}
 use Rattle.arrays.specs.Batch.{AreLong, row_of, rows_of}
-use Rattle.dictionary_answers.specs.Answer.{IsAnswered, IsCodable, AreAnswered, AreCodable, column_bytes, coded_bytes}
+use Rattle.dictionary_answers.specs.Answer.{IsAnswered, IsCodable, AreAnswered, AreCodable, column_bytes, column_dictionary, coded_bytes, dictionaries_of}
 
 -- one column more
 pub answered_more : (fields : List Field) (columns made : List ColumnAt) (field : Field) (column new : ColumnAt) → AreAnswered fields columns made → IsAnswered field.data_type column new →
@@ -43,6 +43,22 @@ bytes_and [] [] field column long = omega arith
 bytes_and (f ∷ fields) (c ∷ columns) field column long = omega (arith, bytes_and fields columns field column (omega (arith, long)))
 bytes_and [] (c ∷ columns) field column long = absurd (omega (arith, long))
 bytes_and (f ∷ fields) [] field column long = absurd (omega (arith, long))
+
+-- the dictionaries of one column more
+abbrev pub own_dictionary : ℕ → Field → ColumnAt → List (ℕ × List Value)
+own_dictionary number field column = map (λ values. (number, values)) (column_dictionary field.data_type column)
+
+pub dictionaries_and : (number place : ℕ) (fields : List Field) (columns : List ColumnAt) (field : Field) (column : ColumnAt) →
+    length fields ≡ length columns → number + length fields ≡ place →
+    dictionaries_of number (fields ++ field ∷ []) (columns ++ column ∷ []) ≡ dictionaries_of number fields columns ++ own_dictionary place field column
+dictionaries_and number place [] [] field column long at =
+    append-nil (own_dictionary number field column) ∙ ap (λ (n : ℕ). own_dictionary n field column) (omega (arith, at))
+dictionaries_and number place (f ∷ fields) (c ∷ columns) field column long at =
+    ap (λ (more : List (ℕ × List Value)). own_dictionary number f c ++ more)
+    (dictionaries_and (number + 1) place fields columns field column (omega (arith, long)) (omega (arith, at)))
+    ∙ sym (append_assoc (own_dictionary number f c) (dictionaries_of (number + 1) fields columns) (own_dictionary place field column))
+dictionaries_and number place [] (c ∷ columns) field column long at = absurd (omega (arith, long))
+dictionaries_and number place (f ∷ fields) [] field column long at = absurd (omega (arith, long))
 
 -- the first columns have no more than all
 pub bytes_front : (n : ℕ) (fields : List Field) (columns : List ColumnAt) → coded_bytes (take n fields) (take n columns) ≤ coded_bytes fields columns

@@ -1,5 +1,6 @@
 -- Columns as they are answered: those of dictionaries as indices of 32 bits over the texts that they hold, and no others.
-use Rattle.std.specs.Prelude.{◌≡◌, ℕ, ◌+◌, List, [], ◌∷◌, All, map}
+use Rattle.std.specs.Prelude.{◌≡◌, ℕ, ◌+◌, List, [], ◌∷◌, ◌++◌, All, map}
+use Rattle.scan_base.specs.declared.value.Value.{Value}
 use Rattle.scan_base.specs.declared.value.Value.TheVariants.{Text}
 use Rattle.scan_base.specs.Value.{IsTextOrNull}
 use Rattle.arrow_schema.specs.declared.data_type.IntegerType.TheVariants.{Int32}
@@ -9,6 +10,8 @@ use Rattle.arrow_schema.specs.declared.schema.Field.{Field}
 use Rattle.arrays.specs.declared.layout.Layout.TheVariants as layout
 use Rattle.arrays.specs.Indices.{IndicesAt}
 use Rattle.arrays.specs.Column.{ColumnAt, values_of}
+use Rattle.arrays.specs.Texts.{texts_values}
+use Rattle.dictionary_answers.specs.declared.batches.ColumnDictionary.{ColumnDictionary}
 use Rattle.dictionary_answers.specs.Firsts.{firsts, bytes_in}
 
 -- the column lies as indices of 32 bits over a dictionary of these texts
@@ -33,6 +36,11 @@ abbrev pub column_bytes : DataType → ColumnAt → ℕ
 column_bytes (Dictionary encoding) column = bytes_in (firsts (values_of column))
 column_bytes _ column = 0
 
+-- the values of the dictionary over which a column lies then, if it lies over one
+abbrev pub column_dictionary : DataType → ColumnAt → List (List Value)
+column_dictionary (Dictionary encoding) column = map Text (firsts (values_of column)) ∷ []
+column_dictionary _ column = []
+
 -- the same of one column for each field
 abbrev pub AreCodable : List Field → List ColumnAt → Type 0
 AreCodable [] [] = Unit {0}
@@ -43,6 +51,16 @@ abbrev pub AreAnswered : List Field → List ColumnAt → List ColumnAt → Type
 AreAnswered [] [] [] = Unit {0}
 AreAnswered (field ∷ fields) (column ∷ columns) (made ∷ more) = IsAnswered field.data_type column made × AreAnswered fields columns more
 AreAnswered _ _ _ = ⊥
+
+-- the dictionaries of all columns, each with the number of its column, where the first has this number
+abbrev pub dictionaries_of : ℕ → List Field → List ColumnAt → List (ℕ × List Value)
+dictionaries_of number (field ∷ fields) (column ∷ columns) =
+    map (λ values. (number, values)) (column_dictionary field.data_type column) ++ dictionaries_of (number + 1) fields columns
+dictionaries_of number _ _ = []
+
+-- a dictionary as it is made: the number of its column, and its values
+abbrev pub dictionary_seen : ColumnDictionary → ℕ × List Value
+dictionary_seen made = (made.number, texts_values made.texts)
 
 abbrev pub coded_bytes : List Field → List ColumnAt → ℕ
 coded_bytes (field ∷ fields) (column ∷ columns) = column_bytes field.data_type column + coded_bytes fields columns

@@ -19,8 +19,8 @@ use bytes::Bytes;
 use std::alloc::{AllocError, Global};
 use std::sync::Arc;
 
-/// A column of indices of 32 bits into a dictionary of these texts, which stand in one part of it. Each slot has the
-/// index that is its place, and is null where it has none.
+/// A column of indices of 32 bits into a dictionary of these texts, and the one part in which they stand there. Each slot has
+/// the index that is its place, and is null where it has none.
 ///
 /// # Errors
 ///
@@ -29,20 +29,23 @@ pub fn column_of_indices(
     alloc: Global,
     places: &[Option<u32>],
     texts: &[&str],
-) -> Result<Column, AllocError>
+) -> Result<(Column, Texts), AllocError>
     requires led { (values : List Value) × AreLed (map (λ text. text.now) texts.now) places.now values }
     requires few { length texts.now ≤ most_values }
     requires short { bytes_in (map (λ text. text.now) texts.now) < 2 ^ 31 }
-    ensures values { IfOk result (λ column. AreLed (map (λ text. text.now) texts.now) places.now (values_of column)) }
-    ensures over { IfOk result (λ column. LiesOver (map (λ text. text.now) texts.now) column) }
-    ensures long { IfOk result (λ column. column.len ≡ length places.now) }
+    ensures values { IfOk result (λ made. AreLed (map (λ text. text.now) texts.now) places.now (values_of made.0)) }
+    ensures over { IfOk result (λ made. LiesOver (map (λ text. text.now) texts.now) made.0) }
+    ensures long { IfOk result (λ made. made.0.len ≡ length places.now) }
+    ensures part { IfOk result (λ made. texts_values made.1 ≡ map Text (map (λ text. text.now) texts.now)) }
 {
-    let dictionary = dictionary_of(alloc, texts)?;
+    let part = part_of(alloc, texts)?;
+    let dictionary = dictionary_of(alloc, part.share()?)?;
     let validity = places_validity(alloc, places)?;
     let packed = Bytes::from_vec(pack_places(alloc, places)?)?;
     let _values = dictionary.len();
     let indices = Values::Indices(IntegerType::Int32, packed, Arc::new(alloc, dictionary)?);
-    Ok(Column::new(Slots::from_parts(validity, places.len(), indices)))
+    let column = Column::new(Slots::from_parts(validity, places.len(), indices));
+    Ok((column, part))
 }
 
 // The validity bits of slots that are null where they have no place, and none where each has one.
@@ -72,13 +75,10 @@ fn pack_places(alloc: Global, places: &[Option<u32>]) -> Result<Vec<u8>, AllocEr
     Ok(packed)
 }
 
-// A dictionary of these texts.
-fn dictionary_of(alloc: Global, texts: &[&str]) -> Result<Dictionary, AllocError>
-    requires few { length texts.now ≤ most_values }
-    requires short { bytes_in (map (λ text. text.now) texts.now) < 2 ^ 31 }
-    ensures { IfOk result (λ dictionary. dictionary ≡ map Text (map (λ text. text.now) texts.now)) }
+// A dictionary of one part.
+fn dictionary_of(alloc: Global, part: Texts) -> Result<Dictionary, AllocError>
+    ensures { IfOk result (λ dictionary. dictionary ≡ texts_values part) }
 {
-    let part = part_of(alloc, texts)?;
     match Dictionary::new(alloc).extended(alloc, part) {
         Ok(dictionary) => Ok(dictionary),
         Err(_) => Err(AllocError),

@@ -7,7 +7,7 @@ pub mod coding;
 pub mod columns;
 mod indices;
 
-pub use crate::batches::code_batch;
+pub use crate::batches::{CodedBatch, ColumnDictionary, code_batch};
 pub use crate::built::column_of_indices;
 pub use crate::coding::{Coded, Stop};
 pub use crate::columns::code_column;

@@ -143,7 +143,12 @@ module _ (database : Database) (handle : HandleAt) (answer : Table) (payloads : 
       (answer, means, omega (arith, large, has.counted, long, length-append has.rows stream.left), given_part answer payloads stream has begun)
 
   all_given : stream.begun ≡ true → stream.left ≡ [] → FetchAt database handle payloads None
-  all_given begun none = (answer, means, all_few answer payloads stream has none, given_all answer payloads stream has begun none)
+  all_given begun none = record {
+    answer = answer;
+    means = means;
+    few = all_few answer payloads stream has none;
+    said = given_all answer payloads stream has begun none;
+  }
 
   stopped : (fault : Fault) → MayRefuse stream fault → FetchAt database handle payloads (Some fault)
   stopped fault (inl memory) = rw memory short_of_memory

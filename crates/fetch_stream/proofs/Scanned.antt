@@ -1,13 +1,14 @@
 -- What a scan gives, as the source of a stream.
-use Rattle.std.proofs.Common.{◌≡◌, ℕ, true, false, List, [], ◌∷◌, ◌++◌, map, Option, Some, None, Result, Ok, Err, refl, sym, ap, subst, ◌∙◌, arith, inl, inr}
+use Rattle.std.proofs.Common.{◌≡◌, ℕ, ◌+◌, true, false, List, [], ◌∷◌, ◌++◌, map, Option, Some, None, Result, Ok, Err, refl, sym, ap, subst, ◌∙◌, arith, inl, inr}
 use Rattle.std.specs.List.{list_any}
 use Rattle.std.proofs.lemmas.List.{length-map}
 use Rattle.std.proofs.lemmas.List.Folds.{list_any-append}
 use Rattle.scan_base.specs.declared.fault.Fault.{Fault}
 use Rattle.arrow_schema.specs.declared.data_type.DataType.{DataType}
+use Rattle.arrow_schema.specs.declared.data_type.DataType.TheVariants.{Integer, Utf8, Bool as Flag, Decimal128, Date, Dictionary}
 use Rattle.arrow_schema.specs.declared.schema.Field.{Field}
 use Rattle.arrow_schema.specs.declared.schema.Schema.{Schema}
-use Rattle.arrow_schema.specs.Answer.{answer_type}
+use Rattle.arrow_schema.specs.Answer.{answered_at, answered_from, copied_type, LieBehind}
 use Rattle.arrow_schema.specs.Schema.{IsSchema}
 use Rattle.arrays.specs.Batch.{BatchAt, rows_of}
 use Rattle.arrays.specs.Column.{ColumnAt}
@@ -15,6 +16,7 @@ use Rattle.arrays.specs.Typed.{AreOf, AreOfTypes}
 use Rattle.row_sources.specs.declared.turn.Patience.{Patience}
 use Rattle.row_sources.specs.declared.turn.Turn.{Turn}
 use Rattle.row_sources.specs.declared.turn.Turn.TheVariants.{Given, Working, End}
+use Rattle.row_sources.proofs.Lying.{all_alike}
 use Rattle.scan_exec.specs.Scan.{ScanAt, GivesRows, Gives, GivesTurn, MayRefuse, left}
 use Rattle.scan_exec.specs.Scan as of_scan
 use Rattle.table_versions.specs.Table.{Row, is_long_text}
@@ -22,7 +24,6 @@ use Rattle.table_versions.proofs.Storable.{first_false, second_false}
 use Rattle.fetch_stream.specs.declared.source.Source.TheVariants.{Scanned}
 use Rattle.fetch_stream.specs.inside.Ahead.{IsSource, AnsweredAs}
 use Rattle.fetch_stream.specs.inside.Given.{GoesOn, GivesNext, GivesNoneYet, GivesBatch, TurnsBatch, MayRefuseSource}
-use Rattle.fetch_stream.specs.inside.Written.{HasAnswerTypes}
 
 -- ---- columns of types, as those of fields
 
@@ -35,13 +36,28 @@ typed_fields (data_type ∷ types) (column ∷ columns) typed = (typed.0, typed_
 typed_fields [] (column ∷ columns) typed = absurd typed
 typed_fields (data_type ∷ types) [] typed = absurd typed
 
-answer_types : (types : List DataType) → map answer_type types ≡ map (λ field. answer_type field.data_type) (map field_of types)
-answer_types [] = refl
-answer_types (data_type ∷ types) = ap (λ (more : List DataType). answer_type data_type ∷ more) (answer_types types)
+copied_fields : (types : List DataType) → map copied_type types ≡ map (λ field. copied_type field.data_type) (map field_of types)
+copied_fields [] = refl
+copied_fields (data_type ∷ types) = ap (λ (more : List DataType). copied_type data_type ∷ more) (copied_fields types)
 
-answered : (schema : Schema) (types : List DataType) (columns : List ColumnAt) → HasAnswerTypes schema types → AreOf types columns → AnsweredAs schema columns
-answered schema types columns same typed =
-    record { fields = map field_of types; typed = typed_fields types columns typed; same = same ∙ answer_types types }
+answered_copied : (number : ℕ) (types : List DataType) → answered_from number types ≡ map copied_type types
+answered_copied number [] = refl
+answered_copied number (data_type ∷ types) = rw (one data_type, answered_copied (number + 1) types) refl
+  where
+    one : (t : DataType) → answered_at number t ≡ copied_type t
+    one (Integer integer) = refl
+    one Utf8 = refl
+    one Flag = refl
+    one Decimal128 = refl
+    one Date = refl
+    one (Dictionary encoding) = refl
+
+answered : (schema : Schema) (types : List DataType) (columns : List ColumnAt) → LieBehind schema.fields types → AreOf types columns → AnsweredAs schema columns
+answered schema types columns behind typed = record {
+  fields = map field_of types;
+  typed = typed_fields types columns typed;
+  same = behind.answered ∙ answered_copied 0 behind.types ∙ sym (all_alike behind.types types behind.lie) ∙ copied_fields types;
+}
 
 -- ---- what a scan gives
 
@@ -64,8 +80,8 @@ gives_batch before after batch is gives =
     let rows : rows_of batch ++ left after ≡ left before =
     sym (ap (map (λ (given : Option ℕ × Row). given.1)) gives.next ∙ ahead_rows gives.number (rows_of batch) after.ahead) in
     let short = both_short (rows_of batch) (left after) (left before) rows is.short in
-    let typed : HasAnswerTypes after.schema after.types =
-    subst (λ (s : Schema). HasAnswerTypes s after.types) (sym gives.on.schema) (subst (λ (t : List DataType). HasAnswerTypes before.schema t) (sym gives.on.types) is.typed) in
+    let typed : LieBehind after.schema.fields after.types =
+    subst (λ (s : Schema). LieBehind s.fields after.types) (sym gives.on.schema) (subst (λ (t : List DataType). LieBehind before.schema.fields t) (sym gives.on.types) is.typed) in
     record {
       on = record {
         source = record { schema = subst IsSchema (sym gives.on.schema) is.schema; typed = typed; short = short.1; begins = gives.refused };
@@ -109,8 +125,8 @@ scan_gives before after result is gives = by before.schema before.types before.a
 none_yet : (before after : ScanAt) → IsSource (Scanned before) → of_scan.GivesNoneYet before after → GivesNoneYet (Scanned before) (Scanned after)
 none_yet before after is none =
     let rows : left before ≡ left after = ap (map (λ (given : Option ℕ × Row). given.1)) none.same in
-    let typed : HasAnswerTypes after.schema after.types =
-    subst (λ (s : Schema). HasAnswerTypes s after.types) (sym none.on.schema) (subst (λ (t : List DataType). HasAnswerTypes before.schema t) (sym none.on.types) is.typed) in
+    let typed : LieBehind after.schema.fields after.types =
+    subst (λ (s : Schema). LieBehind s.fields after.types) (sym none.on.schema) (subst (λ (t : List DataType). LieBehind before.schema.fields t) (sym none.on.types) is.typed) in
     record {
       on = record {
         source = record {

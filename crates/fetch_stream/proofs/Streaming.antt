@@ -7,7 +7,7 @@ use Rattle.scan_base.specs.Lists.{each}
 use Rattle.arrow_schema.specs.declared.header.HeaderKind.TheVariants as header
 use Rattle.arrow_schema.specs.declared.schema.Field.{Field}
 use Rattle.arrow_schema.specs.declared.schema.Schema.{Schema}
-use Rattle.arrow_schema.specs.Answer.{answer_type}
+use Rattle.arrow_schema.specs.Answer.{copied_type}
 use Rattle.arrow_schema.specs.Header.{schema_in, schema_message_of, schema_of}
 use Rattle.arrow_schema.specs.Schema.{IsSchema}
 use Rattle.arrow_schema.specs.Written.{schema_part, schema_bytes}
@@ -122,7 +122,7 @@ pub say_more : (payloads : List Payload) (payload : Payload) (batch : BatchAt) (
 say_more payloads payload batch schema rows s ans said =
     let sent = map message_in said.0 in
     let known = said.2.0 in
-    let same : map (λ (field : Field). field.data_type) known.schema.fields ≡ map (λ (field : Field). answer_type field.data_type) ans.fields = rw said.2.1 ans.same in
+    let same : map (λ (field : Field). field.data_type) known.schema.fields ≡ map (λ (field : Field). copied_type field.data_type) ans.fields = rw said.2.1 ans.same in
     let read = s.said known ans.fields ans.typed same in
     let news : News = record { state = Some known; batch = Some read.0 } in
     let one : Follows (Some known) (s.message ∷ []) (Some known) (rows_of read.0) = (news, [], read.1, sym (append-nil (rows_of read.0)), (refl, refl)) in
@@ -153,12 +153,12 @@ cut_answered schema columns from to ans = record { fields = ans.fields; typed = 
 -- there are no more of them than a schema has
 pub few_answered : (schema : Schema) (columns : List ColumnAt) → IsSchema schema → AnsweredAs schema columns → length columns ≤ most_columns
 few_answered schema columns is ans =
-    let long : length (map (λ (field : Field). field.data_type) schema.fields) ≡ length (map (λ (field : Field). answer_type field.data_type) ans.fields) = ap length ans.same in
+    let long : length (map (λ (field : Field). field.data_type) schema.fields) ≡ length (map (λ (field : Field). copied_type field.data_type) ans.fields) = ap length ans.same in
     omega (
       arith,
       is.few,
       long,
       length-typed ans.fields columns ans.typed,
       length-map schema.fields (λ (field : Field). field.data_type),
-      length-map ans.fields (λ (field : Field). answer_type field.data_type),
+      length-map ans.fields (λ (field : Field). copied_type field.data_type),
     )

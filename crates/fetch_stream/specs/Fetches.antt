@@ -54,11 +54,17 @@ abbrev pub SayBeginning : List Payload → Table → Type 0
 SayBeginning payloads answer = (n : ℕ) × (n ≤ most_answer_rows) × (n ≤ length answer.rows)
     × PayloadsSay payloads answer.schema (take n answer.rows)
 
--- The answer to a handle at its version: what it means, its rows cut into batches freely. Of an answer of too many rows
--- it is a beginning, and where memory is refused there may be one. A handle that means nothing is a bad ticket.
+-- payloads are all of an answer: what the handle means, its rows cut into batches freely
+pub record IsAnswer (database : Database) (handle : HandleAt) (payloads : List Payload) : Type 0 where
+  pub answer : Table
+  pub means : HandleMeans database handle answer
+  pub few : length answer.rows ≤ most_answer_rows
+  pub said : PayloadsSay payloads answer.schema answer.rows
+
+-- The answer to a handle at its version. Of an answer of too many rows it is a beginning, and where memory is refused there may
+-- be one. A handle that means nothing is a bad ticket.
 abbrev pub FetchAt : Database → HandleAt → List Payload → Option Fault → Type 0
-FetchAt database handle payloads None = (answer : Table) × HandleMeans database handle answer
-    × (length answer.rows ≤ most_answer_rows) × PayloadsSay payloads answer.schema answer.rows
+FetchAt database handle payloads None = IsAnswer database handle payloads
 FetchAt database handle payloads (Some ResultTooLarge) = (answer : Table) × HandleMeans database handle answer
     × (most_answer_rows < length answer.rows) × SayBeginning payloads answer
 FetchAt database handle payloads (Some OutOfMemory) = (payloads ≡ [])

@@ -12,7 +12,7 @@ use Rattle.scan_base.specs.Limits.{most_rows}
 use Rattle.scan_base.specs.Predicate.{cell_in}
 use Rattle.scan_base.specs.declared.value.Value.{Value}
 use Rattle.scan_base.specs.declared.value.Value.TheVariants.{Null, Int}
-use Rattle.arrow_schema.specs.Answer.{answer_type}
+use Rattle.arrow_schema.specs.Answer.{copied_type}
 use Rattle.arrow_schema.specs.declared.data_type.DataType.{DataType}
 use Rattle.arrow_schema.specs.declared.data_type.DataType.TheVariants.{Integer, Decimal128}
 use Rattle.arrow_schema.specs.declared.data_type.IntegerType.TheVariants.{Int64}
@@ -104,7 +104,7 @@ tally_cells groups item from many slice f is within same =
 pub tally_column : (groups : GroupsAt) (item from to : ℕ) (slice : List Tally) (f : Tally → Value) (t : DataType) (column : ColumnAt) →
     slice ≡ get_or groups.tallies item [] → length slice ≡ length groups.found → from ≤ to → to ≤ length groups.found →
     ((key : List Value) (tally : Tally) → item_value key (get_or groups.items item (Key 0)) tally ≡ f tally) →
-    answer_type (item_type groups.keys groups.types (get_or groups.items item (Key 0))) ≡ t →
+    copied_type (item_type groups.keys groups.types (get_or groups.items item (Key 0))) ≡ t →
     values_of column ≡ map f (take (to - from) (drop from slice)) → IsOfType t column.layout → column.len ≡ to - from →
     IsItemColumn groups item from (to - from) column
 tally_column groups item from to slice f t column is all ordered within same kind values typed long =
@@ -121,9 +121,9 @@ count_value item (inl is) key tally = ap (λ (item : Aggregate). item_value key 
 count_value item (inr (column, is)) key tally = ap (λ (item : Aggregate). item_value key item tally) is
 
 count_type : (keys : List ℕ) (types : List DataType) (item : Aggregate) → (item ≡ CountRows) ⊎ ((column : ℕ) × (item ≡ Count column)) →
-    answer_type (item_type keys types item) ≡ Integer Int64
-count_type keys types item (inl is) = ap (λ (item : Aggregate). answer_type (item_type keys types item)) is
-count_type keys types item (inr (column, is)) = ap (λ (item : Aggregate). answer_type (item_type keys types item)) is
+    copied_type (item_type keys types item) ≡ Integer Int64
+count_type keys types item (inl is) = ap (λ (item : Aggregate). copied_type (item_type keys types item)) is
+count_type keys types item (inr (column, is)) = ap (λ (item : Aggregate). copied_type (item_type keys types item)) is
 
 -- the column of counts is that of an item that counts
 pub counted_column : (answer : Answer) (item from to : ℕ) (slice : List Tally) (column : ColumnAt) → AreTallies answer item slice →
@@ -143,7 +143,7 @@ pub summed_column : (answer : Answer) (item from to summed : ℕ) (slice : List 
     IsItemColumn (groups_in answer) item from (to - from) column
 summed_column answer item from to summed slice column are is ordered within values typed long =
     tally_column (groups_in answer) item from to slice (λ (tally : Tally). if tally.count == 0 then Null else Int tally.sum) Decimal128 column are.whole are.long ordered within
-    (λ key tally. ap (λ (item : Aggregate). item_value key item tally) is) (ap (λ (item : Aggregate). answer_type (item_type answer.keys.now answer.types.now item)) is) values typed long
+    (λ key tally. ap (λ (item : Aggregate). item_value key item tally) is) (ap (λ (item : Aggregate). copied_type (item_type answer.keys.now answer.types.now item)) is) values typed long
 
 -- ---- the column of a key
 
@@ -194,7 +194,7 @@ key_at answer item place can there is =
 pub first_column : (answer : Answer) (item place from to : ℕ) (part : List Place) (column : ColumnAt) → IsKeyAt answer item place →
     get_or answer.items.now item (Key 0) ≡ Key place → from ≤ to → to ≤ length (groups_in answer).found →
     part ≡ take (to - from) (drop from answer.firsts.now) → values_of column ≡ map (first_cell answer.batches.now (get_or answer.keys.now place 0)) part →
-    IsOfType (answer_type (type_at answer.types.now (get_or answer.keys.now place 0))) column.layout → column.len ≡ length part →
+    IsOfType (copied_type (type_at answer.types.now (get_or answer.keys.now place 0))) column.layout → column.len ≡ length part →
     IsItemColumn (groups_in answer) item from (to - from) column
 first_column answer item place from to part column key is ordered within cut values typed long =
     let keys = answer.keys.now in
@@ -202,7 +202,7 @@ first_column answer item place from to part column key is ordered within cut val
     let inside : from + (to - from) ≤ length firsts = omega (arith, key.long) in
     record {
       values = values ∙ ap (map (first_cell answer.batches.now (get_or keys place 0))) cut ∙ key.cells from (to - from) inside;
-      typed = subst (λ (item : Aggregate). IsOfType (answer_type (item_type keys answer.types.now item)) column.layout) (sym is) typed;
+      typed = subst (λ (item : Aggregate). IsOfType (copied_type (item_type keys answer.types.now item)) column.layout) (sym is) typed;
       long = long ∙ ap length cut ∙ part_long firsts from (to - from) inside;
     }
 
@@ -265,8 +265,8 @@ shifted f from a (suc many) =
     ap (λ ys. f (from + a) ∷ ys) (shifted f from (a + 1) many ∙ ap (λ (b : ℕ). map f (range_with_len b many)) moved)
 
 are_items : (h : Aggregate → DataType) (items : List Aggregate) (columns : List ColumnAt) → length columns ≡ length items →
-    ((i : ℕ) (d : ColumnAt) → i < length items → IsOfType (answer_type (h (get_or items i (Key 0)))) (get_or columns i d).layout) →
-    AreOf (map answer_type (map h items)) columns
+    ((i : ℕ) (d : ColumnAt) → i < length items → IsOfType (copied_type (h (get_or items i (Key 0)))) (get_or columns i d).layout) →
+    AreOf (map copied_type (map h items)) columns
 are_items h [] [] long each = tt
 are_items h (item ∷ items) (column ∷ columns) long each =
     (each 0 column (omega arith), are_items h items columns (omega arith) (λ i d low. each (suc i) d (omega arith)))

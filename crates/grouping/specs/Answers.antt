@@ -2,7 +2,7 @@
 use Rattle.std.specs.Prelude.{◌≡◌, ◌≤◌, ◌<◌, ℕ, All, List, [], ◌∷◌, ◌++◌, length, map, drop, Option, Some, None, Result, Ok, Err}
 use Rattle.std.specs.declared.alloc.AllocError.{AllocError}
 use Rattle.arrow_schema.specs.declared.data_type.DataType.{DataType}
-use Rattle.arrow_schema.specs.Answer.{answer_type}
+use Rattle.arrow_schema.specs.Answer.{copied_type}
 use Rattle.arrays.specs.Batch.{BatchAt, row_of, rows_of}
 use Rattle.arrays.specs.Typed.{AreOf}
 use Rattle.array_select.specs.Room.{most_batch_rows}
@@ -59,7 +59,7 @@ answers_ahead batches answers = drop answers.given (answer_rows (groups_at batch
 
 -- the types of the items
 abbrev pub answer_types : AnswersAt → List DataType
-answer_types answers = map answer_type (map (item_type answers.keys answers.types) answers.items)
+answer_types answers = map copied_type (map (item_type answers.keys answers.types) answers.items)
 
 -- there is such a row
 pub record IsThere (batches : List BatchAt) (place : Place) : Type 0 where
@@ -90,7 +90,7 @@ GivesAnswer batches before (Err _) after = after ≡ before
 -- the answer is of the groups' batches and items, and has the items of each group of the rows held, by first appearance
 pub record IsAnswerOf (groups : GroupsAt) (answers : AnswersAt) : Type 0 where
   pub over : IsOver groups.batches answers
-  pub types : answer_types answers ≡ map answer_type (map (item_type groups.keys groups.types) groups.items)
+  pub types : answer_types answers ≡ map copied_type (map (item_type groups.keys groups.types) groups.items)
   pub ahead : (rows : List Row) → Holds groups rows →
       answers_ahead groups.batches answers ≡ map (λ group. map (answered group) groups.items) (groups_by groups.keys rows)
 

@@ -17,3 +17,4 @@ pub mod ColumnsAgain
 mod ColumnsRead
 pub mod BatchAgain
 pub mod DictionaryAgain
+pub mod Dressing

@@ -8,5 +8,6 @@ pub mod Brings
 pub mod WrittenParts
 pub mod Written
 pub mod Laws
+pub mod Dressed
 pub mod Seen
 pub mod inside

@@ -3,6 +3,7 @@
 ghost use Rattle.ipc_batch.specs.Laws.{ReadIsBrought, SaidIsBrought, TellingExtends};
 ghost use Rattle.ipc_batch.specs.Laws.{SayOneThing, JoinRows, RowsFitSchema};
 ghost use Rattle.ipc_batch.specs.Laws.{GlancesComeFirst, NegativesLieOutside, DictionariesReadBack};
+ghost use Rattle.ipc_batch.specs.Dressed.{DressedMessagesSay};
 ghost use Rattle.ipc_batch.specs.Written.{PartsReadBack};
 
 /// What is read of a message, in the order in which it is read, is just what it brings: what `Message.fbs` and the
@@ -54,4 +55,10 @@ pub fn parts_read_back()
 /// What is read behind the message of a dictionary is read over its values.
 pub fn dictionaries_read_back()
     ensures { DictionariesReadBack }
+{}
+
+/// Batches, each behind the dictionaries of its own texts, say their rows.
+#[tactic(auto, using(crate::proofs::Dressing::dressed_say))]
+pub fn dressed_messages_say()
+    ensures { DressedMessagesSay }
 {}

@@ -8,7 +8,7 @@ use Rattle.std.proofs.lemmas.List.Elements.{All-head, All-tail}
 use Rattle.std.proofs.lemmas.Option.{unwrap_or-slice_get}
 use Rattle.arrow_schema.specs.declared.data_type.DataType.{DataType}
 use Rattle.arrow_schema.specs.declared.data_type.DataType.TheVariants.{Utf8}
-use Rattle.arrow_schema.specs.Answer.{answer_type}
+use Rattle.arrow_schema.specs.Answer.{copied_type}
 use Rattle.scan_base.specs.declared.value.Value.{Value}
 use Rattle.arrays.specs.Batch.{BatchAt, rows_of}
 use Rattle.arrays.specs.Typed.{AreOf}
@@ -20,7 +20,7 @@ use Rattle.join_batches.specs.declared.sides.Sides.{Sides}
 use Rattle.array_select.specs.Room.{most_batch_rows}
 use Rattle.join_batches.specs.Joiner.{JoinerAt, GivesShown, JoinsNext, JoinsShown, joined_type, joined_types, shown_cells}
 use Rattle.join_batches.specs.Rows.{pair_row, IsPair}
-use Rattle.join_batches.specs.Sides.{AreSides, AreWithin, IsBatchOf, answered_at, rows_at, types_of, width_of}
+use Rattle.join_batches.specs.Sides.{AreSides, AreWithin, IsBatchOf, copied_at, rows_at, types_of, width_of}
 use Rattle.join_batches.specs.Held.{joiner_of, sides_of, IsJoiner}
 use Rattle.join_batches.proofs.Made.{all_cells}
 use Rattle.join_batches.proofs.Typed.{all_types, all_within, typed_long}
@@ -80,7 +80,7 @@ all_wide : (j : Inside) (left right : List DataType) → left ≡ (sides_of j).l
     length left + length right ≡ length (joined_types (joiner_of j))
 all_wide j left right one other =
     sym (length-append left right) ∙ ap length (both_types j left right one other)
-    ∙ sym (length-map ((sides_of j).left.types.items ++ (sides_of j).right_types.items) answer_type)
+    ∙ sym (length-map ((sides_of j).left.types.items ++ (sides_of j).right_types.items) copied_type)
 
 -- columns of joined rows are columns of both sides
 pub shown_there : (j : Inside) (before : JoinerAt) (left right : List DataType) (shown : List ℕ) → joiner_of j ≡ before → left ≡ (sides_of j).left.types.items →
@@ -93,16 +93,16 @@ shown_there j before left right shown same one other all =
 
 -- the types of these columns
 types_same : (j : Inside) (sides : Sides) (shown : List ℕ) → types_of sides ≡ (sides_of j).left.types.items ++ (sides_of j).right_types.items →
-    AreWithin sides shown → map (answered_at sides) shown ≡ map (joined_type (joiner_of j)) shown
+    AreWithin sides shown → map (copied_at sides) shown ≡ map (joined_type (joiner_of j)) shown
 types_same j sides [] same within = refl
 types_same j sides (number ∷ shown) same within =
     let low : number < width_of sides = All-head (λ (number : ℕ). number < width_of sides) number shown within in
     let all = length-append sides.left_types.now sides.right_types.now in
-    let one : answered_at sides number ≡ joined_type (joiner_of j) number =
-    sym (get_or-map answer_type (types_of sides) number Utf8 Utf8 (omega (arith, low, all)))
-    ∙ sym (unwrap_or-slice_get (map answer_type (types_of sides)) number Utf8)
-    ∙ ap (λ (types : List DataType). unwrap_or (slice_get (map answer_type types) number) Utf8) same in
-    ap (λ (data_type : DataType). data_type ∷ map (answered_at sides) shown) one
+    let one : copied_at sides number ≡ joined_type (joiner_of j) number =
+    sym (get_or-map copied_type (types_of sides) number Utf8 Utf8 (omega (arith, low, all)))
+    ∙ sym (unwrap_or-slice_get (map copied_type (types_of sides)) number Utf8)
+    ∙ ap (λ (types : List DataType). unwrap_or (slice_get (map copied_type types) number) Utf8) same in
+    ap (λ (data_type : DataType). data_type ∷ map (copied_at sides) shown) one
     ∙ ap (λ (types : List DataType). joined_type (joiner_of j) number ∷ types)
     (types_same j sides shown same (All-tail (λ (number : ℕ). number < width_of sides) number shown within))
 

@@ -23,7 +23,7 @@ use Rattle.join_batches.specs.Rows.{pair_row, IsPair}
 use Rattle.array_select.specs.Room.{text_bytes_of}
 use Rattle.batch_room.specs.Light.{AreLight}
 use Rattle.batch_room.specs.Room.{allowed, most_batch_cells, most_batch_texts, HasRoom}
-use Rattle.join_batches.specs.Sides.{answered_at, type_in, width_of, AreSides, ArePairs, AllFit, IsColumnOf, IsBatchOf, rows_at, cells_of}
+use Rattle.join_batches.specs.Sides.{copied_at, type_in, width_of, AreSides, ArePairs, AllFit, IsColumnOf, IsBatchOf, rows_at, cells_of}
 use Rattle.join_batches.proofs.Cells.{row_wide}
 use Rattle.join_batches.proofs.Typed.{taken_more}
 
@@ -132,7 +132,7 @@ all_cells width (row ∷ rows) wide =
 pub batch_made : (sides : Sides) (share : ℕ) (shown : List ℕ) (pairs : List Pair) (count : ℕ) (columns : List ColumnAt) → AreSides sides → ArePairs sides pairs →
     (1 < length pairs → length pairs * length shown ≤ most_batch_cells) → sum_by (allowed share) (map (type_in sides) shown) ≤ most_batch_texts →
     AllFit sides share pairs shown count → AllZip (IsColumnOf (rows_at sides (take count pairs))) shown columns →
-    AreOf (map (answered_at sides) shown) columns → IsBatchOf sides shown pairs (record { columns = columns; rows = count })
+    AreOf (map (copied_at sides) shown) columns → IsBatchOf sides shown pairs (record { columns = columns; rows = count })
 batch_made sides share shown pairs count columns are there cells shares fit all typed =
     let rows = rows_at sides (take count pairs) in
     let few = fit.within in

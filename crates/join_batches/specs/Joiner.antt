@@ -4,7 +4,7 @@ use Rattle.std.specs.List.{filter, flat_map}
 use Rattle.std.specs.declared.alloc.AllocError.{AllocError}
 use Rattle.arrow_schema.specs.declared.data_type.DataType.{DataType}
 use Rattle.arrow_schema.specs.declared.data_type.DataType.TheVariants.{Utf8}
-use Rattle.arrow_schema.specs.Answer.{answer_type}
+use Rattle.arrow_schema.specs.Answer.{copied_type}
 use Rattle.scan_base.specs.declared.value.Value.{Value}
 use Rattle.scan_base.specs.Predicate.{cell_in}
 use Rattle.arrays.specs.Batch.{BatchAt, rows_of}
@@ -35,7 +35,7 @@ joined_of joiner lefts = flat_map (joined_with joiner) lefts
 
 -- the types of a joined row's cells: those of dictionaries are texts
 abbrev pub joined_types : JoinerAt → List DataType
-joined_types joiner = map answer_type (joiner.left_types ++ joiner.right_types)
+joined_types joiner = map copied_type (joiner.left_types ++ joiner.right_types)
 
 -- the type of a column of joined rows
 abbrev pub joined_type : JoinerAt → ℕ → DataType

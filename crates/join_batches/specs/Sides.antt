@@ -3,7 +3,7 @@ use Rattle.std.specs.Prelude.{◌≡◌, ◌≤◌, ◌<◌, ◌+◌, ℕ, All, 
 use Rattle.std.specs.List.{AllZip}
 use Rattle.arrow_schema.specs.declared.data_type.DataType.{DataType}
 use Rattle.arrow_schema.specs.declared.data_type.DataType.TheVariants.{Utf8}
-use Rattle.arrow_schema.specs.Answer.{answer_type}
+use Rattle.arrow_schema.specs.Answer.{copied_type}
 use Rattle.scan_base.specs.declared.value.Value.{Value}
 use Rattle.scan_base.specs.Predicate.{cell_in}
 use Rattle.array_select.specs.declared.of_slots.SlotRef.{SlotRef}
@@ -105,8 +105,8 @@ pub record IsColumnOf (rows : List (List Value)) (number : ℕ) (column : Column
   pub long : column.len ≡ length rows
 
 -- the type of a column of joined rows
-abbrev pub answered_at : Sides → ℕ → DataType
-answered_at sides number = answer_type (type_in sides number)
+abbrev pub copied_at : Sides → ℕ → DataType
+copied_at sides number = copied_type (type_in sides number)
 
 -- the columns are there
 abbrev pub AreWithin : Sides → List ℕ → Type 0
@@ -118,5 +118,5 @@ pub record IsBatchOf (sides : Sides) (shown : List ℕ) (pairs : List Pair) (bat
   pub few : batch.rows ≤ length pairs
   pub wide : All (λ (row : List Value). length row ≡ width_of sides) (rows_at sides (take batch.rows pairs))
   pub rows_are : rows_of batch ≡ map (shown_cells shown) (rows_at sides (take batch.rows pairs))
-  pub typed : AreOf (map (answered_at sides) shown) batch.columns
+  pub typed : AreOf (map (copied_at sides) shown) batch.columns
   pub room : HasRoom batch

@@ -2,12 +2,12 @@
 
 ghost use Rattle.std.specs.Prelude.{◌≡◌, ◌≤◌, ◌<◌, ◌^◌, ◌+◌, ◌*◌, ℕ, All, IfOk, length, map, nat_le, slice_index_or, true};
 ghost use Rattle.std.specs.List.{AllZip};
-ghost use Rattle.arrow_schema.specs.Answer.{answer_type};
+ghost use Rattle.arrow_schema.specs.Answer.{copied_type};
 ghost use Rattle.arrays.specs.Typed.{AreOf, IsOfType};
 ghost use Rattle.arrays.specs.Written.{texts_joined};
 ghost use Rattle.batch_room.specs.Room.{most_batch_cells, most_batch_texts};
 ghost use Rattle.join_batches.specs.Sides.{AllFit, AreSides, ArePairs, ArePlaced, AreSources, HoldCells, place_for};
-ghost use Rattle.join_batches.specs.Sides.{AreWithin, FitsIn, IsBatchOf, IsColumnOf, answered_at, cells_of, rows_at, type_in, types_of, width_of};
+ghost use Rattle.join_batches.specs.Sides.{AreWithin, FitsIn, IsBatchOf, IsColumnOf, copied_at, cells_of, rows_at, type_in, types_of, width_of};
 
 use crate::placed::{Placed, left_places, right_places};
 use array_select::{
@@ -176,7 +176,7 @@ impl<'a> Sides<'a> {
         requires named { All (λ number. length (texts_joined (cells_of (rows_at self.now placed.now.pairs.now) number)) < 2 ^ 31) shown.now }
         ensures cells { IfOk result
             (λ columns. AllZip (IsColumnOf (rows_at self.now placed.now.pairs.now)) shown.now columns.items) }
-        ensures typed { IfOk result (λ columns. AreOf (map (answered_at self.now) shown.now) columns.items) }
+        ensures typed { IfOk result (λ columns. AreOf (map (copied_at self.now) shown.now) columns.items) }
     {
         let mut columns = Vec::with_capacity(alloc, shown.len())?;
         for number in shown {
@@ -199,7 +199,7 @@ impl<'a> Sides<'a> {
         requires number { number < width_of self.now }
         requires named { length (texts_joined (cells_of (rows_at self.now placed.now.pairs.now) number)) < 2 ^ 31 }
         ensures cells { IfOk result (λ column. IsColumnOf (rows_at self.now placed.now.pairs.now) number column) }
-        ensures typed { IfOk result (λ column. IsOfType (answer_type (slice_index_or (types_of self.now) number DataType.Utf8)) column.layout) }
+        ensures typed { IfOk result (λ column. IsOfType (copied_type (slice_index_or (types_of self.now) number DataType.Utf8)) column.layout) }
     {
         if !self.is_gathered(number, placed) {
             return self.column_of_slots(alloc, number, placed.pairs);
@@ -213,7 +213,7 @@ impl<'a> Sides<'a> {
     // batches.
     fn is_gathered(&self, number: usize, placed: &Placed<'_>) -> bool
         requires { number < width_of self.now }
-        ensures { result ≡ true → answer_type (slice_index_or (types_of self.now) number DataType.Utf8)
+        ensures { result ≡ true → copied_type (slice_index_or (types_of self.now) number DataType.Utf8)
             ≡ slice_index_or (types_of self.now) number DataType.Utf8 }
     {
         is_plain(self.type_of(number)) && self.rights.len() <= placed.pairs.len()
@@ -231,7 +231,7 @@ impl<'a> Sides<'a> {
         requires number { number < width_of self.now }
         requires named { length (texts_joined (cells_of (rows_at self.now pairs.now) number)) < 2 ^ 31 }
         ensures cells { IfOk result (λ column. IsColumnOf (rows_at self.now pairs.now) number column) }
-        ensures typed { IfOk result (λ column. IsOfType (answer_type (slice_index_or (types_of self.now) number DataType.Utf8)) column.layout) }
+        ensures typed { IfOk result (λ column. IsOfType (copied_type (slice_index_or (types_of self.now) number DataType.Utf8)) column.layout) }
     {
         let slots = self.slots(alloc, number, pairs)?;
         column_of_slots(alloc, self.type_of(number), slots.as_slice())
@@ -371,9 +371,9 @@ impl<'a> Sides<'a> {
     }
 }
 
-// Whether a type is answered as it is: that of a dictionary is not.
+// Whether slots of a type are copied as they are: those of a dictionary are not.
 fn is_plain(data_type: DataType) -> bool
-    ensures { result ≡ true → answer_type data_type ≡ data_type }
+    ensures { result ≡ true → copied_type data_type ≡ data_type }
 {
     !matches!(data_type, DataType::Dictionary(_))
 }

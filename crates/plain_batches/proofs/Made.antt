@@ -10,7 +10,7 @@ use Rattle.scan_base.specs.declared.value.Value.TheVariants.{Null}
 use Rattle.scan_base.specs.Value.{is_null}
 use Rattle.arrow_schema.specs.declared.data_type.DataType.{DataType}
 use Rattle.arrow_schema.specs.declared.data_type.DataType.TheVariants as type
-use Rattle.arrow_schema.specs.Answer.{answer_type}
+use Rattle.arrow_schema.specs.Answer.{copied_type}
 use Rattle.arrays.specs.declared.layout.Layout.{Layout}
 use Rattle.arrays.specs.declared.layout.Layout.TheVariants as layout
 use Rattle.arrays.specs.Indices.{IndicesAt}
@@ -34,7 +34,7 @@ plain_as (layout.Bools cells) column none = refl
 plain_as (layout.Texts cells) column none = refl
 plain_as (layout.Indices cells) column none = absurd (none cells refl)
 
-typed_as : (data_type : DataType) (known : Layout) → ((cells : IndicesAt) → known ≡ layout.Indices cells → ⊥) → IsOfType data_type known → IsOfType (answer_type data_type) known
+typed_as : (data_type : DataType) (known : Layout) → ((cells : IndicesAt) → known ≡ layout.Indices cells → ⊥) → IsOfType data_type known → IsOfType (copied_type data_type) known
 typed_as (type.Integer integer) known none of = of
 typed_as type.Utf8 known none of = of
 typed_as type.Bool known none of = of
@@ -79,10 +79,10 @@ texts_as (layout.Indices cells) made of = absurd of
 indices_as : (known : Layout) (column : ColumnAt) (cells : IndicesAt) → known ≡ layout.Indices cells → plain_by known column ≡ offsets_from 0 (values_of column) ∷ texts_joined (values_of column) ∷ []
 indices_as known column cells is = rw is refl
 
-answered_texts : (data_type : DataType) (known : Layout) (cells : IndicesAt) → known ≡ layout.Indices cells → IsOfType data_type known → answer_type data_type ≡ type.Utf8
+answered_texts : (data_type : DataType) (known : Layout) (cells : IndicesAt) → known ≡ layout.Indices cells → IsOfType data_type known → copied_type data_type ≡ type.Utf8
 answered_texts data_type known cells is of = by data_type (rw is at of)
   where
-    by : (data_type : DataType) → IsOfType data_type (layout.Indices cells) → answer_type data_type ≡ type.Utf8
+    by : (data_type : DataType) → IsOfType data_type (layout.Indices cells) → copied_type data_type ≡ type.Utf8
     by (type.Dictionary encoding) of = refl
     by (type.Integer integer) of = absurd of
     by type.Utf8 of = absurd of

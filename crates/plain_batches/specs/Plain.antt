@@ -3,7 +3,7 @@ use Rattle.std.specs.Prelude.{◌≡◌, ℕ, List, [], ◌∷◌, length, map, 
 use Rattle.std.specs.List.{flat_map}
 use Rattle.arrow_schema.specs.declared.data_type.DataType.{DataType}
 use Rattle.arrow_schema.specs.declared.schema.Field.{Field}
-use Rattle.arrow_schema.specs.Answer.{answer_type}
+use Rattle.arrow_schema.specs.Answer.{copied_type}
 use Rattle.arrays.specs.declared.layout.Layout.{Layout}
 use Rattle.arrays.specs.declared.layout.Layout.TheVariants as layout
 use Rattle.arrays.specs.Indices.{IndicesAt}
@@ -37,11 +37,11 @@ plain_written column = validity_written column ∷ plain_by column.layout column
 abbrev pub plain_length : BatchAt → ℕ
 plain_length batch = length (body_of (flat_map plain_written batch.columns))
 
--- a column of the same values without a dictionary, of the type as which a dictionary is answered
+-- a column of the same values without a dictionary, of the type in which those are copied
 pub record IsPlain (column made : ColumnAt) : Type 0 where
   pub len : made.len ≡ column.len
   pub values : values_of made ≡ values_of column
-  pub typed : (data_type : DataType) → IsOfType data_type column.layout → IsOfType (answer_type data_type) made.layout
+  pub typed : (data_type : DataType) → IsOfType data_type column.layout → IsOfType (copied_type data_type) made.layout
   pub written : buffers_written made ≡ plain_written column
 
 -- the same of columns, one beside another
@@ -55,10 +55,10 @@ pub record IsPlainBatch (batch made : BatchAt) : Type 0 where
   pub columns : ArePlain batch.columns made.columns
   pub rows : rows_of made ≡ rows_of batch
 
--- behind a schema of the types that a batch's columns are answered as, a message says a batch with its rows
+-- behind a schema of the types in which a batch's columns are copied, a message says a batch with its rows
 abbrev pub SaysAnswered : Sent → BatchAt → Type 0
 SaysAnswered sent batch = (known : Known) (fields : List Field) → AreOfTypes fields batch.columns →
-    map (λ field. field.data_type) known.schema.fields ≡ map (λ field. answer_type field.data_type) fields →
+    map (λ field. field.data_type) known.schema.fields ≡ map (λ field. copied_type field.data_type) fields →
     (read : BatchAt) × (news_of (Some known) sent ≡ Ok (record { state = Some known; batch = Some read }))
     × (rows_of read ≡ rows_of batch)
 

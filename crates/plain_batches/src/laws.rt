@@ -2,7 +2,7 @@
 
 ghost use Rattle.plain_batches.specs.Plain.{PlainSaysAnswered};
 
-/// Behind a schema of the types that its columns are answered as, what says a batch without dictionaries says the batch of
+/// Behind a schema of the types in which its columns are copied, what says a batch without dictionaries says the batch of
 /// which it is made.
 pub fn plain_batches_say_answers()
     ensures { PlainSaysAnswered }

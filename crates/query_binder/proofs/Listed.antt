@@ -97,7 +97,7 @@ pub grouped_output : (query : Sentence) (scope : Scope) (items : List SelectItem
     then width_fault (length items))
     (λ bound. (bound.0 ≡ Groups (map (numbered scope) query.group_by)
     (map (λ item. aggregate_of scope (map (numbered scope) query.group_by) item.expression) items))
-    × (bound.1 ≡ record { fields = list_fields scope 1 items })) given →
+    × (bound.1 ≡ record { fields = list_fields scope 0 items })) given →
     Binds (output_fault query scope)
     (λ bound. (bound.0 ≡ output_for query scope) × (bound.1 ≡ record { fields = select_fields scope query.select })) given
 grouped_output query scope items given is g =
@@ -110,10 +110,10 @@ grouped_output query scope items given is g =
     let output : output_for query scope ≡ Groups keys (map (λ item. aggregate_of scope keys item.expression) items) =
     ap (λ b. if b then Groups keys (aggregates scope keys query.select) else Project (chosen scope query.select)) g
     ∙ ap (λ selecting. Groups keys (aggregates scope keys selecting)) is in
-    let fields : select_fields scope query.select ≡ list_fields scope 1 items = ap (select_fields scope) is in
+    let fields : select_fields scope query.select ≡ list_fields scope 0 items = ap (select_fields scope) is in
     binds_as _ (output_fault query scope)
     (λ bound. (bound.0 ≡ Groups keys (map (λ item. aggregate_of scope keys item.expression) items))
-    × (bound.1 ≡ record { fields = list_fields scope 1 items }))
+    × (bound.1 ≡ record { fields = list_fields scope 0 items }))
     (λ bound. (bound.0 ≡ output_for query scope) × (bound.1 ≡ record { fields = select_fields scope query.select }))
     given (sym same)
     (λ bound b. (b.0 ∙ sym output, b.1 ∙ ap (λ (those : List Field). record { fields = those }) (sym fields)))
@@ -127,7 +127,7 @@ pub plain_output : (query : Sentence) (scope : Scope) (items : List SelectItem) 
     query.select ≡ select.List items → is_grouped query ≡ false →
     Binds (first_in (λ item. column_fault scope item.expression) items then width_fault (length items))
     (λ bound. (bound.0 ≡ Project (These (map (number_of_item scope) items)))
-    × (bound.1 ≡ record { fields = list_fields scope 1 items })) given →
+    × (bound.1 ≡ record { fields = list_fields scope 0 items })) given →
     Binds (output_fault query scope)
     (λ bound. (bound.0 ≡ output_for query scope) × (bound.1 ≡ record { fields = select_fields scope query.select })) given
 plain_output query scope items given is g =
@@ -143,10 +143,10 @@ plain_output query scope items given is g =
     let output : output_for query scope ≡ Project (These (map (number_of_item scope) items)) =
     ap (λ b. if b then Groups keys (aggregates scope keys query.select) else Project (chosen scope query.select)) g
     ∙ ap (λ selecting. Project (chosen scope selecting)) is in
-    let fields : select_fields scope query.select ≡ list_fields scope 1 items = ap (select_fields scope) is in
+    let fields : select_fields scope query.select ≡ list_fields scope 0 items = ap (select_fields scope) is in
     binds_as _ (output_fault query scope)
     (λ bound. (bound.0 ≡ Project (These (map (number_of_item scope) items)))
-    × (bound.1 ≡ record { fields = list_fields scope 1 items }))
+    × (bound.1 ≡ record { fields = list_fields scope 0 items }))
     (λ bound. (bound.0 ≡ output_for query scope) × (bound.1 ≡ record { fields = select_fields scope query.select }))
     given (sym same)
     (λ bound b. (b.0 ∙ sym output, b.1 ∙ ap (λ (those : List Field). record { fields = those }) (sym fields)))

@@ -7,9 +7,8 @@ use Rattle.std.proofs.lemmas.Bool.{and_from, or_parts, eqb-true, eq-eqb, lt-ltb,
 use Rattle.std.proofs.lemmas.Option.{slice_get-map}
 use Rattle.std.proofs.Math.Numerals.{one-add}
 use Rattle.arrow_schema.specs.declared.data_type.DataType.{DataType}
-use Rattle.arrow_schema.specs.declared.data_type.DataType.TheVariants.{Integer, Utf8, Bool as Flag, Decimal128, Date}
-use Rattle.arrow_schema.specs.declared.data_type.DataType.TheVariants.{Dictionary}
-use Rattle.arrow_schema.specs.Answer.{answer_type, answer_field}
+use Rattle.arrow_schema.specs.declared.data_type.DataType.TheVariants.{Utf8}
+use Rattle.arrow_schema.specs.Answer.{answered_at, answered_from, answered_field}
 use Rattle.scan_base.specs.declared.fault.Fault.{Fault}
 use Rattle.scan_base.specs.declared.fault.Fault.TheVariants.{NotInSubset, TypeClash}
 use Rattle.sql_query.specs.declared.query.ColumnName.{ColumnName}
@@ -24,8 +23,9 @@ use Rattle.typed_plan.specs.declared.plan.Output.TheVariants.{Project, Groups}
 use Rattle.query_binder.specs.Bound.{may_select, expression_fault, width_fault, select_fault}
 use Rattle.typed_plan.specs.Class.{can_sum}
 use Rattle.typed_plan.specs.Faults.{◌then◌, must, found, first_in, fault_in}
+use Rattle.query_binder.specs.NameClasses.{sums_at}
 use Rattle.query_binder.specs.Planned.{number_of_item, chosen, key_place, aggregate_of, aggregates, output_for}
-use Rattle.query_binder.specs.ResultSchema.{field_at, expression_field, list_fields, select_fields}
+use Rattle.query_binder.specs.ResultSchema.{field_at, expression_field, list_fields, numbered_fields, select_fields}
 use Rattle.typed_plan.specs.Scope.{Scope, ScopeColumn, column_of, number_in, numbered}
 use Rattle.typed_plan.specs.Typed.{types_of, type_at, has_item, item_type, output_types, HasOutput}
 use Rattle.query_binder.proofs.PlannedJoins.{must_none}
@@ -35,7 +35,7 @@ use Rattle.typed_plan.proofs.TypedNames.{then_none}
 -- an output is there, of columns of a scope, and has the types that its schema says
 pub record IsOutputOf (scope : Scope) (selecting : Select) (output : Output) : Type 0 where
   pub there : HasOutput output (scope_types scope)
-  pub types : types_of (select_fields scope selecting) ≡ map answer_type (output_types output (scope_types scope))
+  pub types : types_of (select_fields scope selecting) ≡ answered_from 0 (output_types output (scope_types scope))
 
 found_fault : {A : Type 0} (result : Result A Fault) (check : A → Option Fault) → found result check ≡ None →
     fault_in result ≡ None
@@ -47,38 +47,38 @@ found_check : (result : Result ℕ Fault) (check : ℕ → Option Fault) → fou
 found_check (Ok number) check e = e
 found_check (Err fault) check e = cc
 
-answered : (there : Option ScopeColumn) →
-    (field_at there).data_type ≡ answer_type (unwrap_or (option_map type_in there) Utf8)
-answered None = refl
-answered (Some column) = refl
+answered : (place : ℕ) (there : Option ScopeColumn) →
+    (field_at place there).data_type ≡ answered_at place (unwrap_or (option_map type_in there) Utf8)
+answered place None = refl
+answered place (Some column) = refl
 
--- the type of the result's column of a number
-answered_at : (scope : Scope) (number : ℕ) →
-    (field_at (slice_get scope number)).data_type ≡ answer_type (type_at (scope_types scope) number)
-answered_at scope number =
-    answered (slice_get scope number)
-    ∙ ap (λ there. answer_type (unwrap_or there Utf8)) (sym (slice_get-map type_in scope number))
+-- the type of the result's column at a place, for the column of a number
+answered_type : (scope : Scope) (place number : ℕ) →
+    (field_at place (slice_get scope number)).data_type ≡ answered_at place (type_at (scope_types scope) number)
+answered_type scope place number =
+    answered place (slice_get scope number)
+    ∙ ap (λ there. answered_at place (unwrap_or there Utf8)) (sym (slice_get-map type_in scope number))
 
--- a dictionary is no integer, and neither is its answer
-can_sum_answered : (data_type : DataType) → can_sum (answer_type data_type) ≡ can_sum data_type
-can_sum_answered (Integer integer) = refl
-can_sum_answered Utf8 = refl
-can_sum_answered Flag = refl
-can_sum_answered Decimal128 = refl
-can_sum_answered Date = refl
-can_sum_answered (Dictionary encoding) = refl
+-- a column that has a sum is of a type that has one
+sums_typed : (scope : Scope) (number : ℕ) → sums_at (slice_get scope number) ≡ true → can_sum (type_at (scope_types scope) number) ≡ true
+sums_typed scope number sums =
+    ap (λ there. can_sum (unwrap_or there Utf8)) (slice_get-map type_in scope number) ∙ of (slice_get scope number) sums
+  where
+    of : (there : Option ScopeColumn) → sums_at there ≡ true → can_sum (unwrap_or (option_map type_in there) Utf8) ≡ true
+    of None e = cc
+    of (Some column) e = e
 
 -- Without groups
 
 project_item : (query : Sentence) (scope : Scope) (position : ℕ) (expression : Expression) →
     is_aggregate expression ≡ false → expression_fault query scope expression ≡ None →
     (nat_lt (number_of_item scope (record { expression = expression; alias = None })) (length (scope_types scope)) ≡ true)
-    × ((expression_field scope position expression).data_type ≡ answer_type (type_at (scope_types scope)
+    × ((expression_field scope position expression).data_type ≡ answered_at position (type_at (scope_types scope)
     (number_of_item scope (record { expression = expression; alias = None }))))
 project_item query scope position (Column name) plain e = (
   numbered_there scope name
       (found_fault (column_of scope name) (λ number. must (may_select query scope number) NotInSubset) e),
-  answered_at scope (numbered scope name),
+  answered_type scope position (numbered scope name),
 )
 project_item query scope position CountRows plain e = cc
 project_item query scope position (Count name) plain e = cc
@@ -89,7 +89,7 @@ project_items : (query : Sentence) (scope : Scope) (position : ℕ) (items : Lis
     first_in (λ item. expression_fault query scope item.expression) items ≡ None →
     (list_all (λ column. nat_lt column (length (scope_types scope))) (map (number_of_item scope) items) ≡ true)
     × (types_of (list_fields scope position items)
-    ≡ map answer_type (map (type_at (scope_types scope)) (map (number_of_item scope) items)))
+    ≡ answered_from position (map (type_at (scope_types scope)) (map (number_of_item scope) items)))
 project_items query scope position [] plain e = (refl, refl)
 project_items query scope position (item ∷ items) plain e =
     let types = scope_types scope in
@@ -101,21 +101,21 @@ project_items query scope position (item ∷ items) plain e =
       and_from (nat_lt (number_of_item scope item) (length types))
           (list_all (λ column. nat_lt column (length types)) (map (number_of_item scope) items)) here.0 others.0,
       ap (λ data_type. data_type ∷ types_of (list_fields scope (position + 1) items)) here.1
-          ∙ ap (λ others. answer_type (type_at types (number_of_item scope item)) ∷ others) others.1,
+          ∙ ap (λ others. answered_at position (type_at types (number_of_item scope item)) ∷ others) others.1,
     )
 
-all_types : (scope : Scope) →
-    types_of (map (λ column. answer_field column.field) scope) ≡ map answer_type (scope_types scope)
-all_types [] = refl
-all_types (column ∷ scope) = ap (λ types. answer_type column.field.data_type ∷ types) (all_types scope)
+pub all_types : (place : ℕ) (scope : Scope) → types_of (numbered_fields place scope) ≡ answered_from place (scope_types scope)
+all_types place [] = refl
+all_types place (column ∷ scope) =
+    ap (λ types. answered_at place column.field.data_type ∷ types) (all_types (place + 1) scope)
 
 project_typed : (query : Sentence) (scope : Scope) (selecting : Select) → has_aggregate selecting ≡ false →
     select_fault query scope selecting ≡ None → IsOutputOf scope selecting (Project (chosen scope selecting))
-project_typed query scope select.All plain e = record { there = refl; types = all_types scope }
+project_typed query scope select.All plain e = record { there = refl; types = all_types 0 scope }
 project_typed query scope (select.List items) plain e =
     let parts = then_none (first_in (λ item. expression_fault query scope item.expression) items)
     (width_fault (length items)) e in
-    let typed = project_items query scope 1 items plain parts.0 in
+    let typed = project_items query scope 0 items plain parts.0 in
     record { there = typed.0; types = typed.1 }
 
 -- Of groups
@@ -175,7 +175,7 @@ group_item : (query : Sentence) (scope : Scope) (position : ℕ) (expression : E
     (has_item (length (map (numbered scope) query.group_by)) (scope_types scope)
     (aggregate_of scope (map (numbered scope) query.group_by) expression) ≡ true)
     × ((expression_field scope position expression).data_type
-    ≡ answer_type (item_type (map (numbered scope) query.group_by) (scope_types scope)
+    ≡ answered_at position (item_type (map (numbered scope) query.group_by) (scope_types scope)
     (aggregate_of scope (map (numbered scope) query.group_by) expression)))
 group_item query scope position (Column name) grouped e =
     let number = numbered scope name in
@@ -185,18 +185,16 @@ group_item query scope position (Column name) grouped e =
     sym (ap (λ grouped. not grouped || list_any (λ name. number == numbered scope name) query.group_by) grouped) ∙ may in
     let place = key_there scope query.group_by number among in (
       place.there,
-      answered_at scope number
-          ∙ ap (λ number. answer_type (type_at (scope_types scope) number)) (sym place.same),
+      answered_type scope position number
+          ∙ ap (λ number. answered_at position (type_at (scope_types scope) number)) (sym place.same),
     )
 group_item query scope position CountRows grouped e = (refl, refl)
 group_item query scope position (Count name) grouped e = (numbered_there scope name e, refl)
 group_item query scope position (Sum name) grouped e =
     let number = numbered scope name in
-    let check : ℕ → Option Fault = λ number. must (can_sum (field_at (slice_get scope number)).data_type) TypeClash in
-    let sums = must_none (can_sum (field_at (slice_get scope number)).data_type) TypeClash
-    (found_check (column_of scope name) check e) in
-    let of_type = sym (can_sum_answered (type_at (scope_types scope) number))
-    ∙ sym (ap can_sum (answered_at scope number)) ∙ sums in (
+    let check : ℕ → Option Fault = λ number. must (sums_at (slice_get scope number)) TypeClash in
+    let sums = must_none (sums_at (slice_get scope number)) TypeClash (found_check (column_of scope name) check e) in
+    let of_type = sums_typed scope number sums in (
       and_from (nat_lt number (length (scope_types scope))) (can_sum (type_at (scope_types scope) number))
           (numbered_there scope name (found_fault (column_of scope name) check e)) of_type,
       refl,
@@ -207,7 +205,7 @@ group_items : (query : Sentence) (scope : Scope) (position : ℕ) (items : List 
     (list_all (has_item (length (map (numbered scope) query.group_by)) (scope_types scope))
     (aggregates scope (map (numbered scope) query.group_by) (select.List items)) ≡ true)
     × (types_of (list_fields scope position items)
-    ≡ map answer_type (map (item_type (map (numbered scope) query.group_by) (scope_types scope))
+    ≡ answered_from position (map (item_type (map (numbered scope) query.group_by) (scope_types scope))
     (aggregates scope (map (numbered scope) query.group_by) (select.List items))))
 group_items query scope position [] grouped e = (refl, refl)
 group_items query scope position (item ∷ items) grouped e =
@@ -220,7 +218,7 @@ group_items query scope position (item ∷ items) grouped e =
       and_from (has_item (length keys) types (aggregate_of scope keys item.expression))
           (list_all (has_item (length keys) types) (aggregates scope keys (select.List items))) here.0 others.0,
       ap (λ data_type. data_type ∷ types_of (list_fields scope (position + 1) items)) here.1
-          ∙ ap (λ others. answer_type (item_type keys types (aggregate_of scope keys item.expression)) ∷ others) others.1,
+          ∙ ap (λ others. answered_at position (item_type keys types (aggregate_of scope keys item.expression)) ∷ others) others.1,
     )
 
 groups_typed : (query : Sentence) (scope : Scope) (selecting : Select) → is_grouped query ≡ true →
@@ -234,7 +232,7 @@ groups_typed query scope select.All grouped some none f e = cc
 groups_typed query scope (select.List items) grouped some none f e =
     let parts = then_none (first_in (λ item. expression_fault query scope item.expression) items)
     (width_fault (length items)) e in
-    let typed = group_items query scope 1 items grouped parts.0 in
+    let typed = group_items query scope 0 items grouped parts.0 in
     record { there = (keys_there scope query.group_by f, typed.0); types = typed.1 }
 
 -- what a query takes that has no fault

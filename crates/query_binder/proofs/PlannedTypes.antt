@@ -2,7 +2,7 @@
 use Rattle.std.proofs.Common.{◌≡◌, ℕ, ◌==◌, Bool, true, false, not, ◌&&◌, if◌then◌else◌, List, [], ◌∷◌, map, length}
 use Rattle.std.proofs.Common.{Option, Some, None, refl, sym, ap, subst, ◌∙◌, arith}
 use Rattle.std.proofs.lemmas.Bool.{not-true, or_parts, ne_eqb}
-use Rattle.arrow_schema.specs.Answer.{answer_type}
+use Rattle.arrow_schema.specs.Answer.{answered_from}
 use Rattle.scan_base.specs.declared.fault.Fault.TheVariants.{NotInSubset}
 use Rattle.scan_base.specs.Predicate.{Pred}
 use Rattle.sql_query.specs.declared.query.ColumnName.{ColumnName}
@@ -116,7 +116,7 @@ plan_typed query database e =
     record {
       tree = tree.typed;
       output = subst (HasOutput (output_for query scope)) same output.there;
-      types = output.types ∙ ap (λ types. map answer_type (output_types (output_for query scope) types)) same;
+      types = output.types ∙ ap (λ types. answered_from 0 (output_types (output_for query scope) types)) same;
       alone = λ grouped. where_place (numbered_filter scope query.filter) (from_tree query database)
           ∙ grouped_alone query database scope parts.alone grouped;
     }

@@ -17,12 +17,10 @@ use Rattle.sql_query.specs.declared.query.Select.TheVariants as select
 use Rattle.sql_query.specs.Sentence.{Sentence, place_name, is_grouped, is_left_out_whole}
 use Rattle.table_versions.specs.Table.{Name}
 use Rattle.table_versions.specs.Database.{Database, table_at}
-use Rattle.typed_plan.specs.Class.{can_sum}
 use Rattle.typed_plan.specs.Scope.{Scope, numbered, column_of}
 use Rattle.typed_plan.specs.Joined.{place_columns, scope_of}
-use Rattle.query_binder.specs.ResultSchema.{field_at}
 use Rattle.typed_plan.specs.Faults.{◌then◌, must, found, first_in, fault_in, compare_fault}
-use Rattle.query_binder.specs.NameClasses.{class_of_name, filter_fault}
+use Rattle.query_binder.specs.NameClasses.{class_of_name, filter_fault, sums_at}
 
 -- a place's table is there, and its name differs from the earlier ones
 abbrev pub place_fault : Database → List Name → Place → Option Fault
@@ -64,7 +62,7 @@ expression_fault query scope (expression.Column name) =
 expression_fault query scope expression.CountRows = None
 expression_fault query scope (expression.Count name) = fault_in (column_of scope name)
 expression_fault query scope (expression.Sum name) =
-    found (column_of scope name) (λ number. must (can_sum (field_at (slice_get scope number)).data_type) TypeClash)
+    found (column_of scope name) (λ number. must (sums_at (slice_get scope number)) TypeClash)
 
 -- a result has no more columns than a table
 abbrev pub width_fault : ℕ → Option Fault

@@ -7,9 +7,8 @@ use Rattle.scan_base.specs.declared.fault.Fault.TheVariants.{TypeClash, NotInSub
 use Rattle.sql_query.specs.declared.query.Expression.{Expression}
 use Rattle.sql_query.specs.declared.query.Expression.TheVariants.{Column, CountRows, Count, Sum}
 use Rattle.std.specs.Prelude.{All, slice_get}
-use Rattle.typed_plan.specs.Class.{can_sum}
 use Rattle.typed_plan.specs.Faults.{must, found, fault_in}
-use Rattle.query_binder.specs.ResultSchema.{field_at}
+use Rattle.query_binder.specs.NameClasses.{sums_at}
 use Rattle.typed_plan.specs.Scope.{Scope, column_of}
 
 -- an item of a list without aggregates: its name
@@ -24,7 +23,7 @@ aggregate_fault scope keys (Column name) =
 aggregate_fault scope keys CountRows = None
 aggregate_fault scope keys (Count name) = fault_in (column_of scope name)
 aggregate_fault scope keys (Sum name) =
-    found (column_of scope name) (λ number. must (can_sum (field_at (slice_get scope number)).data_type) TypeClash)
+    found (column_of scope name) (λ number. must (sums_at (slice_get scope number)) TypeClash)
 
 -- there is a column, and each can be written in a schema
 abbrev pub CanBeWritten : Scope → Type 0

@@ -1,11 +1,11 @@
--- The classes of the columns that names mean, and the faults of WHERE.
-use Rattle.std.specs.Prelude.{ℕ, slice_get, Option, Some, None, Result, Ok, Err}
+-- The classes of the columns that names mean, whether they have a sum, and the faults of WHERE.
+use Rattle.std.specs.Prelude.{ℕ, Bool, false, slice_get, Option, Some, None, Result, Ok, Err}
 use Rattle.scan_base.specs.declared.fault.Fault.{Fault}
 use Rattle.scan_base.specs.Predicate.{Pred}
 use Rattle.sql_query.specs.declared.query.ColumnName.{ColumnName}
 use Rattle.typed_plan.specs.declared.class.Class.{Class}
 use Rattle.typed_plan.specs.declared.class.Class.TheVariants.{Number}
-use Rattle.typed_plan.specs.Class.{type_class}
+use Rattle.typed_plan.specs.Class.{type_class, can_sum}
 use Rattle.typed_plan.specs.Faults.{predicate_fault}
 use Rattle.typed_plan.specs.Scope.{Scope, ScopeColumn, column_of}
 
@@ -13,6 +13,11 @@ use Rattle.typed_plan.specs.Scope.{Scope, ScopeColumn, column_of}
 abbrev pub class_at : Option ScopeColumn → Class
 class_at (Some column) = type_class column.field.data_type
 class_at None = Number
+
+-- whether SUM takes the values of the column of a number
+abbrev pub sums_at : Option ScopeColumn → Bool
+sums_at (Some column) = can_sum column.field.data_type
+sums_at None = false
 
 -- the class of the column that was looked up
 abbrev pub class_of_column : Scope → Result ℕ Fault → Result Class Fault

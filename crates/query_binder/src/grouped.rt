@@ -1,6 +1,6 @@
 //! GROUP BY: the columns of a key, and what each item of the list gives of a group.
 
-ghost use Rattle.std.specs.Prelude.{◌≡◌, ◌==◌, ℕ, [], true, false, IfOk, MatchOption, length, map, unwrap_or};
+ghost use Rattle.std.specs.Prelude.{◌≡◌, ◌==◌, ◌<◌, ◌+◌, ◌^◌, [], true, false, IfOk, MatchOption, length, map, unwrap_or};
 ghost use Rattle.std.specs.List.{list_any};
 ghost use Rattle.arrow_schema.specs.declared.data_type.DataType.TheVariants.{Integer as IntegerColumn, Decimal128 as DecimalColumn};
 ghost use Rattle.arrow_schema.specs.declared.data_type.IntegerType.TheVariants.{Int64 as SignedLong};
@@ -12,7 +12,7 @@ ghost use Rattle.typed_plan.specs.Faults.{◌then◌, fault_in, first_in};
 ghost use Rattle.query_binder.specs.Listed.{aggregate_fault};
 ghost use Rattle.query_binder.specs.Outcome.{Binds};
 ghost use Rattle.query_binder.specs.Planned.{aggregate_of, key_place as place_in};
-ghost use Rattle.query_binder.specs.ResultSchema.{item_field, list_fields, position_name};
+ghost use Rattle.query_binder.specs.ResultSchema.{aggregate_name as name_of, item_field, list_fields};
 ghost use Rattle.typed_plan.specs.Scope.{column_of, numbered};
 
 use crate::answer::answer_field;
@@ -43,7 +43,7 @@ pub(crate) fn bind_groups(
         then width_fault (length items.now))
         (λ bound. (bound.0 ≡ Grouping (map (numbered scope.now) names.now)
         (map (λ item. aggregate_of scope.now (map (numbered scope.now) names.now) item.expression) items.now))
-        × (bound.1 ≡ record { fields = list_fields scope.now 1 items.now })) result }
+        × (bound.1 ≡ record { fields = list_fields scope.now 0 items.now })) result }
 {
     let keys = bind_keys(alloc, scope, names)?;
     let key = Key {
@@ -80,43 +80,44 @@ impl<'k> Key<'k> {
     ) -> Result<(Items<Aggregate>, Items<Field>), Fault>
         ensures { Binds (first_in (λ item. aggregate_fault self.now.scope.now self.now.numbers.now item.expression) items.now)
             (λ bound. (bound.0 ≡ map (λ item. aggregate_of self.now.scope.now self.now.numbers.now item.expression) items.now)
-            × (bound.1 ≡ list_fields self.now.scope.now 1 items.now)) result }
+            × (bound.1 ≡ list_fields self.now.scope.now 0 items.now)) result }
     {
         let mut aggregates = Items::new(alloc);
         let mut fields = Items::new(alloc);
         for (index, item) in items.iter().enumerate() {
-            let (aggregate, field) = self.bind_aggregate(alloc, index + 1, item)?;
+            let (aggregate, field) = self.bind_aggregate(alloc, index, item)?;
             aggregates.push(aggregate)?;
             fields.push(field)?;
         }
         Ok((aggregates, fields))
     }
 
-    // What an item gives of a group, and its column of the result, at this position of the list.
+    // What an item gives of a group, and the column of this place of the result, counted from 0.
     fn bind_aggregate(
         &self,
         alloc: Global,
-        position: usize,
+        place: usize,
         item: &SelectItem,
     ) -> Result<(Aggregate, Field), Fault>
+        requires { place + 1 < 2 ^ 64 }
         ensures { Binds (aggregate_fault self.now.scope.now self.now.numbers.now item.now.expression)
             (λ bound. (bound.0 ≡ aggregate_of self.now.scope.now self.now.numbers.now item.now.expression)
-            × (bound.1 ≡ item_field self.now.scope.now position item.now)) result }
+            × (bound.1 ≡ item_field self.now.scope.now place item.now)) result }
     {
         match &item.expression {
-            Expression::Column(name) => self.bind_column(name, &item.alias),
+            Expression::Column(name) => self.bind_column(name, place as u64, &item.alias),
             Expression::CountRows => {
-                let name = aggregate_name(alloc, position, &item.alias)?;
+                let name = aggregate_name(alloc, place, &item.alias)?;
                 Ok((Aggregate::CountRows, count_field(name)))
             }
             Expression::Count(name) => {
                 let number = self.scope.column_of(name)?;
-                let name = aggregate_name(alloc, position, &item.alias)?;
+                let name = aggregate_name(alloc, place, &item.alias)?;
                 Ok((Aggregate::Count(number), count_field(name)))
             }
             Expression::Sum(name) => {
                 let number = bind_sum(self.scope, name)?;
-                let name = aggregate_name(alloc, position, &item.alias)?;
+                let name = aggregate_name(alloc, place, &item.alias)?;
                 Ok((Aggregate::Sum(number), sum_field(name)))
             }
         }
@@ -126,19 +127,20 @@ impl<'k> Key<'k> {
     fn bind_column(
         &self,
         name: &ColumnName,
+        place: u64,
         alias: &Option<Text>,
     ) -> Result<(Aggregate, Field), Fault>
         ensures { Binds (aggregate_fault self.now.scope.now self.now.numbers.now (Named name.now))
             (λ bound. (bound.0 ≡ aggregate_of self.now.scope.now self.now.numbers.now (Named name.now))
-            × ((position : ℕ) → bound.1 ≡ item_field self.now.scope.now position (record { expression = Named name.now; alias = alias.now })))
+            × (bound.1 ≡ item_field self.now.scope.now place (record { expression = Named name.now; alias = alias.now })))
             result }
     {
         let number = self.scope.column_of(name)?;
-        let Some(place) = key_place(self.numbers, number) else {
+        let Some(key) = key_place(self.numbers, number) else {
             return Err(Fault::NotInSubset);
         };
-        let field = answer_field(self.scope.field(number), alias)?;
-        Ok((Aggregate::Key(place), field))
+        let field = answer_field(self.scope.field(number), place, alias)?;
+        Ok((Aggregate::Key(key), field))
     }
 }
 
@@ -160,7 +162,7 @@ fn bind_sum(scope: &Scope<'_>, name: &ColumnName) -> Result<usize, Fault>
     ensures { Binds (aggregate_fault scope.now [] (Summed name.now)) (λ number. number ≡ numbered scope.now name.now) result }
 {
     let number = scope.column_of(name)?;
-    if can_sum(scope.field(number).data_type.answered()) {
+    if can_sum(scope.field(number).data_type) {
         Ok(number)
     } else {
         Err(Fault::TypeClash)
@@ -181,13 +183,17 @@ fn can_sum(data_type: DataType) -> bool
     }
 }
 
-// The alias, else `col` and the position.
-fn aggregate_name(alloc: Global, position: usize, alias: &Option<Text>) -> Result<Text, AllocError>
-    ensures { IfOk result (λ name. name ≡ unwrap_or alias.now (position_name position)) }
+// The alias, else `col` and the place in the list, counted from 1.
+fn aggregate_name(alloc: Global, place: usize, alias: &Option<Text>) -> Result<Text, AllocError>
+    requires { place + 1 < 2 ^ 64 }
+    ensures { IfOk result (λ name. name ≡ unwrap_or alias.now (name_of place)) }
 {
     match alias {
         Some(alias) => alias.clone(),
-        None => Ok(Text::from(format!(in alloc; "col{position}")?)),
+        None => {
+            let position = place + 1;
+            Ok(Text::from(format!(in alloc; "col{position}")?))
+        }
     }
 }
 

@@ -92,8 +92,8 @@ impl<'a> Scope<'a> {
         ensures { IfOk result (λ fields. fields ≡ select_fields self.now All) }
     {
         let mut fields = Items::new(alloc);
-        for column in &self.columns {
-            fields.push(answer_field(column.field, &None)?)?;
+        for (number, column) in self.columns.iter().enumerate() {
+            fields.push(answer_field(column.field, number as u64, &None)?)?;
         }
         Ok(fields)
     }

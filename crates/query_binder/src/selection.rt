@@ -1,6 +1,6 @@
 //! What a query selects: what the result takes of the rows, and its columns.
 
-ghost use Rattle.std.specs.Prelude.{◌≡◌, ℕ, false, length, map};
+ghost use Rattle.std.specs.Prelude.{◌≡◌, false, length, map};
 ghost use Rattle.sql_query.specs.Sentence.{sentence_of, is_left_out_whole};
 ghost use Rattle.sql_query.specs.declared.query.Select.TheVariants.{All as AllColumns};
 ghost use Rattle.query_binder.specs.Bound.{width_fault};
@@ -65,7 +65,7 @@ fn bind_columns(
 ) -> Result<(Output, Schema), Fault>
     ensures { Binds (first_in (λ item. column_fault scope.now item.expression) items.now then width_fault (length items.now))
         (λ bound. (bound.0 ≡ Taking (Chosen (map (number_of_item scope.now) items.now)))
-        × (bound.1 ≡ record { fields = list_fields scope.now 1 items.now })) result }
+        × (bound.1 ≡ record { fields = list_fields scope.now 0 items.now })) result }
 {
     let (numbers, fields) = bind_items(alloc, scope, items)?;
     check_width(items.len())?;
@@ -80,29 +80,32 @@ fn bind_items(
 ) -> Result<(Items<usize>, Items<Field>), Fault>
     ensures { Binds (first_in (λ item. column_fault scope.now item.expression) items.now)
         (λ bound. (bound.0 ≡ map (number_of_item scope.now) items.now)
-        × (bound.1 ≡ list_fields scope.now 1 items.now)) result }
+        × (bound.1 ≡ list_fields scope.now 0 items.now)) result }
 {
     let mut numbers = Items::new(alloc);
     let mut fields = Items::new(alloc);
-    for item in items {
-        let (number, field) = bind_item(scope, item)?;
+    for (index, item) in items.iter().enumerate() {
+        let (number, field) = bind_item(scope, index as u64, item)?;
         numbers.push(number)?;
         fields.push(field)?;
     }
     Ok((numbers, fields))
 }
 
-// The number of an item's column, and its column of the result. A list without groups has no aggregate.
-fn bind_item(scope: &Scope<'_>, item: &SelectItem) -> Result<(usize, Field), Fault>
+// The number of an item's column, and the column of this place of the result. A list without groups has no aggregate.
+fn bind_item(scope: &Scope<'_>, place: u64, item: &SelectItem) -> Result<(usize, Field), Fault>
     ensures { Binds (column_fault scope.now item.now.expression)
         (λ bound. (bound.0 ≡ number_of_item scope.now item.now)
-        × ((position : ℕ) → bound.1 ≡ item_field scope.now position item.now)) result }
+        × (bound.1 ≡ item_field scope.now place item.now)) result }
 {
     let Expression::Column(name) = &item.expression else {
         return Err(Fault::NotInSubset);
     };
     let number = scope.column_of(name)?;
-    Ok((number, answer_field(scope.field(number), &item.alias)?))
+    Ok((
+        number,
+        answer_field(scope.field(number), place, &item.alias)?,
+    ))
 }
 
 // Whether a result may have so many columns.

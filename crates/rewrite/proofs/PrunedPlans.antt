@@ -1,7 +1,7 @@
 -- A plan with a pruned tree is well typed, and stands for the one that it was made of.
 use Rattle.std.proofs.Common.{◌≡◌, ◌≤◌, ℕ, Bool, true, List, length, map, refl, sym, ap, ◌∙◌, subst, arith}
 use Rattle.std.specs.List.{AllByRecursion}
-use Rattle.arrow_schema.specs.Answer.{answer_type}
+use Rattle.arrow_schema.specs.Answer.{answered_from}
 use Rattle.arrow_schema.specs.declared.data_type.DataType.{DataType}
 use Rattle.arrow_schema.specs.declared.schema.Schema.{Schema}
 use Rattle.scan_base.specs.Predicate.{Pred, names_only}
@@ -38,7 +38,7 @@ pruned_plan_typed tree output schema was =
       output = subst (λ (types : List DataType). HasOutput (output_in uses output) types) (sym (pruned_types uses tree))
           (output_there uses (tree_types tree) wide output used.1 was.output);
       types = was.types
-          ∙ ap (map answer_type) (sym (ap (output_types (output_in uses output)) (pruned_types uses tree)
+          ∙ ap (answered_from 0) (sym (ap (output_types (output_in uses output)) (pruned_types uses tree)
           ∙ output_types_kept uses (tree_types tree) wide output used.1 was.output));
       alone = λ grouping. pruned_place uses tree ∙ was.alone (sym (output_grouping uses output) ∙ grouping);
     }

@@ -13,7 +13,7 @@ use Rattle.typed_plan.specs.declared.class.Class.{Class}
 use Rattle.typed_plan.specs.declared.plan.Output.{Output}
 use Rattle.typed_plan.specs.Faults.{fault_in, operand_class, items_fault, predicate_fault}
 use Rattle.typed_plan.specs.Numbered.{predicate_map}
-use Rattle.arrow_schema.specs.Answer.{answer_type}
+use Rattle.arrow_schema.specs.Answer.{answered_from}
 use Rattle.typed_plan.specs.Plan.{Tree, PlanAt}
 use Rattle.typed_plan.specs.Typed.{class_if_there, class_of_number, tree_types, is_place, IsTypedTree, IsTyped, HasOutput, output_types}
 
@@ -102,7 +102,7 @@ pub typed_again : (new old : Tree) (output : Output) (schema : Schema) → IsTyp
 typed_again new old output schema typed types place was = record {
   tree = typed;
   output = subst (λ some. HasOutput output some) (sym types) was.output;
-  types = was.types ∙ ap (λ some. map answer_type (output_types output some)) (sym types);
+  types = was.types ∙ ap (λ some. answered_from 0 (output_types output some)) (sym types);
   alone = λ grouping. place ∙ was.alone grouping;
 }
 

@@ -7,7 +7,7 @@ use Rattle.std.proofs.lemmas.Grind.{flat_map-append}
 use Rattle.std.proofs.lemmas.List.{length-map, map-append}
 use Rattle.std.proofs.lemmas.List.Elements.{All-append, All-filter, All-map, All-nil}
 use Rattle.std.proofs.lemmas.List.FromFn.{length-map-range_with_len}
-use Rattle.arrow_schema.specs.Answer.{answer_type}
+use Rattle.arrow_schema.specs.Answer.{copied_type}
 use Rattle.arrow_schema.specs.declared.data_type.DataType.{DataType}
 use Rattle.arrays.specs.Batch.{BatchAt, rows_of}
 use Rattle.hash_join.specs.Pairs.{places, key_in, keys_join}
@@ -184,7 +184,7 @@ module _ (on : List JoinKey) (left right : RowsAt) (can : CanJoin on left right)
   the_pick = pick_with [] (range_with_len 0 (length all_types_of))
 
   as_wide : length left.types + length right.types ≡ length all_types_of
-  as_wide = sym (length-map (left.types ++ right.types) answer_type ∙ length-append left.types right.types)
+  as_wide = sym (length-map (left.types ++ right.types) copied_type ∙ length-append left.types right.types)
 
   rows_wide : All (λ (row : ℕ × Row). length row.1 ≡ length all_types_of) (numbered_fits on (plain_rows right.ahead) left.ahead)
   rows_wide =

@@ -1,14 +1,13 @@
 -- What gives the rows of a join of plans.
 use Rattle.std.proofs.Common.{◌≡◌, ◌≤◌, ◌<◌, ℕ, zero, suc, ◌+◌, Bool, true, false, List, [], ◌∷◌, ◌++◌, length, map, nat_lt, drop, slice_get, Option, Some, None, Result, Ok, Err, refl, sym, ap, ◌∙◌, subst, arith, length-append, length-drop, cond}
 use Rattle.std.specs.Prelude.{◌-◌}
-use Rattle.std.specs.List.{filter, flat_map, list_all, range_with_len, zip}
+use Rattle.std.specs.List.{AllZip, filter, flat_map, list_all, range_with_len, zip}
 use Rattle.std.proofs.lemmas.Bool.{lt-ltb}
 use Rattle.std.proofs.lemmas.List.{drop_all, length-map, map-append, take_all}
-use Rattle.std.proofs.lemmas.List.Elements.{filter-append}
+use Rattle.std.proofs.lemmas.List.Elements.{filter-append, length_all_zip}
 use Rattle.std.proofs.lemmas.Option.{slice_get_within}
-use Rattle.arrow_schema.specs.Answer.{answer_type}
+use Rattle.arrow_schema.specs.Answer.{LiesAs}
 use Rattle.arrow_schema.specs.declared.data_type.DataType.{DataType}
-use Rattle.arrow_schema.specs.declared.data_type.DataType.TheVariants.{Integer, Utf8, Bool as Flag, Decimal128, Date, Dictionary}
 use Rattle.arrow_schema.specs.declared.schema.Schema.{Schema}
 use Rattle.arrays.specs.Batch.{BatchAt, rows_of}
 use Rattle.scan_base.specs.Limits.{most_rows}
@@ -33,6 +32,7 @@ use Rattle.row_sources.specs.Parts.{numbered_parts, parts, numbered_rows}
 use Rattle.rewrite.specs.Places.{first_rows, rows_over}
 use Rattle.row_sources.specs.Running.{RowsAt}
 use Rattle.row_sources.proofs.BeginJoin.{fits_over}
+use Rattle.row_sources.proofs.Lying.{lie_behind, lie_copied}
 use Rattle.row_sources.proofs.AllRows.{numbers_off}
 
 -- ---- the tables of both sides
@@ -177,20 +177,8 @@ parts_along f g same (part ∷ some) =
 
 -- ---- types
 
-answered_twice : (types : List DataType) → map answer_type (map answer_type types) ≡ map answer_type types
-answered_twice [] = refl
-answered_twice (data_type ∷ types) = ap (λ (t : DataType). t ∷ map answer_type (map answer_type types)) (one data_type) ∙ ap (λ (rest : List DataType). answer_type data_type ∷ rest) (answered_twice types)
-  where
-    one : (t : DataType) → answer_type (answer_type t) ≡ answer_type t
-    one (Integer integer) = refl
-    one Utf8 = refl
-    one Flag = refl
-    one Decimal128 = refl
-    one Date = refl
-    one (Dictionary encoding) = refl
-
 pub as_many_types : (tree : Tree) (tables : List TableAt) (from to : ℕ) (rows : RowsAt) → IsBegun tree tables from to rows → length rows.types ≡ length (tree_types tree)
-as_many_types tree tables from to rows is = sym (length-map rows.types answer_type) ∙ ap length is.types ∙ length-map (tree_types tree) answer_type
+as_many_types tree tables from to rows is = sym (length_all_zip LiesAs (tree_types tree) rows.types is.types)
 
 -- ---- joined plans
 
@@ -203,10 +191,8 @@ joined_begun left right on (first ∷ more) last from to rows a b made l r count
     let rights : plain_rows b.ahead ≡ all = ap plain_rows r.ahead ∙ place_whole right place last rows counted in
     let long : length (tree_schemas left) ≡ suc (length more) = ap length e ∙ length-map (first ∷ more) (λ (table : TableAt). table.schema) in
     record {
-      types = ap (map answer_type) joins.types ∙ answered_twice (a.types ++ b.types) ∙ map-append answer_type a.types b.types
-          ∙ ap (λ (types : List DataType). types ++ map answer_type b.types) l.types
-          ∙ ap (λ (types : List DataType). map answer_type (tree_types left) ++ types) r.types
-          ∙ sym (map-append answer_type (tree_types left) (tree_types right));
+      types = subst (AllZip LiesAs (tree_types left ++ tree_types right)) (sym joins.types)
+          (lie_copied (tree_types left ++ tree_types right) (a.types ++ b.types) (lie_behind (tree_types left) a.types (tree_types right) b.types l.types r.types));
       ahead = joins.ahead
           ∙ ap (λ (some : List Row). numbered_fits on some a.ahead) rights
           ∙ ap (numbered_fits on all) l.ahead

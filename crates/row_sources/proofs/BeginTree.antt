@@ -8,9 +8,9 @@ use Rattle.scan_base.specs.declared.predicate.Predicate.{Predicate}
 use Rattle.scan_base.specs.View.{pred_of}
 use Rattle.row_sources.proofs.Cells.{within_at}
 use Rattle.opened_batches.specs.Chosen.{are_within}
-use Rattle.std.specs.List.{filter, flat_map, range_with_len}
-use Rattle.std.proofs.lemmas.List.Elements.{All-push}
-use Rattle.arrow_schema.specs.Answer.{answer_type}
+use Rattle.std.specs.List.{AllZip, filter, flat_map, range_with_len}
+use Rattle.std.proofs.lemmas.List.Elements.{All-push, length_all_zip}
+use Rattle.arrow_schema.specs.Answer.{LiesAs}
 use Rattle.arrow_schema.specs.declared.data_type.DataType.{DataType}
 use Rattle.arrow_schema.specs.declared.schema.Field.{Field}
 use Rattle.arrays.specs.Batch.{BatchAt, rows_of}
@@ -33,6 +33,7 @@ use Rattle.row_sources.specs.Running.{RowsAt, picked_of}
 use Rattle.row_sources.proofs.Batched.{numbered_from}
 use Rattle.row_sources.proofs.BeginPick.{pick_with, given_wide, filter_more, filter_over, parts_given, clamped_from, types_read, numbers_within}
 use Rattle.row_sources.proofs.JoinSteps.{as_many}
+use Rattle.row_sources.proofs.Lying.{lie_alone}
 use Rattle.row_sources.proofs.Opening.{in_clamped, none_in}
 use Rattle.row_sources.proofs.Piecing.{place_of}
 use Rattle.row_sources.proofs.Shown.{of_types}
@@ -89,7 +90,8 @@ module _ (table : TableAt) (some : Columns) (from to rows : ℕ) (there : has_co
 
   pub scan_begun : (name : Name) → IsBegun (scan name table.schema some) (table ∷ []) from to scan_rows
   scan_begun name = record {
-    types = ap (map answer_type) (types_read some (types_of table.schema.fields) width (types_many table.schema.fields) there);
+    types = subst (λ (given : List DataType). AllZip LiesAs given scan_rows.types)
+        (types_read some (types_of table.schema.fields) width (types_many table.schema.fields) there) (lie_alone scan_rows.types);
     ahead = scan_ahead name;
     wide = given_wide (pick_with [] shown) (length scan_rows.types) (sym (length-map shown (type_at (types_of table.schema.fields)))) (rows_ahead table cursor);
     batches = ap (λ (n : ℕ). batches_in n cursor.to table.batches) begins.from_is ∙ ap (λ (n : ℕ). batches_in from n table.batches) begins.to_is
@@ -124,9 +126,7 @@ module _ (source : RowsAt) (filters : List (Pred ℕ)) (predicate : Pred ℕ) (n
 
   -- as many columns are given as there are types
   many : length (tree_types tree) ≡ length numbers
-  many =
-      sym (length-map (tree_types tree) answer_type) ∙ sym (ap length is.types)
-      ∙ length-map (map (type_at source.types) numbers) answer_type ∙ length-map numbers (type_at source.types)
+  many = length_all_zip LiesAs (tree_types tree) (map (type_at source.types) numbers) is.types ∙ length-map numbers (type_at source.types)
 
   pub filter_pick : (wide : ℕ) → IsPick wide (pick_with filters numbers) →
       IsTrue (names_only (λ column. nat_lt column (length (tree_types tree))) predicate) → IsPick wide (pick_with (filters ++ predicate ∷ []) numbers)

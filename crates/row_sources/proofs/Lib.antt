@@ -13,6 +13,7 @@ pub mod Piecing
 pub mod ByNumber
 pub mod JoinSteps
 pub mod ShownCells
+pub mod Lying
 pub mod BeginPick
 pub mod BeginTree
 pub mod BeginJoin

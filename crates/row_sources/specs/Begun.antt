@@ -1,6 +1,7 @@
 -- Rows of a tree, before the first one.
 use Rattle.std.specs.Prelude.{◌≡◌, ℕ, All, List, [], ◌∷◌, length, map}
-use Rattle.arrow_schema.specs.Answer.{answer_type}
+use Rattle.std.specs.List.{AllZip}
+use Rattle.arrow_schema.specs.Answer.{LiesAs}
 use Rattle.table_versions.specs.Stored.{TableAt}
 use Rattle.table_versions.specs.Table.{Row}
 use Rattle.typed_plan.specs.Plan.{Tree}
@@ -16,10 +17,10 @@ tree_given tree tables from to =
     numbered_rows (map (λ (part : ℕ × List Row). (part.0, rows_over tree (part.1 ∷ further_rows tables)))
     (numbered_parts from to (first_batches tables)))
 
--- rows before the first one: all that a tree gives of a range are to come, each as wide as there are types, and no batch of
--- the first place was opened
+-- rows before the first one: their columns lie as those of the tree, all that it gives of a range are to come, each as wide as
+-- there are types, and no batch of the first place was opened
 pub record IsBegun (tree : Tree) (tables : List TableAt) (from to : ℕ) (rows : RowsAt) : Type 0 where
-  pub types : map answer_type rows.types ≡ map answer_type (tree_types tree)
+  pub types : AllZip LiesAs (tree_types tree) rows.types
   pub ahead : rows.ahead ≡ tree_given tree tables from to
   pub wide : All (λ (row : ℕ × Row). length row.1 ≡ length rows.types) rows.ahead
   pub batches : rows.batches ≡ batches_in from to (first_batches tables)

@@ -8,7 +8,7 @@ use Rattle.table_versions.specs.Table.{Row}
 use Rattle.typed_plan.specs.declared.plan.JoinKey.{JoinKey}
 use Rattle.row_sources.specs.Joined.{joined_at}
 use Rattle.row_sources.specs.Running.{RowsAt, picked_of}
-use Rattle.arrow_schema.specs.Answer.{answer_type}
+use Rattle.arrow_schema.specs.Answer.{copied_type}
 use Rattle.scan_base.specs.Limits.{most_rows}
 use Rattle.typed_plan.specs.Plan.{fits}
 use Rattle.typed_plan.specs.Typed.{spans}
@@ -31,7 +31,7 @@ pub record CanJoin (on : List JoinKey) (left right : RowsAt) : Type 0 where
 
 -- joined rows before the first one: all rows of both sides that fit are to come
 pub record JoinsRows (on : List JoinKey) (left right made : RowsAt) : Type 0 where
-  pub types : made.types ≡ map answer_type (left.types ++ right.types)
+  pub types : made.types ≡ map copied_type (left.types ++ right.types)
   pub ahead : made.ahead ≡ numbered_fits on (map (λ (row : ℕ × Row). row.1) right.ahead) left.ahead
   pub wide : All (λ (row : ℕ × Row). length row.1 ≡ length made.types) made.ahead
   pub batches : made.batches ≡ left.batches

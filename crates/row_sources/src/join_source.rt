@@ -1,7 +1,7 @@
 //! What gives joined rows.
 
 ghost use Rattle.std.specs.Prelude.{◌≡◌, ◌≤◌, [], ◌++◌, IfOk, length, map};
-ghost use Rattle.arrow_schema.specs.Answer.{answer_type};
+ghost use Rattle.arrow_schema.specs.Answer.{copied_type};
 ghost use Rattle.join_batches.specs.Joiner.{joined_types};
 ghost use Rattle.scan_base.specs.Limits.{most_rows};
 ghost use Rattle.row_sources.specs.Joining.{CanJoin, JoinsRows, HasKeys, IsSides, all_joined, joiner_with};
@@ -40,23 +40,23 @@ pub(crate) fn join_source(
     ensures joins { IfOk result (λ made. JoinsRows on.now (sourced_at sides.left) (sourced_at sides.right) (sourced_at made)) }
 {
     let Sides { left, right } = sides;
-    let types = answered_types(alloc, left.types.as_slice(), right.types.as_slice())?;
+    let types = copied_types(alloc, left.types.as_slice(), right.types.as_slice())?;
     let sides = join_sides(alloc, left.types.as_slice(), right.types.as_slice(), on)?;
     let joiner = joiner_of(alloc, seed, sides, right)?;
     joined(alloc, left, joiner, types)
 }
 
 // The types of joined rows: those of dictionaries are texts.
-fn answered_types(
+fn copied_types(
     alloc: Global,
     left: &[DataType],
     right: &[DataType],
 ) -> Result<Vec<DataType>, AllocError>
-    ensures { IfOk result (λ types. types.items ≡ map answer_type (left.now ++ right.now)) }
+    ensures { IfOk result (λ types. types.items ≡ map copied_type (left.now ++ right.now)) }
 {
     left.iter()
         .chain(right.iter())
-        .map(|data_type| data_type.answered())
+        .map(|data_type| data_type.copied())
         .collect(alloc)
 }
 

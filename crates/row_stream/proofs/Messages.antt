@@ -8,7 +8,7 @@ use Rattle.flatbuf.specs.Place.{root_of, scalar_of}
 use Rattle.arrow_schema.specs.declared.header.HeaderKind.TheVariants as kinds
 use Rattle.arrow_schema.specs.declared.schema.Field.{Field}
 use Rattle.arrow_schema.specs.declared.schema.Schema.{Schema}
-use Rattle.arrow_schema.specs.Answer.{answer_type, answer_schema}
+use Rattle.arrow_schema.specs.Answer.{copied_type, plain_schema}
 use Rattle.arrow_schema.specs.Header.{MessageAt, header_kind, message_of, body_length_of, schema_in, schema_message_of, schema_of}
 use Rattle.arrow_schema.specs.Schema.{IsSchema}
 use Rattle.arrow_schema.specs.Written.{schema_part, schema_bytes}
@@ -92,23 +92,23 @@ first_said message schema tells =
     let news : News = record { state = Some known; batch = None } in
     (known, refl, (news, [], tells, refl, (refl, refl)))
 
-types_answered : (fields : List Field) → map (λ (field : Field). field.data_type) (answer_schema (record { fields = fields })).fields ≡ map (λ (field : Field). answer_type field.data_type) fields
+types_answered : (fields : List Field) → map (λ (field : Field). field.data_type) (plain_schema (record { fields = fields })).fields ≡ map (λ (field : Field). copied_type field.data_type) fields
 types_answered [] = refl
-types_answered (field ∷ fields) = ap (λ l. answer_type field.data_type ∷ l) (types_answered fields)
+types_answered (field ∷ fields) = ap (λ l. copied_type field.data_type ∷ l) (types_answered fields)
 
 -- one batch more says its rows behind the others
 pub more_said : (messages : List IpcMessage) (message : IpcMessage) (schema : Schema) (rows : Rows) (batch : BatchAt) → SaysAnswered (sent_in message) batch → AreOfTypes schema.fields batch.columns
-    → Says (map sent_in messages) (answer_schema schema) rows → Says (map sent_in (messages ++ message ∷ [])) (answer_schema schema) (rows ++ rows_of batch)
+    → Says (map sent_in messages) (plain_schema schema) rows → Says (map sent_in (messages ++ message ∷ [])) (plain_schema schema) (rows ++ rows_of batch)
 more_said messages message schema rows batch tells typed said =
     let sent = map sent_in messages in
     let known = said.0 in
-    let same : map (λ (field : Field). field.data_type) known.schema.fields ≡ map (λ (field : Field). answer_type field.data_type) schema.fields =
+    let same : map (λ (field : Field). field.data_type) known.schema.fields ≡ map (λ (field : Field). copied_type field.data_type) schema.fields =
     rw said.1 (types_answered schema.fields) in
     let read = tells known schema.fields typed same in
     let news : News = record { state = Some known; batch = Some read.0 } in
     let one : Follows (Some known) (sent_in message ∷ []) (Some known) (rows_of read.0) = (news, [], read.1, sym (append-nil (rows_of read.0)), (refl, refl)) in
     let all : Follows None (sent ++ sent_in message ∷ []) (Some known) (rows ++ rows_of read.0) = joined None sent (sent_in message ∷ []) (Some known) (Some known) rows (rows_of read.0) said.2 one in
-    subst (λ (l : List Sent). Says l (answer_schema schema) (rows ++ rows_of batch)) (sym (map-append sent_in messages (message ∷ [])))
+    subst (λ (l : List Sent). Says l (plain_schema schema) (rows ++ rows_of batch)) (sym (map-append sent_in messages (message ∷ [])))
     (known, said.1, subst (λ (more : Rows). Follows None (sent ++ sent_in message ∷ []) (Some known) (rows ++ more)) read.2 all)
 
 -- ---- a frame

@@ -6,7 +6,7 @@ use Rattle.std.proofs.lemmas.Grind.{flat_map-append}
 use Rattle.std.proofs.lemmas.List.Elements.{All-append, All-nil, All-cons}
 use Rattle.scan_base.specs.declared.fault.Fault.{Fault}
 use Rattle.arrow_schema.specs.declared.schema.Schema.{Schema}
-use Rattle.arrow_schema.specs.Answer.{answer_schema}
+use Rattle.arrow_schema.specs.Answer.{plain_schema}
 use Rattle.arrays.specs.Batch.{BatchAt, rows_of}
 use Rattle.arrays.specs.Typed.{AreOfTypes}
 use Rattle.grpc_frame.specs.Ends.{AppendsBeginning, Writes}
@@ -70,8 +70,8 @@ not_begun schema rows a b before after fault none (inr same) =
 
 -- ---- a batch more
 
-pub went_on : (schema : Schema) (rows : Rows) (batch : BatchAt) (a b c : Option (List ℕ)) (mid after : List ℕ) → SoFar (answer_schema schema) rows a b mid → AreOfTypes schema.fields batch.columns
-    → FrameSent (λ sent. SaysAnswered sent batch) b c mid after → SoFar (answer_schema schema) (rows ++ rows_of batch) a c after
+pub went_on : (schema : Schema) (rows : Rows) (batch : BatchAt) (a b c : Option (List ℕ)) (mid after : List ℕ) → SoFar (plain_schema schema) rows a b mid → AreOfTypes schema.fields batch.columns
+    → FrameSent (λ sent. SaysAnswered sent batch) b c mid after → SoFar (plain_schema schema) (rows ++ rows_of batch) a c after
 went_on schema rows batch a b c mid after so typed sends = record {
   messages = so.messages ++ sends.message ∷ [];
   each = each_more so.messages sends.message so.each sends.fits;
@@ -88,16 +88,16 @@ stopped_here schema rows some others a b mid splits so = (
 )
 
 pub stopped : (schema : Schema) (rows some others : Rows) (batch : BatchAt) (a b c : Option (List ℕ)) (mid after : List ℕ) (fault : Fault) → rows ≡ (some ++ rows_of batch) ++ others
-    → SoFar (answer_schema schema) some a b mid → AreOfTypes schema.fields batch.columns
-    → SendsMessage {A = Unit {0}} (λ sent. SaysAnswered sent batch) (Err fault) b c mid after → Stopped (answer_schema schema) rows a c
+    → SoFar (plain_schema schema) some a b mid → AreOfTypes schema.fields batch.columns
+    → SendsMessage {A = Unit {0}} (λ sent. SaysAnswered sent batch) (Err fault) b c mid after → Stopped (plain_schema schema) rows a c
 stopped schema rows some others batch a b c mid after fault splits so typed (inl sends) =
     let messages = so.messages ++ sends.message ∷ [] in
-    let says = messages_alone messages (answer_schema schema) (some ++ rows_of batch) (each_more so.messages sends.message so.each sends.fits) (more_said so.messages sends.message schema some batch sends.tells typed so.said) in
+    let says = messages_alone messages (plain_schema schema) (some ++ rows_of batch) (each_more so.messages sends.message so.each sends.fits) (more_said so.messages sends.message schema some batch sends.tells typed so.said) in
     let wrote : AppendsBeginning a c (flat_map frame so.messages ++ frame sends.message) = begun_alone a c [] after _ refl (second_not_sent a b c [] mid after (flat_map frame so.messages) (frame sends.message) so.sent sends.failed) in
     (flat_map frame messages, inr (record { some = some ++ rows_of batch; others = others; splits = splits; rest = []; says = says }), subst (AppendsBeginning a c) (sym (frames_more so.messages sends.message)) wrote)
 stopped schema rows some others batch a b c mid after fault splits so typed (inr same) =
-    subst (Stopped (answer_schema schema) rows a) (sym same.0)
-    (stopped_here (answer_schema schema) rows some (rows_of batch ++ others) a b mid (splits ∙ append_assoc some (rows_of batch) others) so)
+    subst (Stopped (plain_schema schema) rows a) (sym same.0)
+    (stopped_here (plain_schema schema) rows some (rows_of batch ++ others) a b mid (splits ∙ append_assoc some (rows_of batch) others) so)
 
 -- ---- the end
 

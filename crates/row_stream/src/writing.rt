@@ -2,7 +2,7 @@
 
 ghost use Rattle.std.specs.Prelude.{All, MatchResult};
 ghost use Rattle.std.specs.List.{flat_map};
-ghost use Rattle.arrow_schema.specs.Answer.{answer_schema};
+ghost use Rattle.arrow_schema.specs.Answer.{plain_schema};
 ghost use Rattle.arrow_schema.specs.Schema.{IsSchema};
 ghost use Rattle.arrays.specs.Batch.{rows_of};
 ghost use Rattle.arrays.specs.Typed.{AreOfTypes};
@@ -38,13 +38,13 @@ pub fn write_stream<W: Output>(
     requires failures { CanFail (W.failures output.old) }
     requires schema { IsSchema schema.now }
     requires typed { All (λ batch. AreOfTypes schema.now.fields batch.columns) batches.now }
-    ensures bytes { WritesStream result (answer_schema schema.now) (flat_map rows_of batches.now)
+    ensures bytes { WritesStream result (plain_schema schema.now) (flat_map rows_of batches.now)
         (W.contents output.old) (W.contents output.new) }
     ensures counted { CountsTransport result (W.failures output.old) (W.failures output.new) }
     ensures cause { MatchResult result (λ _. Unit {0}) (IsCause batches.now) }
 {
     let mut outbox = Outbox::new(alloc);
-    let answer = schema.answered(alloc)?;
+    let answer = schema.plain(alloc)?;
     send_schema(alloc, output, &mut outbox, &answer)?;
     for batch in batches {
         send_batch(alloc, output, &mut outbox, batch)?;

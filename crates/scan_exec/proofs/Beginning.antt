@@ -1,13 +1,13 @@
 -- A scan before its first batch.
-use Rattle.std.proofs.Common.{◌≡◌, ℕ, ◌+◌, ◌-◌, ◌==◌, true, List, [], ◌∷◌, ◌++◌, length, map, take, drop, unwrap_or, slice_get, Option, Some, None, option_map, refl, sym, ap, ◌∙◌, subst, arith, length-append, get_or, if◌then◌else◌}
-use Rattle.std.specs.List.{flat_map, list_all, range_with_len}
+use Rattle.std.proofs.Common.{◌≡◌, ℕ, ◌+◌, ◌-◌, ◌==◌, true, List, [], ◌∷◌, ◌++◌, length, map, take, drop, unwrap_or, slice_get, Option, Some, None, option_map, inl, refl, sym, ap, ◌∙◌, subst, arith, length-append, get_or, if◌then◌else◌}
+use Rattle.std.specs.List.{flat_map, list_all, range_with_len, AllZip}
 use Rattle.arrow_schema.specs.declared.schema.Schema.{Schema}
 use Rattle.std.proofs.lemmas.Option.{slice_get-map}
 use Rattle.std.proofs.lemmas.List.Elements.{filter-append}
 use Rattle.std.proofs.lemmas.Simd.{map-map}
-use Rattle.arrow_schema.specs.Answer.{answer_type}
+use Rattle.arrow_schema.specs.Answer.{answered_from, copied_type, LieBehind, LiesAs}
 use Rattle.arrow_schema.specs.declared.data_type.DataType.{DataType}
-use Rattle.arrow_schema.specs.declared.data_type.DataType.TheVariants.{Integer, Utf8, Bool as Flag, Decimal128, Date, Dictionary}
+use Rattle.arrow_schema.specs.declared.data_type.DataType.TheVariants.{Utf8}
 use Rattle.table_versions.specs.Table.{Row}
 use Rattle.typed_plan.specs.declared.plan.Columns.{Columns}
 use Rattle.typed_plan.specs.declared.plan.Columns.TheVariants as columns
@@ -19,7 +19,7 @@ use Rattle.typed_plan.specs.Grouped.{Group}
 use Rattle.typed_plan.specs.Joined.{rows_between}
 use Rattle.arrays.specs.Batch.{rows_of}
 use Rattle.typed_plan.specs.Plan.{answered, groups_by, output_rows}
-use Rattle.typed_plan.specs.Typed.{IsTyped, type_at, types_taken, types_of, tree_types, output_types, item_type, is_grouping}
+use Rattle.typed_plan.specs.Typed.{IsTyped, type_at, types_taken, tree_types, output_types, item_type, is_grouping}
 use Rattle.typed_plan.specs.View.{BoundAt, plan_of, tree_of}
 use Rattle.scan_exec.specs.Giving.{GivingAt}
 use Rattle.scan_exec.specs.Answering.{IsScan, Rise, answer_for, renumbered, scan_at}
@@ -32,50 +32,36 @@ use Rattle.opened_batches.specs.Opened.{batches_in, first_numbers, first_opened,
 use Rattle.scan_exec.specs.Morsels.{of_first}
 use Rattle.row_sources.specs.Running.{RowsAt}
 use Rattle.scan_exec.specs.Scan.{IsBeginning}
+use Rattle.row_sources.proofs.Lying.{lies_copied, lies_at, lie_at}
 use Rattle.scan_exec.proofs.PartScan.{firsts_rise, further_none}
 use Rattle.scan_exec.proofs.PlanGives.{given_rows}
 use Rattle.scan_exec.proofs.ScanGiven.{scan_given}
 
--- the type of an answer of a column
-pub type_answered : (types : List DataType) (number : ℕ) → answer_type (type_at types number) ≡ type_at (map answer_type types) number
-type_answered types number = of (slice_get types number) ∙ sym (ap (λ (t : Option DataType). unwrap_or t Utf8) (slice_get-map answer_type types number))
+-- the type in which a column is copied
+pub type_copied : (types : List DataType) (number : ℕ) → copied_type (type_at types number) ≡ type_at (map copied_type types) number
+type_copied types number = of (slice_get types number) ∙ sym (ap (λ (t : Option DataType). unwrap_or t Utf8) (slice_get-map copied_type types number))
   where
-    of : (t : Option DataType) → answer_type (unwrap_or t Utf8) ≡ unwrap_or (option_map answer_type t) Utf8
+    of : (t : Option DataType) → copied_type (unwrap_or t Utf8) ≡ unwrap_or (option_map copied_type t) Utf8
     of (Some t) = refl
     of None = refl
 
--- the types of answers of chosen columns, where those of all are alike
-types_alike : (columns : Columns) (some others : List DataType) → map answer_type some ≡ map answer_type others →
-    map answer_type (types_taken columns some) ≡ map answer_type (types_taken columns others)
-types_alike columns.All some others e = e
-types_alike (columns.These numbers) some others e = each numbers
-  where
-    each : (numbers : List ℕ) → map answer_type (map (type_at some) numbers) ≡ map answer_type (map (type_at others) numbers)
-    each [] = refl
-    each (number ∷ numbers) =
-        rw (type_answered some number, type_answered others number, e, each numbers) refl
+-- chosen columns lie as those of which they are chosen
+columns_lie : (columns : Columns) (types lies : List DataType) → AllZip LiesAs types lies →
+    AllZip LiesAs (types_taken columns types) (types_taken columns lies)
+columns_lie columns.All types lies all = all
+columns_lie (columns.These numbers) types lies all = lie_at types lies numbers all
 
--- the types of answers are those of answers
-same_answer : (t : DataType) → answer_type (answer_type t) ≡ answer_type t
-same_answer (Integer integer) = refl
-same_answer Utf8 = refl
-same_answer Flag = refl
-same_answer Decimal128 = refl
-same_answer Date = refl
-same_answer (Dictionary encoding) = refl
-
-items_alike : (keys : List ℕ) (items : List Aggregate) (some others : List DataType) → map answer_type some ≡ map answer_type others →
-    map answer_type (map answer_type (map (item_type keys some) items)) ≡ map answer_type (map (item_type keys others) items)
-items_alike keys [] some others e = refl
-items_alike keys (item ∷ items) some others e = rw (one item, items_alike keys items some others e) refl
+-- what groups give is copied
+items_lie : (keys : List ℕ) (items : List Aggregate) (types lies : List DataType) → AllZip LiesAs types lies →
+    AllZip LiesAs (map (item_type keys types) items) (map copied_type (map (item_type keys lies) items))
+items_lie keys [] types lies all = tt
+items_lie keys (item ∷ items) types lies all = (one item, items_lie keys items types lies all)
   where
-    one : (item : Aggregate) → answer_type (answer_type (item_type keys some item)) ≡ answer_type (item_type keys others item)
-    one (Key place) =
-        same_answer (type_at some (get_or keys place 0)) ∙ type_answered some (get_or keys place 0) ∙ ap (λ (types : List DataType). type_at types (get_or keys place 0)) e
-        ∙ sym (type_answered others (get_or keys place 0))
-    one CountRows = refl
-    one (Count column) = refl
-    one (Sum column) = refl
+    one : (item : Aggregate) → LiesAs (item_type keys types item) (copied_type (item_type keys lies item))
+    one (Key place) = lies_copied (type_at types (get_or keys place 0)) (type_at lies (get_or keys place 0)) (lies_at types lies (get_or keys place 0) all)
+    one CountRows = inl refl
+    one (Count column) = inl refl
+    one (Sum column) = inl refl
 
 -- all rows of a range, without the numbers of their batches
 pub plain_given : (bound : BoundAt) (from to : ℕ) →
@@ -89,11 +75,16 @@ plain_given bound from to =
 
 -- what gives the result of a plan
 module _ (bound : BoundAt) (from to : ℕ) (typed : IsTyped (plan_of bound)) (rows : RowsAt) (begun : IsBegun (plan_of bound).tree bound.tables from to rows) where
-  types_is : (output : Output) → bound.output ≡ output → map answer_type (answer_for output rows).types ≡ types_of bound.schema.fields
-  types_is (Project columns) e = types_alike columns rows.types (tree_types (plan_of bound).tree) begun.types
-      ∙ sym (typed.types ∙ ap (λ (o : Output). map answer_type (output_types o (tree_types (plan_of bound).tree))) e)
-  types_is (Groups keys items) e = items_alike keys items rows.types (tree_types (plan_of bound).tree) begun.types
-      ∙ sym (typed.types ∙ ap (λ (o : Output). map answer_type (output_types o (tree_types (plan_of bound).tree))) e)
+  types_is : (output : Output) → bound.output ≡ output → LieBehind bound.schema.fields (answer_for output rows).types
+  types_is output e = record {
+    types = output_types output (tree_types (plan_of bound).tree);
+    answered = typed.types ∙ ap (λ (o : Output). answered_from 0 (output_types o (tree_types (plan_of bound).tree))) e;
+    lie = lie output;
+  }
+    where
+      lie : (output : Output) → AllZip LiesAs (output_types output (tree_types (plan_of bound).tree)) (answer_for output rows).types
+      lie (Project columns) = columns_lie columns (tree_types (plan_of bound).tree) rows.types begun.types
+      lie (Groups keys items) = items_lie keys items (tree_types (plan_of bound).tree) rows.types begun.types
 
   ahead_is : (output : Output) → bound.output ≡ output → (answer_for output rows).ahead ≡ given_of bound from to
   ahead_is (Project columns) e =
@@ -144,7 +135,8 @@ module _ (bound : BoundAt) (from to : ℕ) (typed : IsTyped (plan_of bound)) (ro
         IsBeginning old begin end (scan_at old.schema giving batches further 0 None)
     begins_is schema law = record {
       schema = refl;
-      types = ap (λ (g : GivingAt). map answer_type g.types) is ∙ types_is bound.output refl ∙ ap (λ (s : Schema). types_of s.fields) schema;
+      types = subst (λ (s : Schema). LieBehind s.fields giving.types) schema
+          (subst (λ (g : GivingAt). LieBehind bound.schema.fields g.types) (sym is) (types_is bound.output refl));
       ahead = ap (λ (some : List (ℕ × ℕ)). map (renumbered some) giving.ahead) firsts_are
           ∙ ap (map (renumbered (first_opened begin end old))) (ap (λ (g : GivingAt). g.ahead) is ∙ ahead_is bound.output refl) ∙ law;
       batches = all;

@@ -11,7 +11,7 @@ use Rattle.std.proofs.lemmas.List.{map-append, length-append, length-map, get_or
 use Rattle.std.proofs.lemmas.List.Elements.{filter-append}
 use Rattle.std.proofs.lemmas.List.FromFn.{length-range_with_len}
 use Rattle.kernels.proofs.PushedRows.{filter_more}
-use Rattle.arrow_schema.specs.Answer.{answer_type}
+use Rattle.arrow_schema.specs.Answer.{copied_type}
 use Rattle.arrow_schema.specs.declared.data_type.DataType.{DataType}
 use Rattle.arrays.specs.Batch.{BatchAt, row_of, rows_of}
 use Rattle.arrays.specs.Typed.{AreOf}
@@ -211,7 +211,7 @@ whole_part work result is =
 
 -- the types of what groups answer
 abbrev types_answered : List DataType → List ℕ → List Aggregate → List DataType
-types_answered types keys items = map answer_type (map (item_type keys types) items)
+types_answered types keys items = map copied_type (map (item_type keys types) items)
 
 -- what is grouped to answer what is wanted
 abbrev pub wanted_work : Wanted → List BatchAt → GroupWorkAt

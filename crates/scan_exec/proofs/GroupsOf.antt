@@ -3,7 +3,7 @@ use Rattle.std.proofs.Common.{◌≡◌, ◌≤◌, ℕ, List, length, map, take
 use Rattle.std.specs.Prelude.{Vec}
 use Rattle.std.specs.Global.{Global}
 use Rattle.std.proofs.lemmas.Simd.{map-map}
-use Rattle.arrow_schema.specs.Answer.{answer_type}
+use Rattle.arrow_schema.specs.Answer.{copied_type}
 use Rattle.arrow_schema.specs.declared.data_type.DataType.{DataType}
 use Rattle.scan_base.specs.Limits.{most_rows}
 use Rattle.table_versions.specs.Table.{Row}
@@ -58,7 +58,7 @@ module _ (source : SourceAt) (made : UnfilteredRows) (is : IsUnfiltered source m
       let giving : List DataType → List Row → List ℕ → List ℕ → GivingAt = λ types some batches opened.
       record { types = types; ahead = map (λ (row : Row). (None, row)) some; batches = batches; opened = opened } in
       let groups = groups_by keys (plain_rows source.rows.ahead) in
-      let shown : List DataType = map answer_type (map (item_type keys source.rows.types) items) in
+      let shown : List DataType = map copied_type (map (item_type keys source.rows.types) items) in
       let types : wanted_types wanted ≡ shown = rw (k, types_are, i) refl in
       let answers : wanted_rows wanted (plain_rows made.rows.ahead) ≡ map (λ group. map (answered group) items) groups =
       rw (k, i, same_rows) refl in

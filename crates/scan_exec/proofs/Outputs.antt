@@ -2,7 +2,7 @@
 use Rattle.std.proofs.Common.{◌≡◌, ℕ, Bool, ◌&&◌, List, [], ◌∷◌, length, map, nat_lt, refl, sym, ap, ◌∙◌}
 use Rattle.std.specs.List.{list_all}
 use Rattle.std.proofs.lemmas.List.{length-map}
-use Rattle.arrow_schema.specs.Answer.{answer_type}
+use Rattle.arrow_schema.specs.Answer.{copied_type}
 use Rattle.arrow_schema.specs.declared.data_type.DataType.{DataType}
 use Rattle.arrow_schema.specs.declared.data_type.DataType.TheVariants.{Integer, Utf8, Bool as Flag, Decimal128, Date, Dictionary}
 use Rattle.typed_plan.specs.Class.{can_sum}
@@ -14,25 +14,26 @@ use Rattle.typed_plan.specs.Typed.{HasOutput, IsTyped, has_columns, has_item, tr
 use Rattle.typed_plan.specs.View.{BoundAt, plan_of, tree_of}
 use Rattle.row_sources.specs.Begun.{IsBegun}
 use Rattle.row_sources.specs.Running.{RowsAt}
-use Rattle.scan_exec.proofs.Beginning.{type_answered}
+use Rattle.row_sources.proofs.Lying.{all_alike}
+use Rattle.scan_exec.proofs.Beginning.{type_copied}
 
 -- what is summed is no dictionary
-sum_answered : (t : DataType) → can_sum (answer_type t) ≡ can_sum t
-sum_answered (Integer integer) = refl
-sum_answered Utf8 = refl
-sum_answered Flag = refl
-sum_answered Decimal128 = refl
-sum_answered Date = refl
-sum_answered (Dictionary encoding) = refl
+sum_copied : (t : DataType) → can_sum (copied_type t) ≡ can_sum t
+sum_copied (Integer integer) = refl
+sum_copied Utf8 = refl
+sum_copied Flag = refl
+sum_copied Decimal128 = refl
+sum_copied Date = refl
+sum_copied (Dictionary encoding) = refl
 
-module _ (some others : List DataType) (e : map answer_type some ≡ map answer_type others) where
+module _ (some others : List DataType) (e : map copied_type some ≡ map copied_type others) where
   long : length some ≡ length others
-  long = sym (length-map some answer_type) ∙ ap length e ∙ length-map others answer_type
+  long = sym (length-map some copied_type) ∙ ap length e ∙ length-map others copied_type
 
   sum_same : (column : ℕ) → can_sum (type_at some column) ≡ can_sum (type_at others column)
   sum_same column =
-      sym (sum_answered (type_at some column)) ∙ ap can_sum (type_answered some column ∙ ap (λ (types : List DataType). type_at types column) e
-      ∙ sym (type_answered others column)) ∙ sum_answered (type_at others column)
+      sym (sum_copied (type_at some column)) ∙ ap can_sum (type_copied some column ∙ ap (λ (types : List DataType). type_at types column) e
+      ∙ sym (type_copied others column)) ∙ sum_copied (type_at others column)
 
   item_same : (keys : ℕ) (item : Aggregate) → has_item keys some item ≡ has_item keys others item
   item_same keys (Key place) = refl
@@ -54,4 +55,5 @@ module _ (some others : List DataType) (e : map answer_type some ≡ map answer_
 module _ (bound : BoundAt) (from to : ℕ) (typed : IsTyped (plan_of bound)) (rows : RowsAt)
     (begun : IsBegun (tree_of bound.plan) bound.tables from to rows) where
   pub output_there : HasOutput bound.output rows.types
-  output_there = output_alike rows.types (tree_types (tree_of bound.plan)) begun.types bound.output typed.output
+  output_there = output_alike rows.types (tree_types (tree_of bound.plan))
+      (all_alike (tree_types (tree_of bound.plan)) rows.types begun.types) bound.output typed.output

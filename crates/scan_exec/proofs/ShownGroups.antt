@@ -6,7 +6,7 @@ use Rattle.std.proofs.lemmas.Bool.{ltb-true, and_parts}
 use Rattle.std.proofs.lemmas.List.{map-append, length-map}
 use Rattle.std.proofs.lemmas.Option.{slice_get-map, slice_get-get_or}
 use Rattle.std.proofs.lemmas.Simd.{map-map}
-use Rattle.arrow_schema.specs.Answer.{answer_type}
+use Rattle.arrow_schema.specs.Answer.{copied_type}
 use Rattle.arrow_schema.specs.declared.data_type.DataType.{DataType}
 use Rattle.arrow_schema.specs.declared.data_type.DataType.TheVariants.{Utf8}
 use Rattle.arrays.specs.Batch.{BatchAt, cut_batch, rows_of}
@@ -140,12 +140,12 @@ types_of f some (place ∷ places) all =
 
 module _ (rows : RowsAt) (keys : List ℕ) (items some : List Aggregate) (places : List ℕ) (stand : StandFor items some places) where
   -- the types
-  types_same : map (type_at (map answer_type (map (item_type keys rows.types) some))) places ≡ map answer_type (map (item_type keys rows.types) items)
+  types_same : map (type_at (map copied_type (map (item_type keys rows.types) some))) places ≡ map copied_type (map (item_type keys rows.types) items)
   types_same =
-      ap (λ (types : List DataType). map (type_at types) places) (map-map answer_type (item_type keys rows.types) some)
-      ∙ types_of (λ item. answer_type (item_type keys rows.types item)) some places stand.there
-      ∙ ap (map (λ item. answer_type (item_type keys rows.types item))) stand.each
-      ∙ sym (map-map answer_type (item_type keys rows.types) items)
+      ap (λ (types : List DataType). map (type_at types) places) (map-map copied_type (item_type keys rows.types) some)
+      ∙ types_of (λ item. copied_type (item_type keys rows.types item)) some places stand.there
+      ∙ ap (map (λ item. copied_type (item_type keys rows.types item))) stand.each
+      ∙ sym (map-map copied_type (item_type keys rows.types) items)
 
   -- the items of each group
   group_same : (groups : List Group) →
@@ -163,10 +163,10 @@ module _ (rows : RowsAt) (keys : List ℕ) (items some : List Aggregate) (places
       record { types = types; ahead = ahead; batches = rows.batches; opened = rows.opened } in
       let groups = groups_by keys (map (λ (row : ℕ × Row). row.1) rows.ahead) in
       ap (λ (types : List DataType). giving types (map (show places) (map (λ group. (None, map (answered group) some)) groups))) types_same
-      ∙ ap (giving (map answer_type (map (item_type keys rows.types) items))) (group_same groups)
+      ∙ ap (giving (map copied_type (map (item_type keys rows.types) items))) (group_same groups)
 
   -- they are there
-  pub places_there : are_within (length (map answer_type (map (item_type keys rows.types) some))) places ≡ true
+  pub places_there : are_within (length (map copied_type (map (item_type keys rows.types) some))) places ≡ true
   places_there =
       ap (λ (n : ℕ). are_within n places)
-      (length-map (map (item_type keys rows.types) some) answer_type ∙ length-map some (item_type keys rows.types)) ∙ stand.there
+      (length-map (map (item_type keys rows.types) some) copied_type ∙ length-map some (item_type keys rows.types)) ∙ stand.there

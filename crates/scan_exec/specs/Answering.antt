@@ -2,7 +2,7 @@
 use Rattle.std.specs.Prelude.{◌≡◌, ◌≢◌, ◌≤◌, ◌<◌, ◌⊎◌, ℕ, ◌+◌, ◌-◌, IsTrue, ◌==◌, List, [], ◌∷◌, length, map, take, drop, get_or, Option, Some, None, option_map, Result, Ok, Err}
 use Rattle.std.specs.List.{list_all, range_with_len}
 use Rattle.arrays.specs.Batch.{BatchAt}
-use Rattle.arrow_schema.specs.Answer.{answer_type}
+use Rattle.arrow_schema.specs.Answer.{copied_type}
 use Rattle.typed_plan.specs.declared.plan.Output.{Output}
 use Rattle.typed_plan.specs.declared.plan.Output.TheVariants.{Project, Groups}
 use Rattle.typed_plan.specs.Plan.{answered, groups_by}
@@ -88,7 +88,7 @@ pub record IsScan (giving : GivingAt) (batches : List (ℕ × ℕ)) (further giv
 abbrev pub answer_for : Output → RowsAt → GivingAt
 answer_for (Project columns) rows = of_rows (shown_of columns rows)
 answer_for (Groups keys items) rows = record {
-  types = map answer_type (map (item_type keys rows.types) items);
+  types = map copied_type (map (item_type keys rows.types) items);
   ahead = map (λ group. (None, map (answered group) items)) (groups_by keys (map (λ (row : ℕ × Row). row.1) rows.ahead));
   batches = rows.batches;
   opened = rows.opened;

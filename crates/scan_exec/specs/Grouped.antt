@@ -1,7 +1,7 @@
 -- Inside: rows that are grouped, and what is given of their groups.
 use Rattle.std.specs.Prelude.{◌≡◌, ◌≤◌, ℕ, List, [], length, map, take, None}
 use Rattle.std.specs.List.{filter, flat_map, range_with_len}
-use Rattle.arrow_schema.specs.Answer.{answer_type}
+use Rattle.arrow_schema.specs.Answer.{copied_type}
 use Rattle.arrow_schema.specs.declared.data_type.DataType.{DataType}
 use Rattle.arrays.specs.Batch.{BatchAt, row_of, rows_of}
 use Rattle.scan_base.specs.Limits.{most_rows}
@@ -26,7 +26,7 @@ passing_before pick batch end = map (row_of batch.columns) (filter (λ row. hold
 
 -- the types of what is wanted of each group
 abbrev pub wanted_types : Wanted → List DataType
-wanted_types wanted = map answer_type (map (item_type wanted.keys.items wanted.types.items) wanted.items.items)
+wanted_types wanted = map copied_type (map (item_type wanted.keys.items wanted.types.items) wanted.items.items)
 
 -- what is wanted of the groups of those rows that the filters let through
 abbrev pub wanted_rows : Wanted → List Row → List Row

@@ -3,7 +3,7 @@ use Rattle.std.specs.Prelude.{◌≡◌, ◌≢◌, ◌≤◌, ◌<◌, ◌⊎�
 use Rattle.std.specs.List.{last_or}
 use Rattle.arrays.specs.Batch.{BatchAt, rows_of}
 use Rattle.arrays.specs.Typed.{AreOf}
-use Rattle.arrow_schema.specs.Answer.{answer_type}
+use Rattle.arrow_schema.specs.Answer.{LieBehind}
 use Rattle.arrow_schema.specs.declared.data_type.DataType.{DataType}
 use Rattle.arrow_schema.specs.declared.schema.Schema.{Schema}
 use Rattle.array_select.specs.Room.{most_batch_rows}
@@ -15,7 +15,6 @@ use Rattle.row_sources.specs.declared.turn.Patience.{Patience}
 use Rattle.row_sources.specs.declared.turn.Patience.TheVariants.{Endless}
 use Rattle.row_sources.specs.declared.turn.Turn.{Turn}
 use Rattle.row_sources.specs.declared.turn.Turn.TheVariants.{Given, Working, End}
-use Rattle.typed_plan.specs.Typed.{types_of}
 use Rattle.typed_plan.specs.View.{BoundAt}
 use Rattle.scan_exec.specs.Given.{given_of}
 use Rattle.opened_batches.specs.Opened.{further_opened, first_opened}
@@ -101,7 +100,7 @@ GivesTurn patience before (Err fault) after = Gives before (Err fault) after
 -- a scan of a plan over the rows `from` up to, not with, `to` of its first place, before its first batch
 pub record IsBeginning (bound : BoundAt) (from to : ℕ) (scan : ScanAt) : Type 0 where
   pub schema : scan.schema ≡ bound.schema
-  pub types : map answer_type scan.types ≡ types_of bound.schema.fields
+  pub types : LieBehind scan.schema.fields scan.types
   pub ahead : scan.ahead ≡ given_of bound from to
   pub batches : scan.batches ≡ further_opened bound ++ first_opened from to bound
   pub opened : scan.opened ≡ further_opened bound

@@ -6,7 +6,7 @@ use Rattle.arrow_schema.specs.declared.data_type.DataType.{DataType}
 use Rattle.arrow_schema.specs.declared.data_type.DataType.TheVariants.{Integer, Utf8, Decimal128}
 use Rattle.arrow_schema.specs.declared.data_type.IntegerType.TheVariants.{Int64}
 use Rattle.arrow_schema.specs.declared.schema.Field.{Field}
-use Rattle.arrow_schema.specs.Answer.{answer_type}
+use Rattle.arrow_schema.specs.Answer.{answered_from}
 use Rattle.scan_base.specs.declared.fault.Fault.{Fault}
 use Rattle.scan_base.specs.Predicate.{Pred, names_only}
 use Rattle.scan_base.specs.declared.fault.Fault.TheVariants.{UnknownName}
@@ -113,7 +113,7 @@ is_grouping (Groups keys items) = true
 pub record IsTyped (plan : PlanAt) : Type 0 where
   pub tree : IsTypedTree plan.tree
   pub output : HasOutput plan.output (tree_types plan.tree)
-  pub types : types_of plan.schema.fields ≡ map answer_type (output_types plan.output (tree_types plan.tree))
+  pub types : types_of plan.schema.fields ≡ answered_from 0 (output_types plan.output (tree_types plan.tree))
   pub alone : is_grouping plan.output ≡ true → is_place plan.tree ≡ true
 
 -- the tables of a plan are there, with the columns that it says

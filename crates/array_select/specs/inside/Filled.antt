@@ -5,7 +5,7 @@ use Rattle.scan_base.specs.declared.value.Value.{Value}
 use Rattle.scan_base.specs.declared.value.Value.TheVariants.{Null, Bool, Int}
 use Rattle.scan_base.specs.Value.{is_null}
 use Rattle.arrow_schema.specs.declared.data_type.DataType.{DataType}
-use Rattle.arrow_schema.specs.Answer.{answer_type}
+use Rattle.arrow_schema.specs.Answer.{copied_type}
 use Rattle.arrays.specs.Number.{element_at}
 use Rattle.arrays.specs.Validity.{is_valid, IsLong}
 use Rattle.arrays.specs.Layout.{layout_count, layout_slot, IsLayout}
@@ -41,12 +41,12 @@ pub record AreNumbersOf (width : ℕ) (packed : List ℕ) (values : List Value) 
   pub long : length packed ≡ width * count
   pub each : (k : ℕ) → k < count → element_at width packed k ≡ low_bytes width (get_or values k Null)
 
--- slots of a layout have these values, and are of the type as which a type is answered
+-- slots of a layout have these values, and are of the type in which those of a type are copied
 pub record AreFilled (validity : Option (List Truth)) (kept : Values) (data_type : DataType) (values : List Value) : Type 0 where
   pub stand : IsLayout (layout_of validity (length values) kept)
   pub count : layout_count (layout_of validity (length values) kept) ≡ length values
   pub slots : (k : ℕ) → k < length values → layout_slot (layout_of validity (length values) kept) k ≡ get_or values k Null
-  pub typed : IsOfType (answer_type data_type) (layout_of validity (length values) kept)
+  pub typed : IsOfType (copied_type data_type) (layout_of validity (length values) kept)
 
 -- what is kept fills slots with these values, whichever bits say that those are valid which are not null
 abbrev pub FillSlots : Values → DataType → List Value → Type 0

@@ -3,7 +3,7 @@ use Rattle.std.specs.Prelude.{◌≡◌, ◌≤◌, ◌<◌, ◌-◌, ℕ, false
 use Rattle.std.specs.List.{list_any}
 use Rattle.arrow_schema.specs.declared.schema.Schema.{Schema}
 use Rattle.arrow_schema.specs.declared.schema.Field.{Field}
-use Rattle.arrow_schema.specs.Answer.{answer_type}
+use Rattle.arrow_schema.specs.Answer.{copied_type, LieBehind}
 use Rattle.arrow_schema.specs.Schema.{IsSchema}
 use Rattle.arrays.specs.Batch.{BatchAt, rows_of, cut_batch}
 use Rattle.arrays.specs.Column.{ColumnAt}
@@ -16,13 +16,12 @@ use Rattle.fetch_stream.specs.Streams.{most_message_rows}
 use Rattle.fetch_stream.specs.declared.cutter.Cutter.{Cutter}
 use Rattle.fetch_stream.specs.declared.source.Source.{Source}
 use Rattle.fetch_stream.specs.declared.source.Source.TheVariants.{Scanned, Listed}
-use Rattle.fetch_stream.specs.inside.Written.{HasAnswerTypes}
 
--- the columns of a batch are answered as this schema says
+-- copied, the columns of a batch are those of this schema
 pub record AnsweredAs (schema : Schema) (columns : List ColumnAt) : Type 0 where
   pub fields : List Field
   pub typed : AreOfTypes fields columns
-  pub same : map (λ field. field.data_type) schema.fields ≡ map (λ field. answer_type field.data_type) fields
+  pub same : map (λ field. field.data_type) schema.fields ≡ map (λ field. copied_type field.data_type) fields
 
 -- the rows of a batch that are still to be cut
 abbrev pub uncut : Cutter → List Row
@@ -50,9 +49,9 @@ abbrev pub refused_behind : Source → Option Fault
 refused_behind (Scanned scan) = scan.refused
 refused_behind (Listed schema) = None
 
--- the columns that it gives are answered as its schema says
+-- the columns that it gives lie behind its schema
 abbrev pub TypedBehind : Source → Type 0
-TypedBehind (Scanned scan) = HasAnswerTypes scan.schema scan.types
+TypedBehind (Scanned scan) = LieBehind scan.schema.fields scan.types
 TypedBehind (Listed schema) = Unit {0}
 
 -- a source of rows that was not refused, none of which has a text that is too long

@@ -1,20 +1,13 @@
 -- Inside: what a payload says that is written.
-use Rattle.std.specs.Prelude.{◌≡◌, ◌≤◌, List, [], length, map, Some, None, Ok}
-use Rattle.arrow_schema.specs.declared.data_type.DataType.{DataType}
+use Rattle.std.specs.Prelude.{◌≡◌, ◌≤◌, [], length, Some, None, Ok}
 use Rattle.arrow_schema.specs.declared.schema.Schema.{Schema}
-use Rattle.arrow_schema.specs.Answer.{answer_type}
 use Rattle.arrays.specs.Batch.{BatchAt}
 use Rattle.flight_proto.specs.FlightData.{DataSaid, data_of}
 use Rattle.ipc_batch.specs.Said.{Sent, news_of}
 use Rattle.ipc_batch.specs.Written.{SaysBatch}
 use Rattle.plain_batches.specs.Plain.{SaysAnswered}
-use Rattle.typed_plan.specs.Typed.{types_of}
 use Rattle.flight_info.specs.Payloads.{Payload, message_in}
 use Rattle.fetch_stream.specs.Streams.{most_body_bytes}
-
--- a schema has the types as which columns of these types are answered
-abbrev pub HasAnswerTypes : Schema → List DataType → Type 0
-HasAnswerTypes schema types = types_of schema.fields ≡ map answer_type types
 
 -- a payload carries this message
 pub record Carries (payload : Payload) (message : Sent) : Type 0 where

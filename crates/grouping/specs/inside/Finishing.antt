@@ -1,7 +1,7 @@
 -- Inside: what finishing needs, and what it makes, step by step.
 use Rattle.std.specs.Prelude.{◌≡◌, ◌≤◌, ◌<◌, ℕ, All, List, [], ◌∷◌, length, map, get_or}
 use Rattle.std.specs.List.{range_with_len}
-use Rattle.arrow_schema.specs.Answer.{answer_type}
+use Rattle.arrow_schema.specs.Answer.{copied_type}
 use Rattle.arrow_schema.specs.declared.data_type.DataType.{DataType}
 use Rattle.arrays.specs.Batch.{BatchAt, rows_of}
 use Rattle.arrays.specs.Column.{ColumnAt, values_of}
@@ -71,14 +71,14 @@ pub record AllFit (groups : GroupsAt) (from most items count : ℕ) : Type 0 whe
 -- the column of the item at a place, over so many groups from one on
 pub record IsItemColumn (groups : GroupsAt) (item from many : ℕ) (column : ColumnAt) : Type 0 where
   pub values : values_of column ≡ item_cells groups item from many
-  pub typed : IsOfType (answer_type (item_type groups.keys groups.types (get_or groups.items item (Key 0)))) column.layout
+  pub typed : IsOfType (copied_type (item_type groups.keys groups.types (get_or groups.items item (Key 0)))) column.layout
   pub long : column.len ≡ many
 
 -- the batch of so many groups from one on
 pub record IsBatchOf (groups : GroupsAt) (from many : ℕ) (batch : BatchAt) : Type 0 where
   pub rows : rows_of batch ≡ map (row_at groups) (range_with_len from many)
   pub many_rows : batch.rows ≡ many
-  pub typed : AreOf (map answer_type (map (item_type groups.keys groups.types) groups.items)) batch.columns
+  pub typed : AreOf (map copied_type (map (item_type groups.keys groups.types) groups.items)) batch.columns
   pub many_columns : length batch.columns ≡ length groups.items
   pub cells : (item : ℕ) (d : ColumnAt) → item < length groups.items → values_of (get_or batch.columns item d) ≡ item_cells groups item from many
 

@@ -1,4 +1,6 @@
-use Rattle.std.proofs.Common.{◌∙◌, ℕ, List, ap, length, subst, Bor, arith}
+use Rattle.std.proofs.Common.{◌∙◌, ℕ, List, [], ◌∷◌, map, ap, length, subst, Bor, arith}
+use Rattle.scan_base.specs.declared.value.Value.{Value}
+use Rattle.scan_base.specs.declared.value.Value.TheVariants.{Text}
 use Rattle.std.proofs.lemmas.List.{length-map}
 use Rattle.arrays.specs.Column.{slot_of, values_of}
 use Rattle.dictionary_answers.specs.Answer.{LiesOver}
@@ -28,3 +30,8 @@ returns-in_ok-made-in-Dictionary-clause-column c =
           (rw (c.texts.ensures, c.places.ensures) at c.in_ok-made-in-Dictionary.ensures.values) are.places,
       subst (λ (t : List (List ℕ)). LiesOver t made) (c.texts.ensures ∙ are.texts) c.in_ok-made-in-Dictionary.ensures.over,
     )
+
+pub returns-in_ok-made-in-Dictionary-clause-texts : goal.returns-in_ok-made-in-Dictionary-clause-texts
+returns-in_ok-made-in-Dictionary-clause-texts c =
+    let are = c.in_ok-coded-in-Dictionary.ensures.coded in
+    rw c.in-Dictionary.is (ap (λ (values : List Value). values ∷ []) (c.in_ok-made-in-Dictionary.ensures.part ∙ ap (λ (texts : List (List ℕ)). map Text texts) (c.texts.ensures ∙ are.texts)))

@@ -1,10 +1,13 @@
-use Rattle.std.proofs.Common.{◌≡◌, ◌<◌, ◌+◌, ◌∙◌, List, length, get_or, take, sym, ap, subst, rules, arith}
+use Rattle.std.proofs.Common.{◌≡◌, ◌<◌, ℕ, ◌+◌, ◌++◌, ◌∙◌, List, length, map, get_or, take, sym, ap, subst, rules, arith}
+use Rattle.std.specs.Option.{option_to_list}
+use Rattle.scan_base.specs.declared.value.Value.{Value}
+use Rattle.arrays.specs.Texts.{texts_values}
 use Rattle.std.proofs.lemmas.List.{take_all}
 use Rattle.arrow_schema.specs.declared.schema.Field.{Field}
 use Rattle.arrays.specs.Column.{ColumnAt}
-use Rattle.dictionary_answers.specs.Answer.{AreAnswered, IsAnswered, IsCodable, column_bytes, coded_bytes}
+use Rattle.dictionary_answers.specs.Answer.{AreAnswered, IsAnswered, IsCodable, column_bytes, column_dictionary, coded_bytes, dictionaries_of, dictionary_seen}
 use Rattle.dictionary_answers.proofs.Answered.{codable_long, codable_at}
-use Rattle.dictionary_answers.proofs.AnsweredSoFar.{answered_next, bytes_next, no_room_left}
+use Rattle.dictionary_answers.proofs.AnsweredSoFar.{answered_next, bytes_next, dictionaries_next, no_room_left}
 use Rattle.dictionary_answers.proofs.batches.code_columns.Goals as goal
 
 pub bounds-fields-place : goal.bounds-fields-place
@@ -43,9 +46,15 @@ loop-place-preserved c =
     subst (λ (f : Field). IsAnswered f.data_type column c.in_ok-column.column) (sym c.index-fields-place.is) c.in_ok-column.ensures.column in
     let left : column_bytes field.data_type column + c.in_ok-column.rest ≡ c.loop-place.left =
     subst (λ (f : Field). column_bytes f.data_type column + c.in_ok-column.rest ≡ c.loop-place.left) (sym c.index-fields-place.is) c.in_ok-column.ensures.left in
+    let texts : map texts_values (option_to_list c.in_ok-column.texts) ≡ column_dictionary field.data_type column =
+    subst (λ (f : Field). map texts_values (option_to_list c.in_ok-column.texts) ≡ column_dictionary f.data_type column) (sym c.index-fields-place.is) c.in_ok-column.ensures.texts in
     record {
       answered = subst (AreAnswered (take (place + 1) fields) (take (place + 1) columns)) (sym c.in_ok-push.ensures.items)
           (answered_next fields columns c.loop-place.made.items place field column c.in_ok-column.column low c.loop-place-test.true c.index-fields-place.is c.index-columns-place.is c.loop-place.invariant.answered is);
+      dictionaries = c.in_ok-add_dictionary.ensures
+          ∙ ap (λ (xs : List (ℕ × List Value)). xs ++ map (λ values. (place, values)) (map texts_values (option_to_list c.in_ok-column.texts))) c.loop-place.invariant.dictionaries
+          ∙ ap (λ (own : List (List Value)). dictionaries_of 0 (take place fields) (take place columns) ++ map (λ values. (place, values)) own) texts
+          ∙ sym (dictionaries_next fields columns place field column low c.loop-place-test.true c.index-fields-place.is c.index-columns-place.is);
       left = omega (arith, bytes_next fields columns place field column low c.loop-place-test.true c.index-fields-place.is c.index-columns-place.is, left, c.loop-place.invariant.left);
     }
 
@@ -58,6 +67,16 @@ returns-clause-columns c =
     let each = take_all c.loop-place.place fields (omega (arith, codable_long fields columns c.requires.codable, c.loop-place-test.false)) in
     subst (λ (xs : List Field). AreAnswered xs columns made) each
     (subst (λ (xs : List ColumnAt). AreAnswered (take c.loop-place.place fields) xs made) all c.loop-place.invariant.answered)
+
+pub returns-clause-dictionaries : goal.returns-clause-dictionaries
+returns-clause-dictionaries c =
+    let fields = c.args.fields.now in
+    let columns = c.args.columns.now in
+    let made = map dictionary_seen c.loop-place.dictionaries.items in
+    let all = take_all c.loop-place.place columns c.loop-place-test.false in
+    let each = take_all c.loop-place.place fields (omega (arith, codable_long fields columns c.requires.codable, c.loop-place-test.false)) in
+    subst (λ (xs : List Field). made ≡ dictionaries_of 0 xs columns) each
+    (subst (λ (xs : List ColumnAt). made ≡ dictionaries_of 0 (take c.loop-place.place fields) xs) all c.loop-place.invariant.dictionaries)
 
 pub returns-clause-fits : goal.returns-clause-fits
 returns-clause-fits c =

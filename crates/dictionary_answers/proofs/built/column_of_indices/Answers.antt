@@ -5,6 +5,7 @@ use Rattle.scan_base.specs.declared.value.Value.{Value}
 use Rattle.scan_base.specs.declared.value.Value.TheVariants.{Text}
 use Rattle.scan_base.specs.Value.{IsTextOrNull}
 use Rattle.arrays.specs.Indices.{AreIndices}
+use Rattle.arrays.specs.Texts.{texts_values}
 use Rattle.arrays.specs.Column.{ColumnAt, values_of, whole}
 use Rattle.arrays.specs.declared.layout.Layout.{Layout}
 use Rattle.arrays.specs.declared.layout.Layout.TheVariants as layout
@@ -19,9 +20,10 @@ from_parts-requires c =
     let places = c.args.places.now in
     let validity = c.in_ok-validity.validity in
     let packed : c.in_ok-packed.packed ≡ packed_places places = c.in_ok-packed.ensures.ok ∙ c.in_ok-pack_places.ensures in
-    let held : arc_value c.in_ok-new.field-0 ≡ map Text texts = c.in_ok-new.ensures.ok ∙ c.in_ok-dictionary.ensures in
+    let part : c.in_ok-dictionary.dictionary ≡ map Text texts = c.in_ok-dictionary.ensures ∙ ap texts_values c.in_ok-share.ensures ∙ c.in_ok-part.ensures.values in
+    let held : arc_value c.in_ok-new.field-0 ≡ map Text texts = c.in_ok-new.ensures.ok ∙ part in
     let few : length texts ≤ 2 ^ 31 = omega (arith, length-map c.args.texts.now (λ (text : Bor (List ℕ)). text.now), c.requires.few) in
-    let are : All IsTextOrNull (map Text texts) = subst (All IsTextOrNull) c.in_ok-dictionary.ensures c.len-values.ensures.texts in
+    let are : All IsTextOrNull (map Text texts) = subst (All IsTextOrNull) part c.len-values.ensures.texts in
     record {
       stand = subst (λ (xs : List ℕ). AreIndices (cells_of validity xs (arc_value c.in_ok-new.field-0) (length places))) (sym packed)
           (subst (λ (d : List Value). AreIndices (cells_of validity (packed_places places) d (length places))) (sym held)
@@ -35,10 +37,11 @@ returns-clause-values c =
     let places = c.args.places.now in
     let validity = c.in_ok-validity.validity in
     let packed : c.in_ok-packed.packed ≡ packed_places places = c.in_ok-packed.ensures.ok ∙ c.in_ok-pack_places.ensures in
-    let held : arc_value c.in_ok-new.field-0 ≡ map Text texts = c.in_ok-new.ensures.ok ∙ c.in_ok-dictionary.ensures in
+    let part : c.in_ok-dictionary.dictionary ≡ map Text texts = c.in_ok-dictionary.ensures ∙ ap texts_values c.in_ok-share.ensures ∙ c.in_ok-part.ensures.values in
+    let held : arc_value c.in_ok-new.field-0 ≡ map Text texts = c.in_ok-new.ensures.ok ∙ part in
     let few : length texts ≤ 2 ^ 31 = omega (arith, length-map c.args.texts.now (λ (text : Bor (List ℕ)). text.now), c.requires.few) in
-    let is : values_of c.new-2.result ≡ values_of (whole (layout.Indices (cells_of validity (packed_places places) (map Text texts) (length places)))) =
-    ap values_of c.new-2.ensures ∙ ap (λ (l : Layout). values_of (whole l)) c.from_parts.ensures
+    let is : values_of c.new-column.result ≡ values_of (whole (layout.Indices (cells_of validity (packed_places places) (map Text texts) (length places)))) =
+    ap values_of c.new-column.ensures ∙ ap (λ (l : Layout). values_of (whole l)) c.from_parts.ensures
     ∙ ap (λ (xs : List ℕ). values_of (whole (layout.Indices (cells_of validity xs (arc_value c.in_ok-new.field-0) (length places))))) packed
     ∙ ap (λ (d : List Value). values_of (whole (layout.Indices (cells_of validity (packed_places places) d (length places))))) held in
     subst (AreLed texts places) (sym is) (indices_led texts places validity c.requires.led.0 few c.in_ok-validity.ensures c.requires.led.1)
@@ -46,7 +49,7 @@ returns-clause-values c =
 pub returns-clause-over : goal.returns-clause-over
 returns-clause-over c = record {
   cells = cells_of c.in_ok-validity.validity c.in_ok-packed.packed (arc_value c.in_ok-new.field-0) (length c.args.places.now);
-  layout = ap (λ (x : ColumnAt). x.layout) c.new-2.ensures ∙ c.from_parts.ensures;
+  layout = ap (λ (x : ColumnAt). x.layout) c.new-column.ensures ∙ c.from_parts.ensures;
   index = refl;
-  dictionary = c.in_ok-new.ensures.ok ∙ c.in_ok-dictionary.ensures;
+  dictionary = c.in_ok-new.ensures.ok ∙ c.in_ok-dictionary.ensures ∙ ap texts_values c.in_ok-share.ensures ∙ c.in_ok-part.ensures.values;
 }

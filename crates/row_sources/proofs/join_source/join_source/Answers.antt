@@ -1,6 +1,6 @@
 use Rattle.std.proofs.Common.{◌≡◌, ◌++◌, List, map, ap, sym, ◌∙◌, subst}
 use Rattle.std.proofs.lemmas.Result.{IfOk-weaker}
-use Rattle.arrow_schema.specs.Answer.{answer_type}
+use Rattle.arrow_schema.specs.Answer.{copied_type}
 use Rattle.arrow_schema.specs.declared.data_type.DataType.{DataType}
 use Rattle.join_batches.specs.declared.joiner.JoinSides.{JoinSides}
 use Rattle.join_batches.specs.Joiner.{JoinerAt, joined_types}
@@ -45,8 +45,8 @@ joined-requires-clause-types c =
     (c.as_slice-3.ensures.value ∙ c.requires.left.types) (c.as_slice-4.ensures.value ∙ c.requires.right.types) c.in_ok-sides.ensures in
     let joiner = c.in_ok-joiner.ensures ∙ joiner_is c.args.on.now left right c.requires.joinable c.in_ok-sides.sides is in
     c.in_ok-types.ensures
-    ∙ ap (λ (some : List DataType). map answer_type (some ++ c.as_slice-2.result.now)) (c.as_slice.ensures.value ∙ c.requires.left.types)
-    ∙ ap (λ (some : List DataType). map answer_type (left.types ++ some)) (c.as_slice-2.ensures.value ∙ c.requires.right.types)
+    ∙ ap (λ (some : List DataType). map copied_type (some ++ c.as_slice-2.result.now)) (c.as_slice.ensures.value ∙ c.requires.left.types)
+    ∙ ap (λ (some : List DataType). map copied_type (left.types ++ some)) (c.as_slice-2.ensures.value ∙ c.requires.right.types)
     ∙ ap joined_types (sym joiner)
 
 pub returns-clause-joins : goal.returns-clause-joins

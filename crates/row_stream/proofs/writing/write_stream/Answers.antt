@@ -2,7 +2,7 @@ use Rattle.std.proofs.Common.{◌+◌, [], take, drop, Err, sym, subst, rules, �
 use Rattle.std.specs.List.{flat_map}
 use Rattle.std.proofs.lemmas.Result.{err_from_is_err_and}
 use Rattle.arrow_schema.specs.declared.schema.Schema.{Schema}
-use Rattle.arrow_schema.specs.Answer.{answer_schema}
+use Rattle.arrow_schema.specs.Answer.{plain_schema}
 use Rattle.arrays.specs.Batch.{BatchAt, rows_of}
 use Rattle.arrays.specs.Typed.{AreOfTypes}
 use Rattle.ipc_batch.specs.Said.{Rows}
@@ -56,7 +56,7 @@ loop-batch-preserved g c =
     let d = g.W.Output.contents c.send_batch.new.writer in
     let so = went_on schema (flat_map rows_of (take i batches)) batch a b d c.loop-batch.outbox c.send_batch.new.outbox c.loop-batch.invariant.so typed c.in_ok-send_batch.ensures.bytes in
     record {
-      so = subst (λ (rows : Rows). SoFar (answer_schema schema) rows a d c.send_batch.new.outbox) (sym (items_more rows_of batches i batch c.loop-batch-test.true c.batch-item.is)) so;
+      so = subst (λ (rows : Rows). SoFar (plain_schema schema) rows a d c.send_batch.new.outbox) (sym (items_more rows_of batches i batch c.loop-batch-test.true c.batch-item.is)) so;
       count = c.in_ok-send_batch.ensures.counted ∙ c.loop-batch.invariant.count;
     }
 

@@ -1,6 +1,6 @@
 use Rattle.std.proofs.Common.{◌≡◌, ◌≤◌, ◌<◌, ◌+◌, ◌-◌, ◌^◌, List, All, length, map, get_or, sym, ap, ◌∙◌, subst, arith}
 use Rattle.std.proofs.lemmas.List.{length-map}
-use Rattle.arrow_schema.specs.Answer.{answer_type}
+use Rattle.arrow_schema.specs.Answer.{copied_type}
 use Rattle.arrow_schema.specs.declared.data_type.DataType.{DataType}
 use Rattle.arrow_schema.specs.declared.data_type.DataType.TheVariants.{Integer}
 use Rattle.arrow_schema.specs.declared.data_type.IntegerType.TheVariants.{Int8}
@@ -54,7 +54,7 @@ returns-in_ok-slots-in-Key c =
     sym (length-map c.as_slice.result.now slot_value) ∙ ap (λ (values : List Value). length values) cells ∙ length-map c.part.result.now cell in
     if_ok_three _ _ _ _
     (λ made values typed many. first_column c.args.self.now c.args.item c.in-Key.place c.args.from c.args.to c.part.result.now made at c.in-Key.is
-    c.requires.ordered c.requires.within c.part.ensures (values ∙ cells) (subst (λ (t : DataType). IsOfType (answer_type t) made.layout) is typed) (many ∙ long))
+    c.requires.ordered c.requires.within c.part.ensures (values ∙ cells) (subst (λ (t : DataType). IsOfType (copied_type t) made.layout) is typed) (many ∙ long))
     c.column_of_slots.result c.column_of_slots.ensures.values c.column_of_slots.ensures.typed c.column_of_slots.ensures.long
 
 pub count_column-requires-clause-within : goal.count_column-requires-clause-within

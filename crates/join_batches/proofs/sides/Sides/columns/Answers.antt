@@ -1,7 +1,7 @@
 use Rattle.std.proofs.Common.{◌+◌, List, get_or, take, refl, sym, subst}
 use Rattle.std.specs.List.{AllZip}
 use Rattle.arrays.specs.Column.{ColumnAt}
-use Rattle.join_batches.specs.Sides.{IsColumnOf, answered_at, rows_at}
+use Rattle.join_batches.specs.Sides.{IsColumnOf, copied_at, rows_at}
 use Rattle.join_batches.proofs.Made.{columns_more}
 use Rattle.join_batches.proofs.Typed.{shown_more}
 use Rattle.join_batches.proofs.sides.Sides.columns.Goals as goal
@@ -17,6 +17,6 @@ loop-number-preserved c =
     let low = c.loop-number-test.true in (
       subst (λ (all : List ColumnAt). AllZip (IsColumnOf rows) (take (i + 1) shown) all) (sym c.in_ok-push.ensures.items)
           (columns_more rows shown i number c.loop-number.columns.items column low refl c.loop-number.invariant.0 c.in_ok-column.ensures.cells),
-      shown_more (answered_at sides) shown i number c.loop-number.columns.items c.push.new.self.items column low refl
+      shown_more (copied_at sides) shown i number c.loop-number.columns.items c.push.new.self.items column low refl
           c.in_ok-push.ensures.items c.loop-number.invariant.1 c.in_ok-column.ensures.typed,
     )

@@ -1,4 +1,4 @@
-use Rattle.std.proofs.Common.{◌≡◌, ℕ, sym, ap, ◌∙◌}
+use Rattle.std.proofs.Common.{◌≡◌, sym, ap, ◌∙◌}
 use Rattle.sql_query.specs.declared.query.Expression.{Expression}
 use Rattle.sql_query.specs.declared.query.Expression.TheVariants.{Column}
 use Rattle.query_binder.specs.Listed.{aggregate_fault}
@@ -12,16 +12,15 @@ returns-in-Column c =
     let scope = c.args.self.now.scope.now in
     let numbers = c.args.self.now.numbers.now in
     let item = c.args.item.now in
-    let position = c.args.position in
+    let place = c.args.place in
     let is = sym c.in-Column.is in
     binds_as (aggregate_fault scope numbers (Column c.in-Column.name)) (aggregate_fault scope numbers item.expression)
     (λ bound. (bound.0 ≡ aggregate_of scope numbers (Column c.in-Column.name))
-    × ((place : ℕ) → bound.1 ≡ item_field scope place (record { expression = Column c.in-Column.name; alias = item.alias })))
-    (λ bound. (bound.0 ≡ aggregate_of scope numbers item.expression) × (bound.1 ≡ item_field scope position item))
+    × (bound.1 ≡ item_field scope place (record { expression = Column c.in-Column.name; alias = item.alias })))
+    (λ bound. (bound.0 ≡ aggregate_of scope numbers item.expression) × (bound.1 ≡ item_field scope place item))
     c.bind_column.result (ap (aggregate_fault scope numbers) is)
     (λ bound b. (
       b.0 ∙ ap (aggregate_of scope numbers) is,
-      b.1 position
-          ∙ ap (λ (e : Expression). item_field scope position (record { expression = e; alias = item.alias })) is,
+      b.1 ∙ ap (λ (e : Expression). item_field scope place (record { expression = e; alias = item.alias })) is,
     ))
     c.bind_column.ensures

@@ -1,4 +1,4 @@
-use Rattle.std.proofs.Common.{◌≡◌, ◌+◌, ◌++◌, take, drop, map}
+use Rattle.std.proofs.Common.{◌≡◌, ◌++◌, take, drop, map}
 use Rattle.typed_plan.specs.Faults.{first_in}
 use Rattle.query_binder.specs.Listed.{aggregate_fault}
 use Rattle.query_binder.specs.Planned.{aggregate_of}
@@ -8,7 +8,7 @@ use Rattle.query_binder.proofs.grouped.Key.bind_aggregates.Given as goal
 abbrev pub invariant-loop-index : goal.invariant-loop-index
 invariant-loop-index l = record {
   made : l.aggregates ≡ map (λ item. aggregate_of l.self.scope.now l.self.numbers.now item.expression) (take l.index l.items);
-  fields : list_fields l.self.scope.now 1 l.items ≡ l.fields ++ list_fields l.self.scope.now (l.index + 1) (drop l.index l.items);
+  fields : list_fields l.self.scope.now 0 l.items ≡ l.fields ++ list_fields l.self.scope.now l.index (drop l.index l.items);
   left : first_in (λ item. aggregate_fault l.self.scope.now l.self.numbers.now item.expression) l.items
       ≡ first_in (λ item. aggregate_fault l.self.scope.now l.self.numbers.now item.expression) (drop l.index l.items);
 }

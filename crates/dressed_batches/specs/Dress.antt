@@ -1,0 +1,46 @@
+-- Batches over their own texts, behind the messages of these.
+use Rattle.std.specs.Prelude.{◌≡◌, ℕ, ◌+◌, List, [], ◌∷◌, All, map}
+use Rattle.std.specs.List.{AllZip}
+use Rattle.scan_base.specs.Value.{IsTextOrNull}
+use Rattle.arrow_schema.specs.declared.data_type.IntegerType.TheVariants.{Int32}
+use Rattle.arrow_schema.specs.declared.data_type.DataType.{DataType}
+use Rattle.arrow_schema.specs.declared.data_type.DataType.TheVariants.{Dictionary}
+use Rattle.arrow_schema.specs.declared.schema.Field.{Field}
+use Rattle.arrow_schema.specs.declared.schema.Schema.{Schema}
+use Rattle.arrays.specs.Batch.{BatchAt, rows_of}
+use Rattle.arrays.specs.Column.{ColumnAt, values_of}
+use Rattle.arrays.specs.Firsts.{firsts}
+use Rattle.arrays.specs.Typed.{IsOfType}
+use Rattle.ipc_batch.specs.Said.{Sent}
+use Rattle.ipc_batch.specs.Written.{SaysBatch}
+use Rattle.ipc_batch.specs.Seen.{written_seen}
+use Rattle.ipc_batch.specs.Dressed.{cells_in, coded_from, SaysWhole, AddsRows}
+use Rattle.dressed_batches.specs.declared.dressed.DressedBatch.{DressedBatch}
+
+-- the id of a dictionary is the number of its column, and its indices have 32 bits
+abbrev pub IsNumbered : ℕ → DataType → Type 0
+IsNumbered number (Dictionary encoding) = (encoding.id ≡ number) × (encoding.index ≡ Int32)
+IsNumbered number _ = Unit {0}
+
+-- the same of each field, where the first has this number
+abbrev pub AreNumbered : ℕ → List Field → Type 0
+AreNumbered number [] = Unit {0}
+AreNumbered number (field ∷ fields) = IsNumbered number field.data_type × AreNumbered (number + 1) fields
+
+-- a column that a dictionary may be made of holds texts, and any other is of its field's type
+abbrev pub IsDressable : DataType → ColumnAt → Type 0
+IsDressable (Dictionary encoding) column = All IsTextOrNull (values_of column)
+IsDressable data_type column = IsOfType data_type column.layout
+
+-- the same of one column for each field
+abbrev pub AreDressable : List Field → List ColumnAt → Type 0
+AreDressable [] [] = Unit {0}
+AreDressable (field ∷ fields) (column ∷ columns) = IsDressable field.data_type column × AreDressable fields columns
+AreDressable _ _ = ⊥
+
+-- The dictionaries say the texts of the rows, column by column, and what says the batch that was made adds the rows to whoever
+-- has these.
+pub record IsDressedBatch (schema : Schema) (batch : BatchAt) (made : DressedBatch) : Type 0 where
+  pub coded : AllZip (λ number sent. SaysWhole schema number (firsts (cells_in number (rows_of batch))) sent)
+      (coded_from 0 schema.fields) (map written_seen made.dictionaries.items)
+  pub adds : (sent : Sent) → SaysBatch sent made.batch → AddsRows schema (rows_of batch) sent
