@@ -204,7 +204,7 @@ select_written query scope select.All written e named =
     let long = columns_long 0 scope in
     let few = few_columns (length scope) e in
     schema_is (numbered_fields 0 scope) (scope_types scope) (omega (arith, long, written.0)) (omega (arith, long, few))
-    (columns_answered 0 scope few written.1) (all_types 0 scope)
+    (columns_answered 0 scope (omega (arith, few)) written.1) (all_types 0 scope)
 select_written query scope (select.List items) written e named =
     let parts = then_none (first_in (λ item. expression_fault query scope item.expression) items)
     (width_fault (length items)) e in
@@ -212,4 +212,4 @@ select_written query scope (select.List items) written e named =
     let few = few_columns (length items) parts.1 in
     schema_is (list_fields scope 0 items) (map (λ item. item_type scope item.expression) items)
     (omega (arith, long, named.0)) (omega (arith, long, few))
-    (list_answered query scope 0 items written.1 few parts.0 named.1) (list_types scope 0 items)
+    (list_answered query scope 0 items written.1 (omega (arith, few)) parts.0 named.1) (list_types scope 0 items)

@@ -4,7 +4,7 @@ use Rattle.std.specs.List.{fold, list_all}
 use Rattle.std.proofs.lemmas.Bool.{ltb-true, lt-ltb, and_parts, and_from}
 use Rattle.std.proofs.lemmas.List.{map-append, get_or_append_left, get_or-map, length-map}
 use Rattle.std.proofs.lemmas.List.Folds.{list_all-append}
-use Rattle.arrow_schema.specs.Answer.{answer_type}
+use Rattle.arrow_schema.specs.Answer.{copied_type}
 use Rattle.arrow_schema.specs.declared.data_type.DataType.{DataType}
 use Rattle.scan_base.specs.Predicate.{cell_in}
 use Rattle.scan_base.specs.declared.value.Value.{Value}
@@ -249,6 +249,6 @@ keyed_same rows keys columns places items keyed has =
     let some = map (λ (row : ℕ × Row). row.1) rows.ahead in
     let found = groups_are keys columns places keyed some in
     let new = map (item_by places) items in
-    ap (λ (types : List DataType). giving (map answer_type types) (map (shown new) (groups_by columns some))) (items_typed keys columns places keyed rows.types items has)
-    ∙ ap (giving (map answer_type (map (item_type keys rows.types) items)))
+    ap (λ (types : List DataType). giving (map copied_type types) (map (shown new) (groups_by columns some))) (items_typed keys columns places keyed rows.types items has)
+    ∙ ap (giving (map copied_type (map (item_type keys rows.types) items)))
     (ap (map (shown new)) found.2 ∙ rows_answered keys columns places keyed rows.types found.0 items has ∙ sym (ap (map (shown items)) found.1))
