@@ -1,6 +1,7 @@
 -- The columns of an answer may be written.
-use Rattle.std.proofs.Common.{◌≡◌, ◌≤◌, ℕ, ◌+◌, false, List, [], ◌∷◌, map, length, refl, ap, ◌∙◌, arith, get_or}
+use Rattle.std.proofs.Common.{◌≡◌, ◌≤◌, ◌<◌, ℕ, ◌+◌, false, List, [], ◌∷◌, map, length, refl, ap, ◌∙◌, arith, get_or}
 use Rattle.std.specs.List.{list_any}
+use Rattle.std.proofs.lemmas.Bool.{ne_eqb}
 use Rattle.scan_base.specs.Limits.{most_columns}
 use Rattle.scan_base.specs.Lists.{repeats}
 use Rattle.arrow_schema.specs.declared.data_type.DataType.{DataType}
@@ -16,21 +17,38 @@ answered_typed number Utf8 few = tt
 answered_typed number Flags few = tt
 answered_typed number Decimal128 few = tt
 answered_typed number Date few = tt
-answered_typed number (Dictionary encoding) few = tt
+answered_typed number (Dictionary encoding) few = omega (arith, few)
 
-unshared : (number : ℕ) (t other : DataType) → shares_dictionary (answered_at number t) other ≡ false
-unshared number (Integer integer) other = refl
-unshared number Utf8 other = refl
-unshared number Flags other = refl
-unshared number Decimal128 other = refl
-unshared number Date other = refl
-unshared number (Dictionary encoding) other = refl
+unshared : (number later : ℕ) (t other : DataType) → number < later → shares_dictionary (answered_at number t) (answered_at later other) ≡ false
+unshared number later (Integer integer) other low = refl
+unshared number later Utf8 other low = refl
+unshared number later Flags other low = refl
+unshared number later Decimal128 other low = refl
+unshared number later Date other low = refl
+unshared number later (Dictionary encoding) (Integer integer) low = refl
+unshared number later (Dictionary encoding) Utf8 low = refl
+unshared number later (Dictionary encoding) Flags low = refl
+unshared number later (Dictionary encoding) Decimal128 low = refl
+unshared number later (Dictionary encoding) Date low = refl
+unshared number later (Dictionary encoding) (Dictionary other) low = ne_eqb number later (λ (same : number ≡ later). omega (arith, low, same))
 
-none_shared : (number : ℕ) (t : DataType) (field : Field) (others : List Field) → field.data_type ≡ answered_at number t →
-    list_any (same_dictionary field) others ≡ false
-none_shared number t field [] is = refl
-none_shared number t field (other ∷ others) is =
-    rw (ap (λ (own : DataType). shares_dictionary own other.data_type) is ∙ unshared number t other.data_type, none_shared number t field others is) refl
+first : List DataType → DataType
+first [] = Utf8
+first (one ∷ more) = one
+
+rest : List DataType → List DataType
+rest [] = []
+rest (one ∷ more) = more
+
+none_shared : (number later : ℕ) (t : DataType) (field : Field) (others : List Field) (types : List DataType) → number < later → field.data_type ≡ answered_at number t →
+    map (λ (other : Field). other.data_type) others ≡ answered_from later types → list_any (same_dictionary field) others ≡ false
+none_shared number later t field [] types low is are = refl
+none_shared number later t field (other ∷ others) [] low is are = absurd (omega (arith, ap length are))
+none_shared number later t field (other ∷ others) (u ∷ types) low is are =
+    let one : shares_dictionary field.data_type other.data_type ≡ false =
+    ap (λ (own : DataType). shares_dictionary own other.data_type) is ∙ ap (λ (own : DataType). shares_dictionary (answered_at number t) own) (ap first are)
+    ∙ unshared number later t u low in
+    rw (one, none_shared number (later + 1) t field others types (omega (arith, low)) is (ap rest are)) refl
 
 -- columns of answered types have no dictionary in common
 pub answered_apart : (number : ℕ) (fields : List Field) (types : List DataType) →
@@ -38,12 +56,4 @@ pub answered_apart : (number : ℕ) (fields : List Field) (types : List DataType
 answered_apart number [] types are = refl
 answered_apart number (field ∷ fields) [] are = absurd (omega (arith, ap length are))
 answered_apart number (field ∷ fields) (t ∷ types) are =
-    rw (none_shared number t field fields (ap first are), answered_apart (number + 1) fields types (ap rest are)) refl
-  where
-    first : List DataType → DataType
-    first [] = Utf8
-    first (one ∷ more) = one
-
-    rest : List DataType → List DataType
-    rest [] = []
-    rest (one ∷ more) = more
+    rw (none_shared number (number + 1) t field fields types (omega arith) (ap first are) (ap rest are), answered_apart (number + 1) fields types (ap rest are)) refl

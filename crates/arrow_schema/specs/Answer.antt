@@ -1,6 +1,7 @@
 -- The types of columns that are copied, and of those of an answer.
 use Rattle.std.specs.Prelude.{◌≡◌, ◌⊎◌, ℕ, ◌+◌, List, [], ◌∷◌, map, All, None}
 use Rattle.std.specs.List.{AllZip}
+use Rattle.arrow_schema.specs.declared.data_type.IntegerType.TheVariants.{Int32}
 use Rattle.arrow_schema.specs.declared.data_type.DataType.{DataType}
 use Rattle.arrow_schema.specs.declared.data_type.DataType.TheVariants.{Utf8, Dictionary}
 use Rattle.arrow_schema.specs.declared.schema.Field.{Field}
@@ -17,10 +18,10 @@ copied_type other = other
 abbrev pub LiesAs : DataType → DataType → Type 0
 LiesAs data_type lies = (lies ≡ data_type) ⊎ (lies ≡ copied_type data_type)
 
--- The type of the result's column of this number, counted from 0, for values of this type. Until dictionary answers are
--- built, a dictionary of texts is answered as texts.
+-- The type of the result's column of this number, counted from 0, for values of this type. A dictionary of texts is answered as
+-- the one of that id, with indices of 32 bits.
 abbrev pub answered_at : ℕ → DataType → DataType
-answered_at number (Dictionary encoding) = Utf8
+answered_at number (Dictionary encoding) = Dictionary (record { id = number; index = Int32 })
 answered_at number other = other
 
 -- the same of columns one beside another, the first of which has this number

@@ -75,13 +75,16 @@ impl DataType {
         }
     }
 
-    /// The type of the result's column of this number, counted from 0, for values of this type. Until
-    /// dictionary answers are built, a dictionary of texts is answered as texts.
-    pub fn answered(self, _number: u64) -> DataType
-        ensures { result ≡ answered_at _number self }
+    /// The type of the result's column of this number, counted from 0, for values of this type. A dictionary
+    /// of texts is answered as the one of that id, with indices of 32 bits.
+    pub fn answered(self, number: u64) -> DataType
+        ensures { result ≡ answered_at number self }
     {
         match self {
-            DataType::Dictionary(_) => DataType::Utf8,
+            DataType::Dictionary(_) => DataType::Dictionary(DictionaryEncoding {
+                id: number,
+                index: IntegerType::Int32,
+            }),
             other => other,
         }
     }
