@@ -32,11 +32,11 @@ unshared number later (Dictionary encoding) Decimal128 low = refl
 unshared number later (Dictionary encoding) Date low = refl
 unshared number later (Dictionary encoding) (Dictionary other) low = ne_eqb number later (λ (same : number ≡ later). omega (arith, low, same))
 
-first : List DataType → DataType
+abbrev first : List DataType → DataType
 first [] = Utf8
 first (one ∷ more) = one
 
-rest : List DataType → List DataType
+abbrev rest : List DataType → List DataType
 rest [] = []
 rest (one ∷ more) = more
 

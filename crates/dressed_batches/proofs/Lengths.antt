@@ -55,6 +55,9 @@ no_validity column texts is =
     ap (λ (values : List Value). if length (filter is_null values) == 0 then [] else packed_bits (map (λ (value : Value). not (is_null value)) values)) is
     ∙ rw (none_null texts) refl
 
+all_three : (a b c d e f : ℕ) → a ≡ d → b ≡ e → c ≡ f → with_zeros a + (with_zeros b + with_zeros c) ≡ with_zeros d + (with_zeros e + with_zeros f)
+all_three a b c d e f first second third = rw (first, second, third) refl
+
 -- how long a dictionary's body is
 pub one_dictionary : (values : TextsAt) (texts : List (List ℕ)) → texts_values values ≡ map Text texts → body_length (values_batch values) ≡ texts_length texts
 unfolding values_written
@@ -68,7 +71,7 @@ one_dictionary values texts is =
     let offsets : length (offsets_from 0 (values_of column)) ≡ 4 * (length texts + 1) =
     length-offsets 0 (values_of column) ∙ ap (λ (vs : List Value). 4 * (length vs + 1)) held ∙ ap (λ (n : ℕ). 4 * (n + 1)) (length-map texts Text) in
     let bytes : length (texts_joined (values_of column)) ≡ bytes_in texts = ap (λ (vs : List Value). length (texts_joined vs)) held in
-    all ∙ rw (none, offsets, bytes) refl
+    all ∙ all_three _ _ _ 0 (4 * (length texts + 1)) (bytes_in texts) none offsets bytes
 
 -- ---- a column of indices
 
@@ -96,13 +99,21 @@ indices_length texts column made same over =
     ap (λ (known : Layout). validity_written made ∷ written_by known made) over.layout in
     let short : length values ≤ 4 * made.len =
     subst (λ (n : ℕ). length (elements n over.cells.values made.first made.len) ≤ 4 * made.len) (sym (ap byte_width over.index)) (short_elements over.cells.values made.first made.len) in
-    let whole : length (body_of (column_written made)) ≡ with_zeros (length (validity_written made)) + with_zeros (length values) =
+    let both : length (body_of (column_written made)) ≡ with_zeros (length (validity_written made)) + with_zeros (length values) =
     ap (λ (buffers : List (List ℕ)). length (body_of buffers)) written ∙ two_buffers (validity_written made) values in
     let bits : with_zeros (length (validity_written made)) ≡ with_zeros (length (validity_written column)) = ap (λ (v : List ℕ). with_zeros (length v)) (same_validity made column same) in
     let most : with_zeros (length values) ≤ with_zeros (4 * column.len) = more_zeros (length values) (4 * column.len) (omega (arith, short, same_len made column same)) in
-    omega (arith, whole, bits, most)
+    omega (arith, both, bits, most)
 
 -- ---- all columns
+
+abbrev head : List (ℕ × List Value) → ℕ × List Value
+head [] = (0, [])
+head (one ∷ more) = one
+
+abbrev tail : List (ℕ × List Value) → List (ℕ × List Value)
+tail [] = []
+tail (one ∷ more) = more
 
 -- what is written has no more bytes than it may
 pub written_short : (number : ℕ) (fields : List Field) (columns made : List ColumnAt) (dictionaries : List ColumnDictionary) → AreAnswered fields columns made →
@@ -141,14 +152,6 @@ written_short number (field ∷ fields) (column ∷ columns) (m ∷ made) dictio
           one_dictionary d.texts (firsts (values_of column)) texts,
           indices_length (firsts (values_of column)) column m over.0 over.1,
         )
-      where
-        head : List (ℕ × List Value) → ℕ × List Value
-        head [] = (0, [])
-        head (one ∷ more) = one
-
-        tail : List (ℕ × List Value) → List (ℕ × List Value)
-        tail [] = []
-        tail (one ∷ more) = more
 
     by : (t : DataType) → IsAnswered t column m → map dictionary_seen dictionaries ≡ map (λ values. (number, values)) (column_dictionary t column) ++ dictionaries_of (number + 1) fields columns →
         all_written dictionaries + length (body_of (buffers_written (m ∷ made))) ≤ column_length t column + dressed_length fields columns

@@ -61,7 +61,7 @@ typed_dressable (field ∷ fields) [] typed = absurd typed
 
 -- a column that lies as one of a type can be answered as one of that type
 one_dressable : (number : ℕ) (t lies own : DataType) (column : ColumnAt) → own ≡ answered_at number t → LiesAs t lies → IsOfType lies column.layout → IsDressable own column
-one_dressable number t lies own column is as typed = subst (λ (o : DataType). IsDressable o column) (sym is) (by t as)
+one_dressable number t lies own column is behind typed = subst (λ (o : DataType). IsDressable o column) (sym is) (by t behind)
   where
     same : (u : DataType) → lies ≡ u → IsOfType u column.layout
     same u e = subst (λ (o : DataType). IsOfType o column.layout) e typed
@@ -91,11 +91,11 @@ one_numbered number t own is = subst (IsNumbered number) (sym is) (by t)
     by Date = tt
     by (Dictionary encoding) = (refl, refl)
 
-first : List DataType → DataType
+abbrev first : List DataType → DataType
 first [] = Utf8
 first (one ∷ more) = one
 
-rest : List DataType → List DataType
+abbrev rest : List DataType → List DataType
 rest [] = []
 rest (one ∷ more) = more
 
@@ -106,17 +106,17 @@ all_numbered number (field ∷ fields) (t ∷ types) are = (one_numbered number 
 
 all_dressable : (number : ℕ) (fields : List Field) (types lies : List DataType) (columns : List ColumnAt) → map (λ (field : Field). field.data_type) fields ≡ answered_from number types
     → AllZip LiesAs types lies → AreOf lies columns → AreDressable fields columns
-all_dressable number [] [] [] [] are as typed = tt
-all_dressable number (field ∷ fields) (t ∷ types) (l ∷ lies) (column ∷ columns) are as typed = (
-  one_dressable number t l field.data_type column (ap first are) as.0 typed.0,
-  all_dressable (number + 1) fields types lies columns (ap rest are) as.1 typed.1,
+all_dressable number [] [] [] [] are lie typed = tt
+all_dressable number (field ∷ fields) (t ∷ types) (l ∷ lies) (column ∷ columns) are lie typed = (
+  one_dressable number t l field.data_type column (ap first are) lie.0 typed.0,
+  all_dressable (number + 1) fields types lies columns (ap rest are) lie.1 typed.1,
 )
-all_dressable number [] [] [] (column ∷ columns) are as typed = absurd typed
-all_dressable number [] [] (l ∷ lies) columns are as typed = absurd as
-all_dressable number [] (t ∷ types) lies columns are as typed = absurd (omega (arith, ap length are))
-all_dressable number (field ∷ fields) [] lies columns are as typed = absurd (omega (arith, ap length are))
-all_dressable number (field ∷ fields) (t ∷ types) [] columns are as typed = absurd as
-all_dressable number (field ∷ fields) (t ∷ types) (l ∷ lies) [] are as typed = absurd typed
+all_dressable number [] [] [] (column ∷ columns) are lie typed = absurd typed
+all_dressable number [] [] (l ∷ lies) columns are lie typed = absurd lie
+all_dressable number [] (t ∷ types) lies columns are lie typed = absurd (omega (arith, ap length are))
+all_dressable number (field ∷ fields) [] lies columns are lie typed = absurd (omega (arith, ap length are))
+all_dressable number (field ∷ fields) (t ∷ types) [] columns are lie typed = absurd lie
+all_dressable number (field ∷ fields) (t ∷ types) (l ∷ lies) [] are lie typed = absurd typed
 
 answered : (schema : Schema) (types : List DataType) (columns : List ColumnAt) → LieBehind schema.fields types → AreOf types columns → AnsweredAs schema columns
 answered schema types columns behind typed = record {

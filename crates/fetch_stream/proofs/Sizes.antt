@@ -123,20 +123,24 @@ one_slot known first len one h =
     rw one (omega (arith, all, short_validity column refl, values_by known first h))
 
 -- the dictionary of one slot
+none_short : texts_length [] ≤ 65552
+none_short = omega arith
+
+one_short : (bytes : List ℕ) → length bytes ≤ most_text_bytes → texts_length (bytes ∷ []) ≤ 65552
+one_short bytes short = omega (arith, length-append bytes [], short)
+
 one_text : (v : Value) → is_long_text v ≡ false → texts_length (firsts (v ∷ [])) ≤ 65552
-one_text value.Null h = omega arith
-one_text (value.Bool flag) h = omega arith
-one_text (value.Int number) h = omega arith
-one_text (value.Text bytes) h =
-    let joined : length (bytes ++ []) ≡ length bytes + 0 = length-append bytes [] in
-    omega (arith, joined, short_text (value.Text bytes) h)
+one_text value.Null h = none_short
+one_text (value.Bool flag) h = none_short
+one_text (value.Int number) h = none_short
+one_text (value.Text bytes) h = one_short bytes (short_text (value.Text bytes) h)
 
 coded_slot : (known : Layout) (first len : ℕ) → len ≡ 1 → is_long_text (slot_of (column_of known first len) 0) ≡ false
     → texts_length (firsts (values_of (column_of known first len)))
     + (with_zeros (length (validity_written (column_of known first len))) + with_zeros (4 * len)) ≤ most_cell_bytes
 coded_slot known first len one h =
     let column = column_of known first 1 in
-    let texts : texts_length (firsts (values_of column)) ≤ 65552 = one_text (slot_of column 0) (rw one at h) in
+    let texts : texts_length (firsts (values_of column)) ≤ 65552 = one_text (slot_of column 0) h in
     rw one (omega (arith, texts, short_validity column refl))
 
 one_column : (t : DataType) (column : ColumnAt) → column.len ≡ 1 → is_long_text (slot_of column 0) ≡ false → column_length t column ≤ most_cell_bytes

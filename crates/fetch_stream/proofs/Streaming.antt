@@ -162,6 +162,7 @@ more_dressed schema messages rows d are is =
 
 -- a schema alone says no rows
 pub say_first : (payload : Payload) (schema : Schema) → SaysSchema payload schema → SayDressed (payload ∷ []) schema []
+unfolding say_carried
 say_first payload schema s =
     let known : Known = record { schema = schema; dictionaries = [] } in
     let news : News = record { state = Some known; batch = None } in
@@ -177,6 +178,7 @@ say_first payload schema s =
 -- rows more, in a batch behind its dictionaries
 pub say_more : (payloads : List Payload) (parcel : Parcel) (schema : Schema) (rows more : Rows) → SaysRows parcel schema more
     → SayDressed payloads schema rows → SayDressed (payloads ++ parcel) schema (rows ++ more)
+unfolding say_carried
 say_more payloads parcel schema rows more s so =
     let said = so.said in
     let sent = map message_in said.0 in
