@@ -92,7 +92,10 @@ def meaning(messages: list[Message]) -> tuple[list[Column], list[Row]]:
     for header, body in messages:
         reader.message(header, body)
     model.demand(reader.fields is not None, "F8")
-    columns = tuple(Column(name, "Utf8" if id is not None else kind, nullable) for name, kind, nullable, id in reader.fields)
+    columns = tuple(
+        Column(name, f"Int32 into {number}" if id is not None else kind, nullable)
+        for number, (name, kind, nullable, id) in enumerate(reader.fields)
+    )
     rows = [tuple(row) for row in reader.total]
     model.after({}, Put("t", "CREATE", "REPLACE", Table(columns, rows)))
     return list(columns), rows

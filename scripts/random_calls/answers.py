@@ -2,13 +2,14 @@
 
 from __future__ import annotations
 
+import json
 from dataclasses import dataclass
 from itertools import zip_longest
 
 import wire
 from by_hand import FAULTS
 from random_calls.plain_model import Column, Row
-from reader import Reader
+from reader import Reader, Table
 
 NAMES = {f"F{number}": (name.split(" ")[0], code) for number, (name, code) in enumerate(FAULTS, 1)}
 
@@ -36,9 +37,24 @@ def only_message(answer: wire.Answer) -> bytes:
 
 
 def columns_of(reader: Reader) -> list[Column]:
-    """The columns of the schema that was read. No answer has a dictionary."""
+    """The columns of the schema that was read. The type of a dictionary is that of its indices, with its id."""
     fields = [(name, of if id is None else f"{of} into {id}", nullable) for name, of, nullable, id in reader.fields]
     return [Column(*field) for field in fields]
+
+
+def dictionary_of(data: bytes) -> tuple[int, bool]:
+    """The id in the header of a dictionary's message, and whether it is a delta."""
+    header = Table(data, int.from_bytes(data[:4], "little")).table(2)
+    return header.scalar(0, 8), header.scalar(2, 1) != 0
+
+
+def look_at_the_dictionaries(reader: Reader, before: list[tuple[int, bool]], rows: list[list]) -> None:
+    """Right before a batch of these rows stands a dictionary for each column that is one, of the texts that it holds."""
+    coded = [(number, id) for number, (*_, id) in enumerate(reader.fields) if id is not None]
+    same("the dictionaries before a batch", [(id, False) for _, id in coded], before)
+    for number, id in coded:
+        texts = list(dict.fromkeys(row[number] for row in rows if row[number] is not None))
+        same(f"the values of dictionary {id}", texts, reader.dictionaries[id])
 
 
 def look_at_the_schema(columns: list[Column], data: bytes) -> None:
@@ -113,11 +129,17 @@ class Rows:
 
     def look(self, answer: wire.Answer) -> None:
         same("the status", (0, ""), (answer.code, answer.text))
-        reader = Reader()
+        reader, before = Reader(), []
         for message in answer.messages:
             numbers, contents = zip(*wire.fields(message))
             same("a FlightData of a header, with or without a body", True, numbers in ((2,), (2, 1000)))
-            reader.message(contents[0], b"".join(contents[1:]))
+            said = reader.message(contents[0], b"".join(contents[1:]))
+            if said == "dictionary":
+                before.append(dictionary_of(contents[0]))
+            elif said.startswith("rows "):
+                look_at_the_dictionaries(reader, before, json.loads(said.removeprefix("rows ")))
+                before = []
+        same("the dictionaries behind the last batch", [], before)
         same("a schema is there", True, reader.fields is not None)
         same("the schema", self.columns, columns_of(reader))
         self.streams[self.endpoint] = [tuple(row) for row in reader.total]

@@ -82,7 +82,7 @@ def answer_column(item: Item, alias: str | None, number: int, places: tuple[Plac
             return Column(alias or f"col{number}", "Decimal128", True)
     place = next(place for place in places if place.name == item.place)
     column = next(column for column in place.columns if column.name == item.column)
-    return Column(alias or column.name, "Utf8" if column.type == "dictionary" else column.type, column.nullable)
+    return Column(alias or column.name, f"Int32 into {number - 1}" if column.type == "dictionary" else column.type, column.nullable)
 
 
 def answer_columns(query: Query, database: Database) -> list[Column]:

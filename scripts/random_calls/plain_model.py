@@ -229,7 +229,7 @@ class Scope:
 
 
 def answer_columns(query: Query, database: Database) -> tuple[Column, ...]:
-    """The columns of a query's answer, or the first fault. A dictionary is answered as texts."""
+    """The columns of a query's answer, or the first fault. A dictionary is answered as one whose id is the column's number."""
     scope = Scope(query, database)
     if query.where is not None:
         scope.check(query.where)
@@ -237,7 +237,7 @@ def answer_columns(query: Query, database: Database) -> tuple[Column, ...]:
     found = []
     for name, alias in query.items or every:
         column = scope.columns[scope.number(name)]
-        kind = "Utf8" if column.type == "dictionary" else column.type
+        kind = f"Int32 into {len(found)}" if column.type == "dictionary" else column.type
         found.append(Column(alias or column.name, kind, column.nullable))
     demand(len(found) <= 64, "F12")
     return tuple(found)

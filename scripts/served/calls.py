@@ -168,7 +168,7 @@ def groups_and_joins(run: Run) -> None:
 
 @case("the stored stream of vectors/streams, with a dictionary and a delta, put as it stands: its rows")
 def stored_stream(run: Run) -> None:
-    names = [("id", "Int64"), ("town", "Utf8"), ("rider", "Utf8"), ("km", "Int16"), ("paid", "Bool")]
+    names = [("id", "Int64"), ("town", "Int32 into 1"), ("rider", "Utf8"), ("km", "Int16"), ("paid", "Bool")]
     columns = tuple(Column(name, kind, name != "id") for name, kind in names)
     command = wire.descriptor(wire.packed(INGEST, wire.chunk(1, wire.scalar(1, 1)) + wire.chunk(2, b"trips")))
     messages = [wire.chunk(2, header) + wire.chunk(1000, body) for header, body in stored_messages(STREAM.read_bytes())]

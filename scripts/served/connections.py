@@ -4,14 +4,11 @@ from __future__ import annotations
 
 import time
 
-import trees
 import wire
 from each_allocation import MADE, PUT_LENGTH
-from layout import written
 from loopback import Connection, Server
 from random_calls.answers import PutCount, Refusal, same
 from random_calls.plain_model import Column
-from random_calls.refused import INGEST
 from served.cases import (A, DONE, FETCH, FIRST_RUN, MEGABYTE, PUT, TICKET, Run, appended, ask, case, descriptor_of, fetch_of,
                           info_of, put_of, rows_of, status_of)
 
@@ -149,23 +146,19 @@ def answer_not_read(run: Run) -> None:
             ask(connection, FETCH, rows_of(A, (1,), (2,)))
 
 
-def large_put(rows: int) -> bytes:
-    """A put of one text of 65,536 bytes and so many indices that lead to it: small, with a large answer."""
-    fields = trees.field("s", trees.UTF8, dictionary=trees.encoding(1, trees.integer(8, True)))
-    words = trees.dictionary(1, trees.batch(1, (0, b"", *trees.texts([b"x" * 65_536]))))
-    made = [(trees.schema(fields), b""), words, trees.batch(rows, (0, b"", bytes(rows)))]
-    messages = [wire.chunk(2, written("Message", tree, "spread")) + wire.chunk(1000, body) for tree, body in made]
-    command = wire.descriptor(wire.packed(INGEST, wire.chunk(1, wire.scalar(1, 1)) + wire.chunk(2, b"t")))
-    return wire.call(b"DoPut", [wire.chunk(1, command) + messages[0], *messages[1:]])
+TEXTS = (Column("s", "Utf8", False), Column("k", "Int64", True))
+# a put of 4 MB, and a query of 4,096 rows of a text of 65,536 bytes each
+LARGE_PUT = put_of("t", TEXTS, [("x" * 65_536, 1)] * 64)
+LARGE_FETCH = fetch_of(1, 0, 64, "SELECT x.s FROM t AS x JOIN t AS y ON x.k = y.k")
 
 
 @case("a client that reads nothing of an answer of 268 MB: the server waits, idle, and holds less than 32 MB more")
 def nothing_read(run: Run) -> str:
     with run.serving() as server:
         with Connection(server.port, room=65_536) as connection:
-            ask(connection, large_put(4_096), PutCount(4_096))
+            ask(connection, LARGE_PUT, PutCount(64))
             before = server.held()
-            connection.send(fetch_of(1, 0, 4_096, "SELECT * FROM t"))
+            connection.send(LARGE_FETCH)
             held = []
             for _ in range(40):
                 time.sleep(0.05)
@@ -190,9 +183,9 @@ def idle_clients(run: Run) -> None:
                 idle.send(sent)
                 ask(waiting, FETCH, Refusal("F18"))
         with Connection(server.port) as connection:
-            ask(connection, large_put(4_096), PutCount(4_096))
+            ask(connection, LARGE_PUT, PutCount(64))
         with Connection(server.port, room=65_536) as idle, Connection(server.port) as waiting:
-            idle.send(fetch_of(1, 0, 4_096, "SELECT * FROM t"))
+            idle.send(LARGE_FETCH)
             ask(waiting, PUT, Refusal("F10"))
 
 

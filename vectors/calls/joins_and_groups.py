@@ -80,7 +80,7 @@ def shown(value):
 
 def told(columns):
     """The columns of an answer."""
-    types = [f"Integer({one.type})" if "Int" in one.type else one.type for one in columns]
+    types = [f"Integer({one.type})" if one.type.startswith(("Int", "UInt")) else one.type for one in columns]
     return "".join(f"{one.name} {of}{' or null' * one.nullable};" for one, of in zip(columns, types))
 
 

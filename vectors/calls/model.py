@@ -211,12 +211,12 @@ def answer_column(scope: Scope, query: Query, position: int) -> Column:
         demand(column.type.startswith(("Int", "UInt")), "F15")
         return Column(alias or f"col{position}", "Decimal128", True)
     demand(not query.grouped or scope.resolved(item) in scope.resolved(query.keys), "F16")
-    return Column(alias or column.name, answered(column), column.nullable)
+    return Column(alias or column.name, answered(column, position - 1), column.nullable)
 
 
-def answered(column: Column) -> str:
-    """The type of a column in an answer: a dictionary is answered as texts."""
-    return "Utf8" if column.type == "dictionary" else column.type
+def answered(column: Column, number: int) -> str:
+    """The type of a column in an answer: a dictionary is answered as one whose id is the column's number, counted from 0."""
+    return f"Dictionary(DictionaryEncoding {{ id: {number}, index: Int32 }})" if column.type == "dictionary" else column.type
 
 
 def bound(query: Query, database: Database) -> tuple[Query, list[Column]]:
@@ -232,7 +232,8 @@ def bound(query: Query, database: Database) -> tuple[Query, list[Column]]:
         scope.found(key)
     columns = [answer_column(scope, query, position) for position in range(1, len(query.items) + 1)]
     if not query.items:
-        columns = [Column(one.name, answered(one), one.nullable) for place in query.places for one in place.columns]
+        all_columns = [one for place in query.places for one in place.columns]
+        columns = [Column(one.name, answered(one, number), one.nullable) for number, one in enumerate(all_columns)]
     demand(len(columns) <= 64, "F12")
     ons = tuple(Scope(query.places[:number]).resolved(one) for number, one in enumerate(query.ons, 2))
     return dataclasses.replace(scope.resolved(dataclasses.replace(query, ons=())), ons=ons), columns

@@ -166,11 +166,16 @@ def named(name, data):
 # What a put is answered, from the answers by hand of arrow/index.txt.
 
 
+def coded(number):
+    """The type as which a dictionary of texts is answered: its id is the column's number, and its indices have 32 bits."""
+    return f"Dictionary(DictionaryEncoding {{ id: {number}, index: Int32 }})"
+
+
 def told(columns, rows):
-    """The columns of an answer, where a dictionary of texts is answered as texts, and its rows."""
+    """The columns of an answer, and its rows."""
     fields = ""
-    for name, of, nullable in columns:
-        answered = f"Integer({of})" if of in INTEGERS else "Utf8" if of.startswith("dictionary") else of
+    for number, (name, of, nullable) in enumerate(columns):
+        answered = f"Integer({of})" if of in INTEGERS else coded(number) if of.startswith("dictionary") else of
         fields += f"{name} {answered}{' or null' * nullable};"
     cells = [[f'"{cell}"' if isinstance(cell, str) else json.dumps(cell) for cell in row] for row in rows]
     return fields, [",".join(row) + ";" for row in cells]
@@ -377,7 +382,9 @@ def other_queries():
             (two, 1, "SELECT a FROM t WHERE a NOT IN (1, b)", f"{A} "), (two, 1, "SELECT a FROM t WHERE a IN (1, b, 3)", f"{A} 3;"),
             (two, 1, "SELECT b, a, b FROM t", f"{b}{A}{b} null,3,null;"),
             ("schema_Bool batch_Bool", 4, "SELECT a FROM t WHERE a = TRUE", "a Bool or null; true;true;"),
-            ("schema_of_Int8 dictionary_x_null indices_0_1_null", 3, "SELECT k FROM t WHERE k >= 'x'", 'k Utf8 or null; "x";')]:
+            ("schema_of_Int8 dictionary_x_null indices_0_1_null", 3, "SELECT k FROM t WHERE k >= 'x'", f'k {coded(0)} or null; "x";'),
+            ("schema_of_Int8 dictionary_x_null indices_0_1_null", 3, "SELECT k AS a, k AS b FROM t WHERE k IS NULL",
+             f"a {coded(0)} or null;b {coded(1)} or null; null,null;null,null;")]:
         log((rows, f"create+{words}"))
         fetch(ticket(1, 0, rows, query), answer)
     note("a column of another name in each version, a delimited name with a quote in it, and a comment")

@@ -552,10 +552,19 @@ COLUMNS = [
     ('SELECT a AS "x""y", a "Ab", b Cd FROM t', 'x"y Integer(Int64) true;Ab Integer(Int64) true;Cd Integer(Int64) true;'),
     ("SELECT d, COUNT(d) FROM days GROUP BY d", "d Date true;col2 Integer(Int64) false;"),
     (
+        "SELECT c, k, c AS d FROM types",
+        "c Dictionary(DictionaryEncoding { id: 0, index: Int32 }) true;k Integer(Int8) false;"
+        "d Dictionary(DictionaryEncoding { id: 2, index: Int32 }) true;",
+    ),
+    (
+        "SELECT c, COUNT(c) FROM types GROUP BY c",
+        "c Dictionary(DictionaryEncoding { id: 0, index: Int32 }) true;col2 Integer(Int64) false;",
+    ),
+    (
         "SELECT * FROM types",
         "k Integer(Int8) false;i8 Integer(Int8) true;i16 Integer(Int16) true;i32 Integer(Int32) true;i64 Integer(Int64) true;"
         "u8 Integer(UInt8) true;u16 Integer(UInt16) true;u32 Integer(UInt32) true;u64 Integer(UInt64) true;"
-        "d Decimal128 true;s Utf8 true;f Bool true;g Bool true;c Utf8 true;",
+        "d Decimal128 true;s Utf8 true;f Bool true;g Bool true;c Dictionary(DictionaryEncoding { id: 13, index: Int32 }) true;",
     ),
 ]
 

@@ -1,11 +1,14 @@
 -- Batches over their own texts lie as their schema says, and lead into the dictionaries before them.
-use Rattle.std.proofs.Common.{◌≡◌, ◌≤◌, ◌<◌, ℕ, zero, suc, ◌+◌, ◌==◌, ◌||◌, Bool, true, false, List, [], ◌∷◌, ◌++◌, length, map, slice_get, get_or, Some, if◌then◌else◌, refl, sym, ap, subst, ◌∙◌, arith}
+use Rattle.std.proofs.Common.{◌≡◌, ◌≤◌, ◌<◌, ℕ, zero, suc, ◌+◌, ◌==◌, ◌||◌, All, Bool, true, false, List, [], ◌∷◌, ◌++◌, length, map, slice_get, get_or, Some, if◌then◌else◌, refl, sym, ap, subst, ◌∙◌, arith}
 use Rattle.std.specs.List.{list_any, AllZip}
 use Rattle.std.proofs.lemmas.Bool.{eq-eqb}
 use Rattle.std.proofs.lemmas.List.FromFn.{length-map-range_with_len}
 use Rattle.scan_base.specs.declared.value.Value.{Value}
-use Rattle.scan_base.specs.declared.value.Value.TheVariants.{Text}
+use Rattle.scan_base.specs.declared.value.Value.TheVariants.{Null, Bool as Flag, Int, Text}
+use Rattle.scan_base.specs.Value.{IsTextOrNull}
 use Rattle.scan_base.specs.Limits.{most_values}
+use Rattle.arrow_schema.specs.declared.data_type.IntegerType.TheVariants.{Int32}
+use Rattle.arrow_schema.specs.declared.data_type.DictionaryEncoding.{DictionaryEncoding}
 use Rattle.arrow_schema.specs.declared.data_type.DataType.{DataType}
 use Rattle.arrow_schema.specs.declared.data_type.DataType.TheVariants.{Integer, Utf8, Bool as Flags, Decimal128, Date, Dictionary}
 use Rattle.arrow_schema.specs.declared.schema.Field.{Field}
@@ -15,9 +18,9 @@ use Rattle.arrays.specs.declared.layout.Layout.TheVariants as layout
 use Rattle.arrays.specs.Number.{integer_at}
 use Rattle.arrays.specs.Dictionary.{entry_at}
 use Rattle.arrays.specs.Batch.{BatchAt, AreLong, rows_of}
-use Rattle.arrays.specs.Column.{ColumnAt, slot_of, values_of}
+use Rattle.arrays.specs.Column.{ColumnAt, IsColumn, slot_of, values_of}
 use Rattle.arrays.specs.Firsts.{firsts}
-use Rattle.arrays.specs.Typed.{IsOfType, AreOfTypes}
+use Rattle.arrays.specs.Typed.{IsOfType, IsValueOf, AreOfTypes, ValuesAreOfTheirType}
 use Rattle.array_buffers.specs.Written.{IsLedBy}
 use Rattle.dictionary_answers.specs.Answer.{IsAnswered, IsCodable, AreAnswered, AreCodable, LiesOver, column_dictionary, dictionaries_of}
 use Rattle.dictionary_answers.proofs.Places.{few_behind}
@@ -28,12 +31,43 @@ use Rattle.ipc_batch.specs.Said.{Sent, Rows}
 use Rattle.ipc_batch.specs.Written.{AreLedBy, SaysBatch, SaysValues}
 use Rattle.ipc_batch.specs.Dressed.{cells_in, is_coded, coded_from, HasTexts, SaysWhole, AddsRows}
 use Rattle.ipc_batch.proofs.Dressing.{column_cells, whole_said}
-use Rattle.dressed_batches.specs.Dress.{IsNumbered, AreNumbered, IsDressable, AreDressable}
+use Rattle.dressed_batches.specs.Dress.{IsNumbered, AreNumbered, HoldsTexts, IsDressable, AreDressable}
+
+-- ---- texts
+
+text_if : (value : Value) → IsValueOf Utf8 value → IsTextOrNull value
+text_if Null is = tt
+text_if (Text bytes) is = is
+text_if (Flag flag) is = absurd is
+text_if (Int number) is = absurd is
+
+text_led : (encoding : DictionaryEncoding) (value : Value) → IsValueOf (Dictionary encoding) value → IsTextOrNull value
+text_led encoding Null is = tt
+text_led encoding (Text bytes) is = is
+text_led encoding (Flag flag) is = absurd is
+text_led encoding (Int number) is = absurd is
+
+-- a column that holds texts has no other values
+texts_held : ValuesAreOfTheirType → (column : ColumnAt) → IsColumn column → HoldsTexts column.layout → All IsTextOrNull (values_of column)
+texts_held typed column stands holds = by column.layout refl holds
+  where
+    any : DictionaryEncoding
+    any = record { id = 0; index = Int32 }
+
+    by : (known : Layout) → column.layout ≡ known → HoldsTexts known → All IsTextOrNull (values_of column)
+    by (layout.Texts cells) e holds =
+        λ k d low. text_if (get_or (values_of column) k d) (typed Utf8 column stands (subst (IsOfType Utf8) (sym e) tt) k d low)
+    by (layout.Indices cells) e holds =
+        λ k d low. text_led any (get_or (values_of column) k d) (typed (Dictionary any) column stands (subst (IsOfType (Dictionary any)) (sym e) tt) k d low)
+    by (layout.Integers cells) e holds = absurd holds
+    by (layout.Decimals cells) e holds = absurd holds
+    by (layout.Bools cells) e holds = absurd holds
 
 -- what may be dressed may be coded
-pub dressable_coded : (fields : List Field) (columns : List ColumnAt) → AreDressable fields columns → AreCodable fields columns
-dressable_coded [] [] are = tt
-dressable_coded (field ∷ fields) (column ∷ columns) are = (by field.data_type are.0, dressable_coded fields columns are.1)
+pub dressable_coded : ValuesAreOfTheirType → (fields : List Field) (columns : List ColumnAt) → All IsColumn columns → AreDressable fields columns → AreCodable fields columns
+dressable_coded typed [] [] stand are = tt
+dressable_coded typed (field ∷ fields) (column ∷ columns) stand are =
+    (by field.data_type are.0, dressable_coded typed fields columns (λ k d low. stand (suc k) d (omega (arith, low))) are.1)
   where
     by : (t : DataType) → IsDressable t column → IsCodable t column
     by (Integer integer) is = tt
@@ -41,9 +75,9 @@ dressable_coded (field ∷ fields) (column ∷ columns) are = (by field.data_typ
     by Flags is = tt
     by Decimal128 is = tt
     by Date is = tt
-    by (Dictionary encoding) is = is
-dressable_coded [] (column ∷ columns) are = absurd are
-dressable_coded (field ∷ fields) [] are = absurd are
+    by (Dictionary encoding) is = texts_held typed column (stand 0 column (omega arith)) is
+dressable_coded typed [] (column ∷ columns) stand are = absurd are
+dressable_coded typed (field ∷ fields) [] stand are = absurd are
 
 -- ---- types
 

@@ -1,1 +1,3 @@
 pub mod Dressing
+pub mod Lengths
+pub mod Sent

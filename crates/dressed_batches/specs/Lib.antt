@@ -1,1 +1,3 @@
 pub mod Dress
+pub mod Lengths
+pub mod inside

@@ -1,14 +1,16 @@
 //! A batch over its own texts, and the messages of the dictionaries that come before it.
 
-ghost use Rattle.std.specs.Prelude.{◌≡◌, ◌≤◌, ◌<◌, ◌^◌, false, IfOk, IfSome, map};
+ghost use Rattle.std.specs.Prelude.{◌≡◌, ◌≤◌, ◌<◌, ◌^◌, All, IfNone, IfOk, IfSome, map};
 ghost use Rattle.std.specs.List.{AllZip};
 ghost use Rattle.scan_base.specs.Limits.{most_values};
-ghost use Rattle.dictionary_answers.specs.Answer.{dictionary_seen};
-ghost use Rattle.ipc_batch.specs.Written.{SaysValues};
+ghost use Rattle.arrays.specs.Column.{IsColumn};
 ghost use Rattle.ipc_batch.specs.Seen.{written_seen};
-ghost use Rattle.dressed_batches.specs.Dress.{AreDressable, AreNumbered, IsDressedBatch};
+ghost use Rattle.dressed_batches.specs.Dress.{AreDressable, AreNumbered, IsDressedBatch, IsMessageOf};
+ghost use Rattle.dressed_batches.specs.Lengths.{dressed_length};
+ghost use Rattle.dressed_batches.specs.inside.Written.{all_written, written_length};
 
-use arrays::Batch;
+use arrays::laws::values_are_of_their_type;
+use arrays::{Batch, Cells, Column};
 use arrow_schema::Schema;
 use dictionary_answers::{CodedBatch, ColumnDictionary, code_batch};
 use hash_seed::HashSeed;
@@ -25,7 +27,8 @@ pub struct DressedBatch {
 
 /// The same rows, dressed: for each field that is a dictionary, in their order, a message says the texts that its column holds,
 /// each once and by first appearance. Behind these messages one that is written of the batch that is made says the rows. `None`
-/// where the texts have more bytes than there is room for, or those of one column cannot be written.
+/// where the bodies of all have more bytes than there is room for: it comes where the texts alone have them, or where the
+/// dictionary of one column cannot be written. Otherwise it is for the caller to look how long the batch's own body is.
 ///
 /// # Errors
 ///
@@ -41,8 +44,11 @@ pub fn dress(
     requires room { room < 2 ^ 31 }
     requires numbered { AreNumbered 0 schema.now.fields }
     requires dressable { AreDressable schema.now.fields batch.now.columns }
-    ensures { IfOk result (λ made. IfSome made (IsDressedBatch schema.now batch.now)) }
+    ensures dressed { IfOk result (λ found. IfSome found (IsDressedBatch schema.now batch.now)) }
+    ensures full { IfOk result (λ found. IfNone found (room < dressed_length schema.now.fields batch.now.columns)) }
 {
+    values_are_of_their_type();
+    columns_stand(batch.columns());
     let Some(coded) = code_batch(alloc, seed, schema, batch, room)? else {
         return Ok(None);
     };
@@ -59,19 +65,37 @@ pub fn dress(
     }))
 }
 
-// The messages of dictionaries, none of which is a delta. `None` where one cannot be written.
+// Looks at each column, which tells that its slots stand.
+fn columns_stand(columns: &[Column])
+    ensures { All IsColumn columns.now }
+{
+    for column in columns {
+        let _len = column.len();
+    }
+}
+
+// The message of a dictionary, which is no delta. `None` where its body would have 2 to the 31 bytes or more.
+fn dictionary_message(
+    alloc: Global,
+    dictionary: &ColumnDictionary,
+) -> Result<Option<WrittenMessage>, AllocError>
+    ensures message { IfOk result (λ found. IfSome found (λ made. IsMessageOf dictionary.now (written_seen made))) }
+    ensures full { IfOk result (λ found. IfNone found (2 ^ 31 ≤ written_length dictionary.now)) }
+{
+    write_dictionary(alloc, dictionary.number, &dictionary.texts, false)
+}
+
+// The messages of dictionaries. `None` where one cannot be written.
 fn dictionary_messages(
     alloc: Global,
     dictionaries: &[ColumnDictionary],
 ) -> Result<Option<Vec<WrittenMessage>>, AllocError>
-    ensures { IfOk result (λ made. IfSome made (λ made.
-        AllZip (λ values sent. SaysValues sent values.0 values.1 false) (map dictionary_seen dictionaries.now)
-        (map written_seen made.items))) }
+    ensures messages { IfOk result (λ found. IfSome found (λ made. AllZip IsMessageOf dictionaries.now (map written_seen made.items))) }
+    ensures full { IfOk result (λ found. IfNone found (2 ^ 31 ≤ all_written dictionaries.now)) }
 {
     let mut made = Vec::with_capacity(alloc, dictionaries.len())?;
     for dictionary in dictionaries {
-        let (number, texts) = (dictionary.number, &dictionary.texts);
-        let Some(message) = write_dictionary(alloc, number, texts, false)? else {
+        let Some(message) = dictionary_message(alloc, dictionary)? else {
             return Ok(None);
         };
         made.push(message)?;

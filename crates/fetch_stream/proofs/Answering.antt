@@ -8,19 +8,19 @@ use Rattle.endpoint_split.specs.Handle.{HandleAt}
 use Rattle.table_versions.specs.Table.{Row, Table}
 use Rattle.table_versions.specs.Database.{Database}
 use Rattle.flight_info.specs.Payloads.{Payload, PayloadsSay}
-use Rattle.fetch_stream.specs.Fetches.{HandleMeans, SayBeginning, FetchAt}
-use Rattle.fetch_stream.specs.Streams.{StreamAt, SaySoFar, GivesPayload, Gives, MayRefuse, HasGiven, StreamsAnswer, opened}
+use Rattle.fetch_stream.specs.Fetches.{HandleMeans, SayBeginning, SayDressed, FetchAt}
+use Rattle.fetch_stream.specs.Streams.{StreamAt, Parcel, SaySoFar, GivesParcel, Gives, MayRefuse, HasGiven, StreamsAnswer, opened}
 use Rattle.fetch_stream.specs.inside.Collected.{Collects}
 
 -- ---- one call
 
 -- what a call gave
-pub gave : (before after : StreamAt) (payload : Payload) → Gives before (Ok (Some payload)) after → GivesPayload before payload after
-gave before after payload gives = by before.schema before.begun before.left before.given before.refused gives
+pub gave : (before after : StreamAt) (parcel : Parcel) → Gives before (Ok (Some parcel)) after → GivesParcel before parcel after
+gave before after parcel gives = by before.schema before.begun before.left before.given before.refused gives
   where
     by : (schema : Schema) (begun : Bool) (left : List Row) (count : ℕ) (refused : Option Fault)
-        → Gives (record { schema = schema; begun = begun; left = left; given = count; refused = refused }) (Ok (Some payload)) after
-        → GivesPayload (record { schema = schema; begun = begun; left = left; given = count; refused = refused }) payload after
+        → Gives (record { schema = schema; begun = begun; left = left; given = count; refused = refused }) (Ok (Some parcel)) after
+        → GivesParcel (record { schema = schema; begun = begun; left = left; given = count; refused = refused }) parcel after
     by schema begun left count None gives = gives
     by schema begun left count (Some fault) gives = absurd (let e = gives.0 in cc)
 
@@ -52,8 +52,8 @@ to_begin false = 1
 abbrev pub turns : StreamAt → ℕ
 turns stream = length stream.left + to_begin stream.begun
 
-pub fewer_turns : (before after : StreamAt) (payload : Payload) → GivesPayload before payload after → turns after < turns before
-fewer_turns before after payload gives =
+pub fewer_turns : (before after : StreamAt) (parcel : Parcel) → GivesParcel before parcel after → turns after < turns before
+fewer_turns before after parcel gives =
     let long : length (gives.rows ++ after.left) ≡ length before.left = ap length gives.left in
     let begun : to_begin after.begun ≡ 0 = rw gives.begun refl in
     by before.begun refl (omega (arith, long, length-append gives.rows after.left)) begun
@@ -72,9 +72,9 @@ fewer_turns before after payload gives =
 pub given_none : (answer : Table) → HasGiven answer [] (opened answer)
 given_none answer = record { rows = []; said = (refl, refl); counted = refl; within = omega arith; all = refl; schema = refl }
 
-pub given_more : (answer : Table) (payloads : List Payload) (before after : StreamAt) (payload : Payload) → HasGiven answer payloads before → GivesPayload before payload after
-    → HasGiven answer (payloads ++ payload ∷ []) after
-given_more answer payloads before after payload has gives = record {
+pub given_more : (answer : Table) (payloads : List Payload) (before after : StreamAt) (parcel : Parcel) → HasGiven answer payloads before → GivesParcel before parcel after
+    → HasGiven answer (payloads ++ parcel) after
+given_more answer payloads before after parcel has gives = record {
   rows = has.rows ++ gives.rows;
   said = gives.said payloads has.rows has.said;
   counted = omega (arith, has.counted, gives.counted, length-append has.rows gives.rows);
@@ -84,18 +84,18 @@ given_more answer payloads before after payload has gives = record {
 }
 
 -- where a payload said the schema, all of them say it and the rows so far
-said_begun : (answer : Table) (payloads : List Payload) (stream : StreamAt) (has : HasGiven answer payloads stream) → stream.begun ≡ true → PayloadsSay payloads answer.schema has.rows
+said_begun : (answer : Table) (payloads : List Payload) (stream : StreamAt) (has : HasGiven answer payloads stream) → stream.begun ≡ true → SayDressed payloads answer.schema has.rows
 said_begun answer payloads stream has begun =
-    subst (λ (schema : Schema). PayloadsSay payloads schema has.rows) has.schema (by stream.begun begun has.said)
+    subst (λ (schema : Schema). SayDressed payloads schema has.rows) has.schema (by stream.begun begun has.said)
   where
     by : (begun : Bool) → begun ≡ true → SaySoFar (record { schema = stream.schema; begun = begun; left = stream.left; given = stream.given; refused = stream.refused }) payloads has.rows
-        → PayloadsSay payloads stream.schema has.rows
+        → SayDressed payloads stream.schema has.rows
     by true e said = said
     by false e said = absurd cc
 
-pub given_all : (answer : Table) (payloads : List Payload) (stream : StreamAt) → HasGiven answer payloads stream → stream.begun ≡ true → stream.left ≡ [] → PayloadsSay payloads answer.schema answer.rows
+pub given_all : (answer : Table) (payloads : List Payload) (stream : StreamAt) → HasGiven answer payloads stream → stream.begun ≡ true → stream.left ≡ [] → SayDressed payloads answer.schema answer.rows
 given_all answer payloads stream has begun none =
-    subst (λ (rows : List Row). PayloadsSay payloads answer.schema rows)
+    subst (λ (rows : List Row). SayDressed payloads answer.schema rows)
     (sym (append-nil has.rows) ∙ ap (λ (rows : List Row). has.rows ++ rows) (sym none) ∙ has.all) (said_begun answer payloads stream has begun)
 
 -- and an answer of which all was given is no larger than it may be
@@ -116,7 +116,7 @@ given_part answer payloads stream has begun =
       n,
       omega (arith, has.counted, has.within),
       omega (arith, long, length-append has.rows stream.left),
-      subst (λ (rows : List Row). PayloadsSay payloads answer.schema rows) (sym first) (said_begun answer payloads stream has begun),
+      subst (λ (rows : List Row). PayloadsSay payloads answer.schema rows) (sym first) (said_begun answer payloads stream has begun).said,
     )
 
 -- where none did, there is no payload

@@ -1,21 +1,23 @@
 -- What a call of a stream gives, by what the parts of the stream give.
 use Rattle.std.proofs.Common.{◌≡◌, ◌≤◌, ◌<◌, ◌+◌, ℕ, Bool, true, false, List, [], ◌∷◌, ◌++◌, length, Option, None, Result, Ok, refl, sym, ap, subst, ◌∙◌, append-nil, arith}
+use Rattle.std.proofs.lemmas.List.Elements.{All-nil, All-cons}
 use Rattle.scan_base.specs.declared.fault.Fault.{Fault}
 use Rattle.scan_base.specs.Limits.{most_answer_rows, most_message_bytes}
 use Rattle.arrow_schema.specs.declared.schema.Schema.{Schema}
-use Rattle.arrays.specs.Batch.{rows_of}
 use Rattle.row_sources.specs.declared.turn.Patience.{Patience}
 use Rattle.row_sources.specs.declared.turn.Turn.{Turn}
 use Rattle.row_sources.specs.declared.turn.Turn.TheVariants.{Given, Working, End}
 use Rattle.table_versions.specs.Table.{Row, Table}
-use Rattle.flight_info.specs.Payloads.{Payload, PayloadsSay}
-use Rattle.fetch_stream.specs.Streams.{StreamAt, GivesPayload, GivesTurn, opened}
+use Rattle.flight_info.specs.Payloads.{Payload, FitMessages}
+use Rattle.flight_info.proofs.Fitting.{none_fit, one_fits}
+use Rattle.fetch_stream.specs.Fetches.{SayDressed}
+use Rattle.fetch_stream.specs.Streams.{StreamAt, Parcel, HasShortBody, GivesParcel, GivesTurn, opened}
 use Rattle.fetch_stream.specs.declared.cutter.Cutter.{Cutter}
 use Rattle.fetch_stream.specs.declared.source.Source.{Source}
 use Rattle.fetch_stream.specs.inside.Ahead.{IsGoing, schema_behind, rows_cut}
 use Rattle.fetch_stream.specs.inside.Steps.{GivesFirst, GivesRows, rows_left}
-use Rattle.fetch_stream.specs.inside.Written.{SaysSchema, SaysBatchBehind}
-use Rattle.fetch_stream.proofs.Streaming.{say_first, say_more, carried_short}
+use Rattle.fetch_stream.specs.inside.Written.{SaysRows, SaysSchema}
+use Rattle.fetch_stream.proofs.Streaming.{say_first, say_more, carried_short, each_short}
 
 abbrev pub stream_of : Schema → Bool → List Row → ℕ → StreamAt
 stream_of schema begun left count = record { schema = schema; begun = begun; left = left; given = count; refused = None }
@@ -38,40 +40,39 @@ opens_all schema rows answer same all = rw (append-nil rows, same, all) refl
 
 -- the schema's payload
 pub gives_schema : (schema : Schema) (begun : Bool) (left : List Row) (count : ℕ) (payload : Payload) → begun ≡ false → count ≤ most_answer_rows → SaysSchema payload schema
-    → length payload ≤ most_message_bytes → GivesPayload (stream_of schema begun left count) payload (stream_of schema true left count)
+    → length payload ≤ most_message_bytes → GivesParcel (stream_of schema begun left count) (payload ∷ []) (stream_of schema true left count)
 gives_schema schema true left count payload first within s fits = absurd cc
 gives_schema schema false left count payload first within s fits = record {
   rows = [];
   said = λ payloads given so.
-      subst (λ (p : List Payload). PayloadsSay (p ++ payload ∷ []) schema (given ++ [])) (sym so.0)
-      (subst (λ (r : List Row). PayloadsSay (payload ∷ []) schema (r ++ [])) (sym so.1) (say_first payload schema s));
+      subst (λ (p : List Payload). SayDressed (p ++ payload ∷ []) schema (given ++ [])) (sym so.0)
+      (subst (λ (r : List Row). SayDressed (payload ∷ []) schema (r ++ [])) (sym so.1) (say_first payload schema s));
   left = refl;
   counted = omega arith;
   within = within;
   some = λ e. absurd cc;
   few = omega arith;
-  short = carried_short payload s.message s.carries s.short;
-  fits = fits;
+  short = All-cons HasShortBody payload [] (carried_short payload s.message s.carries s.short) (All-nil HasShortBody);
+  fits = one_fits [] payload none_fit fits;
   schema = refl;
   begun = refl;
   refused = refl;
 }
 
--- the payload of rows
-pub gives_rows : (schema new : Schema) (begun : Bool) (left rest rows : List Row) (count more : ℕ) (payload : Payload) → begun ≡ true → new ≡ schema
-    → ((payloads : List Payload) (given : List Row) → PayloadsSay payloads schema given → PayloadsSay (payloads ++ payload ∷ []) schema (given ++ rows))
-    → rows ++ rest ≡ left → more ≡ count + length rows → more ≤ most_answer_rows → 0 < length rows → length rows ≤ 65536 → (batch : _) → SaysBatchBehind payload batch
-    → length payload ≤ most_message_bytes → GivesPayload (stream_of schema begun left count) payload (stream_of new true rest more)
-gives_rows schema new false left rest rows count more payload on same say join counted within some few batch s fits = absurd cc
-gives_rows schema new true left rest rows count more payload on same say join counted within some few batch s fits = record {
+-- the parcel of rows
+pub gives_rows : (schema new : Schema) (begun : Bool) (left rest rows : List Row) (count more : ℕ) (parcel : Parcel) → begun ≡ true → new ≡ schema → SaysRows parcel schema rows
+    → rows ++ rest ≡ left → more ≡ count + length rows → more ≤ most_answer_rows → 0 < length rows → length rows ≤ 65536
+    → FitMessages parcel → GivesParcel (stream_of schema begun left count) parcel (stream_of new true rest more)
+gives_rows schema new false left rest rows count more parcel on same s join counted within some few fits = absurd cc
+gives_rows schema new true left rest rows count more parcel on same s join counted within some few fits = record {
   rows = rows;
-  said = λ payloads given so. subst (λ (sch : Schema). PayloadsSay (payloads ++ payload ∷ []) sch (given ++ rows)) (sym same) (say payloads given so);
+  said = λ payloads given so. subst (λ (sch : Schema). SayDressed (payloads ++ parcel) sch (given ++ rows)) (sym same) (say_more payloads parcel schema given rows s so);
   left = join;
   counted = counted;
   within = within;
   some = λ e. some;
   few = few;
-  short = carried_short payload s.message s.carries s.short;
+  short = each_short parcel (s.dictionaries ++ s.batch ∷ []) s.carry s.short;
   fits = fits;
   schema = same;
   begun = refl;
@@ -87,15 +88,13 @@ pub cut_few : (cutter : Cutter) (source : Source) → IsGoing cutter source → 
 cut_few cutter source is = omega (arith, is.within)
 
 -- a turn behind the first one
-pub gives_next : (patience : Patience) (cutter : Cutter) (source : Source) (given : Turn Payload) (new_cutter : Cutter) (new : Source) (begun : Bool) → begun ≡ true
+pub gives_next : (patience : Patience) (cutter : Cutter) (source : Source) (given : Turn Parcel) (new_cutter : Cutter) (new : Source) (begun : Bool) → begun ≡ true
     → GivesRows patience cutter source (Ok given) new_cutter new
     → GivesTurn patience (stream_of (schema_behind source) begun (rows_left cutter source) (rows_cut cutter source)) (Ok given)
     (stream_of (schema_behind new) true (rows_left new_cutter new) (rows_cut new_cutter new))
-gives_next patience cutter source (Given payload) new_cutter new begun on next =
-    gives_rows (schema_behind source) (schema_behind new) begun (rows_left cutter source) (rows_left new_cutter new) (rows_of next.batch) (rows_cut cutter source) (rows_cut new_cutter new)
-    payload on next.keeps.schema
-    (λ payloads given said. say_more payloads payload next.batch (schema_behind source) given next.said next.columns said)
-    next.rows next.counted (cut_few new_cutter new next.keeps.going) next.some next.few next.batch next.said next.fits
+gives_next patience cutter source (Given parcel) new_cutter new begun on next =
+    gives_rows (schema_behind source) (schema_behind new) begun (rows_left cutter source) (rows_left new_cutter new) next.given (rows_cut cutter source) (rows_cut new_cutter new)
+    parcel on next.keeps.schema next.said next.rows next.counted (cut_few new_cutter new next.keeps.going) next.some next.few next.fits
 gives_next patience cutter source Working new_cutter new false on waits = absurd cc
 gives_next patience cutter source Working new_cutter new true on waits = (
   refl,
@@ -112,16 +111,18 @@ gives_next patience cutter source End new_cutter new true on ends = (
 )
 
 -- the first one
-pub gives_first : (patience : Patience) (schema : Schema) (given : Turn Payload) (left : List Row) (count : ℕ) (begun : Bool) → begun ≡ false → count ≤ most_answer_rows
+pub gives_first : (patience : Patience) (schema : Schema) (given : Turn Parcel) (left : List Row) (count : ℕ) (begun : Bool) → begun ≡ false → count ≤ most_answer_rows
     → GivesFirst schema (Ok given) → GivesTurn patience (stream_of schema begun left count) (Ok given) (stream_of schema true left count)
-gives_first patience schema (Given payload) left count begun first within s = gives_schema schema begun left count payload first within s.0 s.1
+gives_first patience schema (Given parcel) left count begun first within s =
+    subst (λ (p : Parcel). GivesParcel (stream_of schema begun left count) p (stream_of schema true left count)) (sym s.alone)
+    (gives_schema schema begun left count s.payload first within s.said s.fits)
 gives_first patience schema Working left count begun first within s = absurd s
 gives_first patience schema End left count begun first within s = absurd s
 
 -- what is left of a stream that goes on
-pub goes_on : (patience : Patience) (cutter : Cutter) (source : Source) (given : Turn Payload) (new_cutter : Cutter) (new : Source) →
+pub goes_on : (patience : Patience) (cutter : Cutter) (source : Source) (given : Turn Parcel) (new_cutter : Cutter) (new : Source) →
     GivesRows patience cutter source (Ok given) new_cutter new → IsGoing new_cutter new
-goes_on patience cutter source (Given payload) new_cutter new next = next.keeps.going
+goes_on patience cutter source (Given parcel) new_cutter new next = next.keeps.going
 goes_on patience cutter source Working new_cutter new waits = waits.0.keeps.going
 goes_on patience cutter source End new_cutter new ends = ends.0.going
 
@@ -130,7 +131,7 @@ abbrev stream_by : Schema → Bool → List Row → ℕ → Option Fault → Str
 stream_by schema begun left count refused = record { schema = schema; begun = begun; left = left; given = count; refused = refused }
 
 -- a turn of a stream that nothing refused gives this, whatever names it has
-pub gives_so : (patience : Patience) (before one after other : StreamAt) (result : Result (Turn Payload) Fault) (given : Turn Payload) → before ≡ one → result ≡ Ok given → after ≡ other
+pub gives_so : (patience : Patience) (before one after other : StreamAt) (result : Result (Turn Parcel) Fault) (given : Turn Parcel) → before ≡ one → result ≡ Ok given → after ≡ other
     → one.refused ≡ None → other.refused ≡ None → GivesTurn patience (stream_of one.schema one.begun one.left one.given) (Ok given) (stream_of other.schema other.begun other.left other.given)
     → GivesTurn patience before result after
 gives_so patience before one after other result given first is last none still gives =
@@ -138,4 +139,4 @@ gives_so patience before one after other result given first is last none still g
     let ends : after ≡ stream_of other.schema other.begun other.left other.given = last ∙ ap (λ refused. stream_by other.schema other.begun other.left other.given refused) still in
     subst (λ (s : StreamAt). GivesTurn patience s result after) (sym begins)
     (subst (λ (s : StreamAt). GivesTurn patience (stream_of one.schema one.begun one.left one.given) result s) (sym ends)
-    (subst (λ (r : Result (Turn Payload) Fault). GivesTurn patience (stream_of one.schema one.begun one.left one.given) r (stream_of other.schema other.begun other.left other.given)) (sym is) gives))
+    (subst (λ (r : Result (Turn Parcel) Fault). GivesTurn patience (stream_of one.schema one.begun one.left one.given) r (stream_of other.schema other.begun other.left other.given)) (sym is) gives))

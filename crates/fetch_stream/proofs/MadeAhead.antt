@@ -1,4 +1,4 @@
--- Payloads that are made ahead of a stream, and the rest of it.
+-- Parcels that are made ahead of a stream, and the rest of it.
 use Rattle.std.proofs.Common.{◌≡◌, ◌+◌, ℕ, Bool, true, false, List, [], ◌∷◌, ◌++◌, length, map, drop, cond, Option, Some, None, Result, Ok, Err, inl, inr, refl, sym, ap, subst, ◌∙◌, length-append, arith}
 use Rattle.std.specs.List.{list_any, filter}
 use Rattle.std.proofs.lemmas.List.{drop-drop, drop_at, length-drop}
@@ -9,8 +9,7 @@ use Rattle.row_sources.specs.declared.turn.Turn.{Turn}
 use Rattle.row_sources.specs.declared.turn.Turn.TheVariants.{Given, Working, End}
 use Rattle.table_versions.specs.Table.{Row}
 use Rattle.table_versions.proofs.Storable.{first_false, second_false}
-use Rattle.flight_info.specs.Payloads.{Payload}
-use Rattle.fetch_stream.specs.Streams.{StreamAt, Gives, GivesPayload, MayRefuse}
+use Rattle.fetch_stream.specs.Streams.{StreamAt, Parcel, Gives, GivesParcel, MayRefuse}
 use Rattle.fetch_stream.specs.declared.made.Made.{Made}
 use Rattle.fetch_stream.specs.inside.MadeAhead.{AreAhead, GivesMade, MakesNext, behind}
 use Rattle.fetch_stream.proofs.Answering.{ended}
@@ -23,7 +22,7 @@ parts_are : (schema other : Schema) (begun : Bool) (left rest : List Row) (given
 parts_are schema other begun left rest given refused same on all none = rw (same, on, all, none) refl
 
 -- what refused a stream is answered from then on
-pub stays_refused : (before after : StreamAt) (result : Result (Option Payload) Fault) (fault : Fault) → before.refused ≡ Some fault → Gives before result after → (result ≡ Err fault) × (after ≡ before)
+pub stays_refused : (before after : StreamAt) (result : Result (Option Parcel) Fault) (fault : Fault) → before.refused ≡ Some fault → Gives before result after → (result ≡ Err fault) × (after ≡ before)
 stays_refused before after result fault is gives = by before.schema before.begun before.left before.given before.refused is gives
   where
     by : (schema : Schema) (begun : Bool) (left : List Row) (given : ℕ) (refused : Option Fault) → refused ≡ Some fault
@@ -34,10 +33,10 @@ stays_refused before after result fault is gives = by before.schema before.begun
         let same : other ≡ fault = cc in
         (gives.0 ∙ rw same refl, gives.1)
 
--- ---- one payload more
+-- ---- one parcel more
 
-module _ (schema : Schema) (rows : List Row) (given : ℕ) (payload : Payload) (after : StreamAt) (gives : GivesPayload (behind schema rows given) payload after) where
-  -- behind the next payload a stream of these rows stands at the rows behind it
+module _ (schema : Schema) (rows : List Row) (given : ℕ) (parcel : Parcel) (after : StreamAt) (gives : GivesParcel (behind schema rows given) parcel after) where
+  -- behind the next parcel a stream of these rows stands at the rows behind it
   pub next_stands : after ≡ behind schema rows after.given
   next_stands =
       let n = length gives.rows in
@@ -51,11 +50,11 @@ module _ (schema : Schema) (rows : List Row) (given : ℕ) (payload : Payload) (
 
 pub one_ahead : (patience : Patience) (schema : Schema) (rows : List Row) (given : ℕ) (next : Made) (after : StreamAt) → MakesNext patience (behind schema rows given) (Ok (Given next)) after → AreAhead schema rows given (next ∷ []) (Some after)
 one_ahead patience schema rows given next after makes =
-    let gives : GivesPayload (behind schema rows given) next.payload after = makes.0 in
-    let stands : after ≡ behind schema rows next.given = next_stands schema rows given next.payload after gives ∙ ap (λ (k : ℕ). behind schema rows k) (sym makes.1) in (
-      subst (λ (s : StreamAt). GivesPayload (behind schema rows given) next.payload s) stands gives,
+    let gives : GivesParcel (behind schema rows given) next.parcel after = makes.0 in
+    let stands : after ≡ behind schema rows next.given = next_stands schema rows given next.parcel after gives ∙ ap (λ (k : ℕ). behind schema rows k) (sym makes.1) in (
+      subst (λ (s : StreamAt). GivesParcel (behind schema rows given) next.parcel s) stands gives,
       makes.2,
-      omega (arith, makes.3, next_whole schema rows given next.payload after gives),
+      omega (arith, makes.3, next_whole schema rows given next.parcel after gives),
       inl stands,
     )
 
@@ -64,7 +63,7 @@ pub more_ahead : (patience : Patience) (schema : Schema) (rows : List Row) (give
 more_ahead patience schema rows given [] before after next (inl same) makes =
     one_ahead patience schema rows given next after (subst (λ (s : StreamAt). MakesNext patience s (Ok (Given next)) after) same makes)
 more_ahead patience schema rows given [] before after next (inr refused) makes =
-    absurd (let e = (stays_refused before after (Ok (Some next.payload)) refused.0 refused.1 makes.0).0 in cc)
+    absurd (let e = (stays_refused before after (Ok (Some next.parcel)) refused.0 refused.1 makes.0).0 in cc)
 more_ahead patience schema rows given (made ∷ more) before after next all makes =
     (all.0, all.1, all.2, more_ahead patience schema rows made.given more before after next all.3 makes)
 
@@ -96,7 +95,7 @@ refused_ahead schema rows given (made ∷ more) before after fault all gives =
 
 -- ---- what is given
 
--- the first payload that was made
+-- the first parcel that was made
 pub gives_first_made : (patience : Patience) (schema : Schema) (rows : List Row) (given : ℕ) (first : Made) (more : List Made) (rest : Option StreamAt) → AreAhead schema rows given (first ∷ more) rest
     → GivesMade patience schema rows given (Ok (Given first)) more rest
 gives_first_made patience schema rows given first more rest all = all
@@ -107,7 +106,7 @@ pub gives_rest : (patience : Patience) (schema : Schema) (rows : List Row) (give
 gives_rest patience schema rows given before after (Ok (Given next)) (inl same) makes =
     one_ahead patience schema rows given next after (subst (λ (s : StreamAt). MakesNext patience s (Ok (Given next)) after) same makes)
 gives_rest patience schema rows given before after (Ok (Given next)) (inr refused) makes =
-    absurd (let e = (stays_refused before after (Ok (Some next.payload)) refused.0 refused.1 makes.0).0 in cc)
+    absurd (let e = (stays_refused before after (Ok (Some next.parcel)) refused.0 refused.1 makes.0).0 in cc)
 gives_rest patience schema rows given before after (Ok Working) (inl same) makes = (inl (makes.1 ∙ same), makes.2)
 gives_rest patience schema rows given before after (Ok Working) (inr refused) makes =
     absurd (let e = refused.1 in let none = makes.0 in cc)

@@ -1,22 +1,25 @@
 -- What a scan gives, as the source of a stream.
-use Rattle.std.proofs.Common.{◌≡◌, ℕ, ◌+◌, true, false, List, [], ◌∷◌, ◌++◌, map, Option, Some, None, Result, Ok, Err, refl, sym, ap, subst, ◌∙◌, arith, inl, inr}
-use Rattle.std.specs.List.{list_any}
+use Rattle.std.proofs.Common.{◌≡◌, ℕ, ◌+◌, false, List, [], ◌∷◌, ◌++◌, length, map, Option, Some, None, Result, Ok, Err, refl, sym, ap, subst, ◌∙◌, arith, inl, inr}
+use Rattle.std.specs.List.{list_any, AllZip}
 use Rattle.std.proofs.lemmas.List.{length-map}
 use Rattle.std.proofs.lemmas.List.Folds.{list_any-append}
 use Rattle.scan_base.specs.declared.fault.Fault.{Fault}
+use Rattle.arrow_schema.specs.declared.data_type.DictionaryEncoding.{DictionaryEncoding}
 use Rattle.arrow_schema.specs.declared.data_type.DataType.{DataType}
 use Rattle.arrow_schema.specs.declared.data_type.DataType.TheVariants.{Integer, Utf8, Bool as Flag, Decimal128, Date, Dictionary}
 use Rattle.arrow_schema.specs.declared.schema.Field.{Field}
 use Rattle.arrow_schema.specs.declared.schema.Schema.{Schema}
-use Rattle.arrow_schema.specs.Answer.{answered_at, answered_from, copied_type, LieBehind}
+use Rattle.arrow_schema.specs.Answer.{answered_at, answered_from, LieBehind, LiesAs}
 use Rattle.arrow_schema.specs.Schema.{IsSchema}
 use Rattle.arrays.specs.Batch.{BatchAt, rows_of}
 use Rattle.arrays.specs.Column.{ColumnAt}
-use Rattle.arrays.specs.Typed.{AreOf, AreOfTypes}
+use Rattle.arrays.specs.declared.layout.Layout.{Layout}
+use Rattle.arrays.specs.declared.layout.Layout.TheVariants as layout
+use Rattle.arrays.specs.Typed.{IsOfType, AreOf, AreOfTypes}
+use Rattle.dressed_batches.specs.Dress.{IsNumbered, AreNumbered, HoldsTexts, IsDressable, AreDressable}
 use Rattle.row_sources.specs.declared.turn.Patience.{Patience}
 use Rattle.row_sources.specs.declared.turn.Turn.{Turn}
 use Rattle.row_sources.specs.declared.turn.Turn.TheVariants.{Given, Working, End}
-use Rattle.row_sources.proofs.Lying.{all_alike}
 use Rattle.scan_exec.specs.Scan.{ScanAt, GivesRows, Gives, GivesTurn, MayRefuse, left}
 use Rattle.scan_exec.specs.Scan as of_scan
 use Rattle.table_versions.specs.Table.{Row, is_long_text}
@@ -25,38 +28,100 @@ use Rattle.fetch_stream.specs.declared.source.Source.TheVariants.{Scanned}
 use Rattle.fetch_stream.specs.inside.Ahead.{IsSource, AnsweredAs}
 use Rattle.fetch_stream.specs.inside.Given.{GoesOn, GivesNext, GivesNoneYet, GivesBatch, TurnsBatch, MayRefuseSource}
 
--- ---- columns of types, as those of fields
+-- ---- columns that can be answered
 
-abbrev field_of : DataType → Field
-field_of data_type = record { name = []; nullable = true; data_type = data_type }
+texts_as : (known : Layout) → IsOfType Utf8 known → HoldsTexts known
+texts_as (layout.Texts cells) is = tt
+texts_as (layout.Indices cells) is = absurd is
+texts_as (layout.Integers cells) is = absurd is
+texts_as (layout.Decimals cells) is = absurd is
+texts_as (layout.Bools cells) is = absurd is
 
-typed_fields : (types : List DataType) (columns : List ColumnAt) → AreOf types columns → AreOfTypes (map field_of types) columns
-typed_fields [] [] typed = tt
-typed_fields (data_type ∷ types) (column ∷ columns) typed = (typed.0, typed_fields types columns typed.1)
-typed_fields [] (column ∷ columns) typed = absurd typed
-typed_fields (data_type ∷ types) [] typed = absurd typed
+texts_by : (encoding : DictionaryEncoding) (known : Layout) → IsOfType (Dictionary encoding) known → HoldsTexts known
+texts_by encoding (layout.Indices cells) is = tt
+texts_by encoding (layout.Texts cells) is = absurd is
+texts_by encoding (layout.Integers cells) is = absurd is
+texts_by encoding (layout.Decimals cells) is = absurd is
+texts_by encoding (layout.Bools cells) is = absurd is
 
-copied_fields : (types : List DataType) → map copied_type types ≡ map (λ field. copied_type field.data_type) (map field_of types)
-copied_fields [] = refl
-copied_fields (data_type ∷ types) = ap (λ (more : List DataType). copied_type data_type ∷ more) (copied_fields types)
+-- a column of a type can be answered as one
+of_type : (t : DataType) (column : ColumnAt) → IsOfType t column.layout → IsDressable t column
+of_type (Integer integer) column is = is
+of_type Utf8 column is = is
+of_type Flag column is = is
+of_type Decimal128 column is = is
+of_type Date column is = is
+of_type (Dictionary encoding) column is = texts_by encoding column.layout is
 
-answered_copied : (number : ℕ) (types : List DataType) → answered_from number types ≡ map copied_type types
-answered_copied number [] = refl
-answered_copied number (data_type ∷ types) = rw (one data_type, answered_copied (number + 1) types) refl
+pub typed_dressable : (fields : List Field) (columns : List ColumnAt) → AreOfTypes fields columns → AreDressable fields columns
+typed_dressable [] [] typed = tt
+typed_dressable (field ∷ fields) (column ∷ columns) typed = (of_type field.data_type column typed.0, typed_dressable fields columns typed.1)
+typed_dressable [] (column ∷ columns) typed = absurd typed
+typed_dressable (field ∷ fields) [] typed = absurd typed
+
+-- a column that lies as one of a type can be answered as one of that type
+one_dressable : (number : ℕ) (t lies own : DataType) (column : ColumnAt) → own ≡ answered_at number t → LiesAs t lies → IsOfType lies column.layout → IsDressable own column
+one_dressable number t lies own column is behind typed = subst (λ (o : DataType). IsDressable o column) (sym is) (by t behind)
   where
-    one : (t : DataType) → answered_at number t ≡ copied_type t
-    one (Integer integer) = refl
-    one Utf8 = refl
-    one Flag = refl
-    one Decimal128 = refl
-    one Date = refl
-    one (Dictionary encoding) = refl
+    same : (u : DataType) → lies ≡ u → IsOfType u column.layout
+    same u e = subst (λ (o : DataType). IsOfType o column.layout) e typed
+
+    by : (t : DataType) → LiesAs t lies → IsDressable (answered_at number t) column
+    by (Integer integer) (inl e) = same (Integer integer) e
+    by (Integer integer) (inr e) = same (Integer integer) e
+    by Utf8 (inl e) = same Utf8 e
+    by Utf8 (inr e) = same Utf8 e
+    by Flag (inl e) = same Flag e
+    by Flag (inr e) = same Flag e
+    by Decimal128 (inl e) = same Decimal128 e
+    by Decimal128 (inr e) = same Decimal128 e
+    by Date (inl e) = same Date e
+    by Date (inr e) = same Date e
+    by (Dictionary encoding) (inl e) = texts_by encoding column.layout (same (Dictionary encoding) e)
+    by (Dictionary encoding) (inr e) = texts_as column.layout (same Utf8 e)
+
+one_numbered : (number : ℕ) (t own : DataType) → own ≡ answered_at number t → IsNumbered number own
+one_numbered number t own is = subst (IsNumbered number) (sym is) (by t)
+  where
+    by : (t : DataType) → IsNumbered number (answered_at number t)
+    by (Integer integer) = tt
+    by Utf8 = tt
+    by Flag = tt
+    by Decimal128 = tt
+    by Date = tt
+    by (Dictionary encoding) = (refl, refl)
+
+abbrev first : List DataType → DataType
+first [] = Utf8
+first (one ∷ more) = one
+
+abbrev rest : List DataType → List DataType
+rest [] = []
+rest (one ∷ more) = more
+
+all_numbered : (number : ℕ) (fields : List Field) (types : List DataType) → map (λ (field : Field). field.data_type) fields ≡ answered_from number types → AreNumbered number fields
+all_numbered number [] types are = tt
+all_numbered number (field ∷ fields) [] are = absurd (omega (arith, ap length are))
+all_numbered number (field ∷ fields) (t ∷ types) are = (one_numbered number t field.data_type (ap first are), all_numbered (number + 1) fields types (ap rest are))
+
+all_dressable : (number : ℕ) (fields : List Field) (types lies : List DataType) (columns : List ColumnAt) → map (λ (field : Field). field.data_type) fields ≡ answered_from number types
+    → AllZip LiesAs types lies → AreOf lies columns → AreDressable fields columns
+all_dressable number [] [] [] [] are lie typed = tt
+all_dressable number (field ∷ fields) (t ∷ types) (l ∷ lies) (column ∷ columns) are lie typed = (
+  one_dressable number t l field.data_type column (ap first are) lie.0 typed.0,
+  all_dressable (number + 1) fields types lies columns (ap rest are) lie.1 typed.1,
+)
+all_dressable number [] [] [] (column ∷ columns) are lie typed = absurd typed
+all_dressable number [] [] (l ∷ lies) columns are lie typed = absurd lie
+all_dressable number [] (t ∷ types) lies columns are lie typed = absurd (omega (arith, ap length are))
+all_dressable number (field ∷ fields) [] lies columns are lie typed = absurd (omega (arith, ap length are))
+all_dressable number (field ∷ fields) (t ∷ types) [] columns are lie typed = absurd lie
+all_dressable number (field ∷ fields) (t ∷ types) (l ∷ lies) [] are lie typed = absurd typed
 
 answered : (schema : Schema) (types : List DataType) (columns : List ColumnAt) → LieBehind schema.fields types → AreOf types columns → AnsweredAs schema columns
 answered schema types columns behind typed = record {
-  fields = map field_of types;
-  typed = typed_fields types columns typed;
-  same = behind.answered ∙ answered_copied 0 behind.types ∙ sym (all_alike behind.types types behind.lie) ∙ copied_fields types;
+  numbered = all_numbered 0 schema.fields behind.types behind.answered;
+  dressable = all_dressable 0 schema.fields behind.types types columns behind.answered behind.lie typed;
 }
 
 -- ---- what a scan gives

@@ -1,22 +1,27 @@
 -- How many bytes a message of one row has.
 use Rattle.std.proofs.Common.{◌≡◌, ◌≤◌, ◌==◌, ℕ, ◌+◌, ◌-◌, ◌*◌, ◌%◌, ◌^◌, None, Bool, true, false, if◌then◌else◌, List, [], ◌∷◌, ◌++◌, length, map, take, drop, get_or, refl, ap, subst, ◌∙◌, arith, rules, length-append}
 use Rattle.std.specs.Int.{div_ceil}
-use Rattle.std.specs.List.{flat_map, list_any, range_with_len, AllByRecursion}
+use Rattle.std.specs.List.{list_any, range_with_len, AllByRecursion}
 use Rattle.std.proofs.lemmas.List.{length-take, length-map}
 use Rattle.std.proofs.lemmas.List.FromFn.{length-map-range_with_len}
 use Rattle.scan_base.specs.declared.value.Value.{Value}
 use Rattle.scan_base.specs.declared.value.Value.TheVariants as value
+use Rattle.arrow_schema.specs.declared.data_type.DataType.{DataType}
+use Rattle.arrow_schema.specs.declared.data_type.DataType.TheVariants.{Integer, Utf8, Bool as Flags, Decimal128, Date, Dictionary}
 use Rattle.arrow_schema.specs.declared.data_type.IntegerType.{IntegerType}
 use Rattle.arrow_schema.specs.declared.data_type.IntegerType.TheVariants.{Int8, Int16, Int32, Int64, UInt8, UInt16, UInt32, UInt64}
+use Rattle.arrow_schema.specs.declared.schema.Field.{Field}
+use Rattle.arrow_schema.specs.declared.schema.Schema.{Schema}
 use Rattle.scan_base.specs.Limits.{most_columns}
 use Rattle.arrays.specs.declared.layout.Layout.{Layout}
 use Rattle.arrays.specs.declared.layout.Layout.TheVariants as layout
 use Rattle.arrays.specs.Batch.{BatchAt, BatchSlicesKeepRows, row_of, rows_of, cut_batch}
-use Rattle.arrays.specs.Column.{ColumnAt, slot_of, cut}
+use Rattle.arrays.specs.Column.{ColumnAt, slot_of, values_of, cut}
+use Rattle.arrays.specs.Firsts.{firsts}
 use Rattle.arrays.specs.Nulls.{null_count, valid_slots}
 use Rattle.arrays.specs.Number.{byte_width}
-use Rattle.array_buffers.specs.Written.{packed_bits, validity_written}
-use Rattle.plain_batches.specs.Plain.{plain_by, plain_written, plain_length}
+use Rattle.array_buffers.specs.Written.{packed_bits, validity_written, values_written, written_by, buffers_written}
+use Rattle.dressed_batches.specs.Lengths.{with_zeros, texts_length, column_length, dressed_length}
 use Rattle.arrays.specs.Written.{elements, text_bytes, texts_joined, offsets_from}
 use Rattle.arrays.proofs.NullSlots.{length-valid_slots}
 use Rattle.flight_proto.specs.FlightData.{data_bytes, body_head, data_head}
@@ -26,7 +31,6 @@ use Rattle.proto_wire.specs.Writing.{varint, spelling, chunk_head}
 use Rattle.ipc_batch.specs.Written.{body_of, most_header_bytes}
 use Rattle.ipc_batch.proofs.WriterLoops.{buffer_more}
 use Rattle.flatbuf.specs.Block.{padded}
-use Rattle.std.proofs.lemmas.Grind.{flat_map-append}
 use Rattle.scan_base.specs.Limits.{most_message_bytes, most_text_bytes}
 use Rattle.table_versions.specs.Table.{is_long_text}
 use Rattle.table_versions.proofs.Storable.{first_false, second_false}
@@ -96,7 +100,7 @@ texts_written v h =
 abbrev column_of : Layout → ℕ → ℕ → ColumnAt
 column_of known first len = record { layout = known; first = first; len = len }
 
-values_by : (known : Layout) (first : ℕ) → is_long_text (slot_of (column_of known first 1) 0) ≡ false → length (body_of (plain_by known (column_of known first 1))) ≤ 65560
+values_by : (known : Layout) (first : ℕ) → is_long_text (slot_of (column_of known first 1) 0) ≡ false → length (body_of (written_by known (column_of known first 1))) ≤ 65560
 values_by (layout.Integers cells) first h =
     omega (arith, one_buffer (elements (byte_width cells.integer) cells.values first 1), short_elements (byte_width cells.integer) cells.values first, short_width cells.integer)
 values_by (layout.Decimals cells) first h =
@@ -105,31 +109,58 @@ values_by (layout.Bools cells) first h =
     let bits = map (λ (j : ℕ). get_or cells.values j false) (range_with_len first 1) in
     omega (arith, one_buffer (packed_bits bits), few_bits bits (length-map-range_with_len (λ (j : ℕ). get_or cells.values j false) first 1))
 values_by (layout.Texts cells) first h = texts_written (slot_of (column_of (layout.Texts cells) first 1) 0) h
-values_by (layout.Indices cells) first h = texts_written (slot_of (column_of (layout.Indices cells) first 1) 0) h
+values_by (layout.Indices cells) first h =
+    omega (arith, one_buffer (elements (byte_width cells.index) cells.values first 1), short_elements (byte_width cells.index) cells.values first, short_width cells.index)
 
+-- a column that is written as it is
 one_slot : (known : Layout) (first len : ℕ) → len ≡ 1 → is_long_text (slot_of (column_of known first len) 0) ≡ false
-    → length (body_of (plain_written (column_of known first len))) ≤ most_cell_bytes
+    → length (body_of (buffers_written (column_of known first len))) ≤ most_cell_bytes
+unfolding values_written
 one_slot known first len one h =
     let column = column_of known first 1 in
-    let all : length (body_of (plain_written column)) ≤ length (validity_written column) + 7 + length (body_of (plain_by known column)) =
-    buffer_first (validity_written column) (plain_by known column) in
+    let all : length (body_of (validity_written column ∷ written_by known column)) ≤ length (validity_written column) + 7 + length (body_of (written_by known column)) =
+    buffer_first (validity_written column) (written_by known column) in
     rw one (omega (arith, all, short_validity column refl, values_by known first h))
+
+-- the dictionary of one slot
+none_short : texts_length [] ≤ 65552
+none_short = omega arith
+
+one_short : (bytes : List ℕ) → length bytes ≤ most_text_bytes → texts_length (bytes ∷ []) ≤ 65552
+one_short bytes short = omega (arith, length-append bytes [], short)
+
+one_text : (v : Value) → is_long_text v ≡ false → texts_length (firsts (v ∷ [])) ≤ 65552
+one_text value.Null h = none_short
+one_text (value.Bool flag) h = none_short
+one_text (value.Int number) h = none_short
+one_text (value.Text bytes) h = one_short bytes (short_text (value.Text bytes) h)
+
+coded_slot : (known : Layout) (first len : ℕ) → len ≡ 1 → is_long_text (slot_of (column_of known first len) 0) ≡ false
+    → texts_length (firsts (values_of (column_of known first len)))
+    + (with_zeros (length (validity_written (column_of known first len))) + with_zeros (4 * len)) ≤ most_cell_bytes
+coded_slot known first len one h =
+    let column = column_of known first 1 in
+    let texts : texts_length (firsts (values_of column)) ≤ 65552 = one_text (slot_of column 0) h in
+    rw one (omega (arith, texts, short_validity column refl))
+
+one_column : (t : DataType) (column : ColumnAt) → column.len ≡ 1 → is_long_text (slot_of column 0) ≡ false → column_length t column ≤ most_cell_bytes
+one_column (Integer integer) column one h = one_slot column.layout column.first column.len one h
+one_column Utf8 column one h = one_slot column.layout column.first column.len one h
+one_column Flags column one h = one_slot column.layout column.first column.len one h
+one_column Decimal128 column one h = one_slot column.layout column.first column.len one h
+one_column Date column one h = one_slot column.layout column.first column.len one h
+one_column (Dictionary encoding) column one h = coded_slot column.layout column.first column.len one h
 
 -- ---- a batch of one row
 
-columns_behind : (column : ColumnAt) (columns : List ColumnAt) →
-    length (body_of (flat_map plain_written (column ∷ columns))) ≡ length (body_of (plain_written column)) + length (body_of (flat_map plain_written columns))
-columns_behind column columns =
-    ap length (flat_map-append padded (plain_written column) (flat_map plain_written columns))
-    ∙ length-append (body_of (plain_written column)) (body_of (flat_map plain_written columns))
-
-one_row : (columns : List ColumnAt) → AllByRecursion (λ (column : ColumnAt). column.len ≡ 1) columns → list_any is_long_text (row_of columns 0) ≡ false
-    → length (body_of (flat_map plain_written columns)) ≤ most_cell_bytes * length columns
-one_row [] long h = omega arith
-one_row (column ∷ columns) long h =
-    let first = one_slot column.layout column.first column.len long.0 (first_false (is_long_text (slot_of column 0)) (list_any is_long_text (row_of columns 0)) h) in
-    let rest = one_row columns long.1 (second_false (is_long_text (slot_of column 0)) (list_any is_long_text (row_of columns 0)) h) in
-    omega (arith, first, rest, columns_behind column columns)
+one_row : (fields : List Field) (columns : List ColumnAt) → AllByRecursion (λ (column : ColumnAt). column.len ≡ 1) columns → list_any is_long_text (row_of columns 0) ≡ false
+    → dressed_length fields columns ≤ most_cell_bytes * length columns
+one_row [] columns long h = omega arith
+one_row (field ∷ fields) [] long h = omega arith
+one_row (field ∷ fields) (column ∷ columns) long h =
+    let first = one_column field.data_type column long.0 (first_false (is_long_text (slot_of column 0)) (list_any is_long_text (row_of columns 0)) h) in
+    let rest = one_row fields columns long.1 (second_false (is_long_text (slot_of column 0)) (list_any is_long_text (row_of columns 0)) h) in
+    omega (arith, first, rest)
 
 -- a slice of one row of a batch
 module _ (from to : ℕ) (one : to - from ≡ 1) where
@@ -144,14 +175,14 @@ module _ (from to : ℕ) (one : to - from ≡ 1) where
       subst (λ (n : ℕ). list_any (list_any is_long_text) (map (row_of columns) (range_with_len 0 n)) ≡ false) one (ap (list_any (list_any is_long_text)) is ∙ short) in
       first_false (list_any is_long_text (row_of columns 0)) false all
 
-pub one_row_fits : BatchSlicesKeepRows → (batch : BatchAt) (from to : ℕ) → to - from ≡ 1 → to ≤ batch.rows → length batch.columns ≤ most_columns
-    → list_any (list_any is_long_text) (rows_of batch) ≡ false → plain_length (cut_batch batch from to) ≤ most_body_bytes
-one_row_fits keep batch from to one within few short =
+pub one_row_fits : BatchSlicesKeepRows → (schema : Schema) (batch : BatchAt) (from to : ℕ) → to - from ≡ 1 → to ≤ batch.rows → length batch.columns ≤ most_columns
+    → list_any (list_any is_long_text) (rows_of batch) ≡ false → dressed_length schema.fields (cut_batch batch from to).columns ≤ most_body_bytes
+one_row_fits keep schema batch from to one within few short =
     let columns = map (λ (column : ColumnAt). cut column from to) batch.columns in
     let long = list_any is_long_text in
     let none = none-take long (to - from) (drop from (rows_of batch)) (none-drop long from (rows_of batch) short) in
     let row = first_short from to one columns (take (to - from) (drop from (rows_of batch))) (keep batch from to (omega (arith, one)) within) none in
-    let fits : plain_length (cut_batch batch from to) ≤ most_cell_bytes * length columns = one_row columns (cut_long from to one batch.columns) row in
+    let fits : dressed_length schema.fields columns ≤ most_cell_bytes * length columns = one_row schema.fields columns (cut_long from to one batch.columns) row in
     let wide : length columns ≡ length batch.columns = length-map batch.columns (λ (column : ColumnAt). cut column from to) in
     omega (arith, few, fits, wide)
 

@@ -5,18 +5,18 @@ use Rattle.scan_base.specs.declared.fault.Fault.{Fault}
 use Rattle.scan_base.specs.Limits.{most_columns}
 use Rattle.arrays.specs.Batch.{BatchAt, BatchSlicesKeepRows, rows_of, cut_batch}
 use Rattle.table_versions.specs.Table.{Row, is_long_text}
-use Rattle.plain_batches.specs.Plain.{plain_length}
-use Rattle.flight_info.specs.Payloads.{Payload}
-use Rattle.fetch_stream.specs.Streams.{most_body_bytes}
+use Rattle.arrow_schema.specs.declared.schema.Schema.{Schema}
+use Rattle.dressed_batches.specs.Lengths.{dressed_length}
+use Rattle.fetch_stream.specs.Streams.{Parcel, most_body_bytes}
 use Rattle.fetch_stream.specs.declared.cutter.Cutter.{Cutter}
 use Rattle.fetch_stream.specs.declared.source.Source.{Source}
 use Rattle.fetch_stream.specs.inside.Ahead.{IsCutter, IsGoing, AnsweredAs, schema_behind, left_behind, rows_taken, rows_cut, uncut}
 use Rattle.fetch_stream.specs.inside.Cut.{Cuts, ReachesFar}
 use Rattle.fetch_stream.specs.inside.Given.{GivesNext, GivesNoneYet, GivesBatch, MayRefuseSource}
 use Rattle.fetch_stream.specs.inside.Steps.{Ends, Fails, HasNext, SaysNext, Waits, rows_left}
+use Rattle.fetch_stream.specs.inside.Written.{SaysRows}
 use Rattle.fetch_stream.proofs.Parts.{slice_none, slice_whole, cuts_join, length_cut}
 use Rattle.fetch_stream.proofs.Sizes.{one_row_fits}
-use Rattle.fetch_stream.proofs.Streaming.{cut_answered}
 
 -- nothing of a batch is left that was given whole
 pub all_cut : BatchSlicesKeepRows → (cutter : Cutter) → IsCutter cutter → cutter.batch.rows ≤ cutter.at → uncut cutter ≡ []
@@ -38,11 +38,11 @@ new_cutter batch short = record { within = omega arith; some = omega arith; few 
 -- ---- how many rows are cut
 
 -- one row is always cut
-pub one_fits : BatchSlicesKeepRows → (cutter old : Cutter) → cutter ≡ old → IsCutter old → length old.batch.columns ≤ most_columns → (rows : ℕ) → old.at + rows ≤ old.batch.rows → rows ≡ 1
-    → plain_length (cut_batch cutter.batch cutter.at (cutter.at + rows)) ≤ most_body_bytes
-one_fits keep cutter old same is few rows within one =
-    subst (λ (c : Cutter). plain_length (cut_batch c.batch c.at (c.at + rows)) ≤ most_body_bytes) (sym same)
-    (one_row_fits keep old.batch old.at (old.at + rows) (omega (arith, one)) within few is.short)
+pub one_fits : BatchSlicesKeepRows → (schema : Schema) (cutter old : Cutter) → cutter ≡ old → IsCutter old → length old.batch.columns ≤ most_columns → (rows : ℕ) → old.at + rows ≤ old.batch.rows → rows ≡ 1
+    → dressed_length schema.fields (cut_batch cutter.batch cutter.at (cutter.at + rows)).columns ≤ most_body_bytes
+one_fits keep schema cutter old same is few rows within one =
+    subst (λ (c : Cutter). dressed_length schema.fields (cut_batch c.batch c.at (c.at + rows)).columns ≤ most_body_bytes) (sym same)
+    (one_row_fits keep schema old.batch old.at (old.at + rows) (omega (arith, one)) within few is.short)
 
 pub more_than_one : (rows : ℕ) → 0 < rows → (rows ≡ 1 → ⊥) → 0 < rows / 2
 more_than_one zero some not = omega (arith, some)
@@ -50,15 +50,15 @@ more_than_one (suc zero) some not = absurd (not refl)
 more_than_one (suc (suc n)) some not = omega arith
 
 -- half of too many reach as far as they may
-pub half_reaches : (cutter old : Cutter) → cutter ≡ old → (rows : ℕ) → 0 < rows → old.at + rows ≤ old.batch.rows → most_body_bytes < plain_length (cut_batch cutter.batch cutter.at (cutter.at + rows))
-    → ReachesFar old (rows / 2)
-half_reaches cutter old same rows some within over = inr (
+pub half_reaches : (schema : Schema) (cutter old : Cutter) → cutter ≡ old → (rows : ℕ) → 0 < rows → old.at + rows ≤ old.batch.rows
+    → most_body_bytes < dressed_length schema.fields (cut_batch cutter.batch cutter.at (cutter.at + rows)).columns → ReachesFar schema old (rows / 2)
+half_reaches schema cutter old same rows some within over = inr (
   rows,
   record {
     more = omega (arith, some);
     near = omega arith;
     within = within;
-    long = subst (λ (c : Cutter). most_body_bytes < plain_length (cut_batch c.batch c.at (c.at + rows))) same over;
+    long = subst (λ (c : Cutter). most_body_bytes < dressed_length schema.fields (cut_batch c.batch c.at (c.at + rows)).columns) same over;
   },
 )
 
@@ -127,9 +127,9 @@ module _ (keep : BatchSlicesKeepRows) (cutter : Cutter) (source new : Source) (i
 
 -- ---- the next rows
 
-pub says_next : BatchSlicesKeepRows → (cutter : Cutter) (source : Source) (mid_cutter : Cutter) (mid : Source) (payload : Payload) (after : Cutter) → HasNext cutter source mid_cutter mid
-    → Cuts mid_cutter payload after → SaysNext cutter source payload after mid
-says_next keep cutter source mid_cutter mid payload after next cuts =
+pub says_next : BatchSlicesKeepRows → (cutter : Cutter) (source : Source) (mid_cutter : Cutter) (mid : Source) (parcel : Parcel) (after : Cutter) → HasNext cutter source mid_cutter mid
+    → Cuts (schema_behind mid) mid_cutter parcel after → SaysNext cutter source parcel after mid
+says_next keep cutter source mid_cutter mid parcel after next cuts =
     let going = next.keeps.going in
     let batch = mid_cutter.batch in
     let at = mid_cutter.at in
@@ -142,9 +142,8 @@ says_next keep cutter source mid_cutter mid payload after next cuts =
     let rest : uncut after ≡ rows_of (cut_batch batch end batch.rows) = ap (λ (b : BatchAt). rows_of (cut_batch b end b.rows)) cuts.batch in
     let join : rows_of cut ++ uncut after ≡ uncut mid_cutter = ap (λ (rows : List Row). rows_of cut ++ rows) rest ∙ cuts_join keep batch at end batch.rows (omega (arith, cuts.forth)) there (omega arith) in
     record {
-      batch = cut;
-      said = cuts.said;
-      columns = subst (λ schema. AnsweredAs schema cut.columns) next.keeps.schema (cut_answered (schema_behind mid) batch.columns at end answers);
+      given = rows_of cut;
+      said = subst (λ schema. SaysRows parcel schema (rows_of cut)) next.keeps.schema cuts.said;
       rows = sym (append_assoc (rows_of cut) (uncut after) (left_behind mid)) ∙ ap (λ (rows : List Row). rows ++ left_behind mid) join ∙ next.rows;
       counted = omega (arith, next.same, going.counted, taken, many, there, cuts.forth, length_cut batch at end);
       some = omega (arith, cuts.forth, length_cut batch at end);

@@ -1,13 +1,18 @@
 -- Payloads that are written say what they are written for.
-use Rattle.std.proofs.Common.{◌≡◌, ◌≤◌, ◌^◌, ℕ, List, [], ◌∷◌, ◌++◌, length, map, Some, None, Result, Ok, IfOk, refl, sym, ap, subst, ◌∙◌, append-nil, arith}
-use Rattle.std.proofs.lemmas.List.{map-append, length-map}
+use Rattle.std.proofs.Common.{◌≡◌, ◌≤◌, ◌<◌, ◌^◌, ◌+◌, ℕ, zero, suc, All, List, [], ◌∷◌, ◌++◌, length, map, get_or, Some, None, Result, Ok, refl, sym, ap, subst, ◌∙◌, append_assoc, append-nil, arith}
+use Rattle.std.specs.List.{flat_map, AllZip}
+use Rattle.std.proofs.lemmas.List.{map-append}
+use Rattle.std.proofs.lemmas.List.Elements.{All-nil, All-cons, All-push}
+use Rattle.std.proofs.lemmas.Grind.{flat_map-append}
 use Rattle.scan_base.specs.declared.fault.Fault.{Fault}
+use Rattle.scan_base.specs.Limits.{most_columns}
 use Rattle.scan_base.specs.Reading.{◌>>=◌}
 use Rattle.scan_base.specs.Lists.{each}
+use Rattle.arrow_schema.specs.declared.data_type.DataType.{DataType}
+use Rattle.arrow_schema.specs.declared.data_type.DataType.TheVariants.{Integer, Utf8, Bool as Flags, Decimal128, Date, Dictionary}
 use Rattle.arrow_schema.specs.declared.header.HeaderKind.TheVariants as header
 use Rattle.arrow_schema.specs.declared.schema.Field.{Field}
 use Rattle.arrow_schema.specs.declared.schema.Schema.{Schema}
-use Rattle.arrow_schema.specs.Answer.{copied_type}
 use Rattle.arrow_schema.specs.Header.{schema_in, schema_message_of, schema_of}
 use Rattle.arrow_schema.specs.Schema.{IsSchema}
 use Rattle.arrow_schema.specs.Written.{schema_part, schema_bytes}
@@ -15,7 +20,6 @@ use Rattle.arrow_schema.proofs.Messages.{messages_read}
 use Rattle.arrow_schema.proofs.Again.{whole_schema, short_schema, schemas_read}
 use Rattle.arrays.specs.Column.{ColumnAt, cut}
 use Rattle.arrays.specs.Batch.{BatchAt, rows_of}
-use Rattle.arrays.specs.Typed.{AreOfTypes}
 use Rattle.flight_proto.specs.FlightData.{DataSaid, data_of, data_bytes, data_head}
 use Rattle.flight_proto.specs.Laws.{FitsMemory}
 use Rattle.flight_proto.proofs.ReadsBack.{data_back}
@@ -23,15 +27,20 @@ use Rattle.flight_proto.proofs.Heads.{bodies_follow_heads}
 use Rattle.ipc_batch.specs.State.{Known}
 use Rattle.ipc_batch.specs.Parts.{body_claimed}
 use Rattle.ipc_batch.specs.Said.{Sent, News, Rows, schema_sent, news_of, Follows, Says}
-use Rattle.ipc_batch.specs.Written.{SaysBatch}
+use Rattle.ipc_batch.specs.Seen.{written_seen}
+use Rattle.ipc_batch.specs.Written.{body_length, most_header_bytes, SaysBatch}
+use Rattle.ipc_batch.specs.Dressed.{Dressing, IsDressed, AreDressed}
+use Rattle.ipc_batch.proofs.Dressing.{dressed_say}
 use Rattle.ipc_batch.proofs.Lengths.{both}
 use Rattle.ipc_batch.proofs.Messages.{joined}
+use Rattle.dressed_batches.specs.declared.dressed.DressedBatch.{DressedBatch}
+use Rattle.dressed_batches.specs.Dress.{IsDressable, AreDressable, IsDressedBatch}
+use Rattle.dressed_batches.specs.Lengths.{bodies_length}
 use Rattle.flight_info.specs.Payloads.{Payload, message_in, PayloadsSay}
-use Rattle.scan_base.specs.Limits.{most_columns}
-use Rattle.table_versions.proofs.Storable.{length-typed}
-use Rattle.fetch_stream.specs.Streams.{most_body_bytes}
+use Rattle.fetch_stream.specs.Fetches.{SayDressed}
+use Rattle.fetch_stream.specs.Streams.{Parcel, HasShortBody, most_body_bytes}
 use Rattle.fetch_stream.specs.inside.Ahead.{AnsweredAs}
-use Rattle.fetch_stream.specs.inside.Written.{Carries, SaysSchema, SaysWritten, SaysBatchBehind}
+use Rattle.fetch_stream.specs.inside.Written.{Carries, CarryDressed, HasShort, IsShort, SaysRows, SaysSchema, SaysWritten}
 
 -- ---- one payload
 
@@ -61,14 +70,20 @@ schema_said payload schema is e short =
       said = rw (m.found, m.kind_again, told, m.body_length_again) refl;
     }
 
+-- the payload of a message that is written
+pub message_carried : (payload header body : List ℕ) → payload ≡ data_head header (length body) ++ body → FitsMemory header → length body ≤ most_body_bytes
+    → Carries payload (record { header = header; body = body })
+message_carried payload header body e long short =
+    carried_back payload header body (e ∙ sym (bodies_follow_heads (record { data_header = header; data_body = body }))) long (omega (arith, short))
+
 -- the payload of a batch
 pub batch_said : (payload header body : List ℕ) (batch : BatchAt) → payload ≡ data_head header (length body) ++ body → FitsMemory header → length body ≤ most_body_bytes
-    → SaysBatch (record { header = header; body = body }) batch → SaysWritten payload batch
-batch_said payload header body batch e long short said = record {
+    → length body ≡ body_length batch → SaysBatch (record { header = header; body = body }) batch → SaysWritten payload batch
+batch_said payload header body batch e long short sized said = record {
   message = record { header = header; body = body };
-  carries = carried_back payload header body (e ∙ sym (bodies_follow_heads (record { data_header = header; data_body = body }))) long (omega (arith, short));
-  short = short;
+  carries = message_carried payload header body e long short;
   said = said;
+  sized = sized;
 }
 
 -- ---- payloads
@@ -76,15 +91,18 @@ batch_said payload header body batch e long short said = record {
 each_step : {A B : Type 0} (read : A → Result B Fault) (x : A) (xs : List A) (y : B) (ys : List B) → read x ≡ Ok y → each read xs ≡ Ok ys → each read (x ∷ xs) ≡ Ok (y ∷ ys)
 each_step read x xs y ys one all = rw (one, all) refl
 
-each_more : {A B : Type 0} (read : A → Result B Fault) (xs : List A) (x : A) (ys : List B) (y : B) → each read xs ≡ Ok ys → read x ≡ Ok y → each read (xs ++ x ∷ []) ≡ Ok (ys ++ y ∷ [])
-each_more {B = B} read [] x ys y all one =
+each_more : {A B : Type 0} (read : A → Result B Fault) (xs more : List A) (ys others : List B) → each read xs ≡ Ok ys → each read more ≡ Ok others → each read (xs ++ more) ≡ Ok (ys ++ others)
+each_more {B = B} read [] more ys others all behind =
     let same : [] ≡ ys = cc in
-    rw (one, ← same) refl
-each_more {B = B} read (a ∷ xs) x ys y all one =
+    subst (λ (l : List B). each read more ≡ good_list (l ++ others)) same behind
+  where
+    good_list : List B → Result (List B) Fault
+    good_list bs = Ok bs
+each_more {B = B} read (a ∷ xs) more ys others all behind =
     let first = both (read a) (λ (b : B). (each read xs >>= λ bs. Ok (b ∷ bs))) ys all in
     let rest = both (each read xs) (λ (bs : List B). good_list (first.0 ∷ bs)) ys first.2 in
     let same : first.0 ∷ rest.0 ≡ ys = let last = rest.2 in cc in
-    subst (λ (l : List B). each read ((a ∷ xs) ++ x ∷ []) ≡ good_list (l ++ y ∷ [])) same (each_step read a (xs ++ x ∷ []) first.0 (rest.0 ++ y ∷ []) first.1 (each_more read xs x rest.0 y rest.1 one))
+    subst (λ (l : List B). each read ((a ∷ xs) ++ more) ≡ good_list (l ++ others)) same (each_step read a (xs ++ more) first.0 (rest.0 ++ others) first.1 (each_more read xs more rest.0 others rest.1 behind))
   where
     good_list : List B → Result (List B) Fault
     good_list bs = Ok bs
@@ -95,70 +113,182 @@ record Carry (payloads : List Payload) (messages : List Sent) : Type 0 where
   read : each data_of payloads ≡ Ok all
   same : map message_in all ≡ messages
 
--- one payload more
-carry_more : (payloads : List Payload) (payload : Payload) (messages : List Sent) (message : Sent) → Carry payloads messages → Carries payload message
-    → Carry (payloads ++ payload ∷ []) (messages ++ message ∷ [])
-carry_more payloads payload messages message e c = record {
-  all = e.all ++ c.carried ∷ [];
-  read = each_more data_of payloads payload e.all c.carried e.read c.read;
-  same = map-append message_in e.all (c.carried ∷ []) ∙ rw (e.same, c.same) refl;
+carry_none : Carry [] []
+carry_none = record { all = []; read = refl; same = refl }
+
+-- payloads before others
+carry_more : (payloads more : List Payload) (messages others : List Sent) → Carry payloads messages → Carry more others → Carry (payloads ++ more) (messages ++ others)
+carry_more payloads more messages others e c = record {
+  all = e.all ++ c.all;
+  read = each_more data_of payloads more e.all c.all e.read c.read;
+  same = map-append message_in e.all c.all ∙ rw (e.same, c.same) refl;
 }
+
+carry_one : (payload : Payload) (message : Sent) → Carries payload message → Carry (payload ∷ []) (message ∷ [])
+carry_one payload message c = record {
+  all = c.carried ∷ [];
+  read = each_step data_of payload [] c.carried [] c.read refl;
+  same = ap (λ (sent : Sent). sent ∷ []) c.same;
+}
+
+-- each carries one message
+carry_each : (payloads : List Payload) (messages : List Sent) → AllZip Carries payloads messages → Carry payloads messages
+carry_each [] [] all = carry_none
+carry_each (payload ∷ payloads) (message ∷ messages) all =
+    carry_more (payload ∷ []) payloads (message ∷ []) messages (carry_one payload message all.0) (carry_each payloads messages all.1)
+carry_each [] (message ∷ messages) all = absurd all
+carry_each (payload ∷ payloads) [] all = absurd all
 
 -- payloads that carry messages say what those say
 say_carried : (payloads : List Payload) (messages : List Sent) (schema : Schema) (rows : Rows) → Carry payloads messages → Says messages schema rows → PayloadsSay payloads schema rows
 say_carried payloads messages schema rows e said = (e.all, e.read, subst (λ (sent : List Sent). Says sent schema rows) (sym e.same) said)
 
+-- no dressed batches
+none_dressed : (schema : Schema) → AreDressed schema [] []
+none_dressed schema = record { dressings = []; are = refl; all = All-nil (IsDressed schema); whole = refl }
+
+-- one more behind others
+more_dressed : (schema : Schema) (messages : List Sent) (rows : Rows) (d : Dressing) → AreDressed schema messages rows → IsDressed schema d
+    → AreDressed schema (messages ++ (d.dictionaries ++ d.batch ∷ [])) (rows ++ d.rows)
+more_dressed schema messages rows d are is =
+    let sent : Dressing → List Sent = λ x. x.dictionaries ++ x.batch ∷ [] in
+    let of : Dressing → Rows = λ x. x.rows in
+    record {
+      dressings = are.dressings ++ d ∷ [];
+      are = ap (λ (l : List Sent). l ++ sent d) are.are ∙ sym (flat_map-append sent are.dressings (d ∷ []) ∙ ap (λ (l : List Sent). flat_map sent are.dressings ++ l) (append-nil (sent d)));
+      all = All-push (IsDressed schema) are.dressings d are.all is;
+      whole = ap (λ (r : Rows). r ++ of d) are.whole ∙ sym (flat_map-append of are.dressings (d ∷ []) ∙ ap (λ (r : Rows). flat_map of are.dressings ++ r) (append-nil (of d)));
+    }
+
 -- a schema alone says no rows
-pub say_first : (payload : Payload) (schema : Schema) → SaysSchema payload schema → PayloadsSay (payload ∷ []) schema []
+pub say_first : (payload : Payload) (schema : Schema) → SaysSchema payload schema → SayDressed (payload ∷ []) schema []
+unfolding say_carried
 say_first payload schema s =
     let known : Known = record { schema = schema; dictionaries = [] } in
     let news : News = record { state = Some known; batch = None } in
-    say_carried (payload ∷ []) (s.message ∷ []) schema [] (carry_more [] payload [] s.message (record { all = []; read = refl; same = refl }) s.carries)
-    (known, refl, (news, [], s.said, refl, (refl, refl)))
+    let carry = carry_one payload s.message s.carries in
+    record {
+      said = say_carried (payload ∷ []) (s.message ∷ []) schema [] carry (known, refl, (news, [], s.said, refl, (refl, refl)));
+      first = s.message;
+      behind = [];
+      messages = carry.same;
+      dressed = none_dressed schema;
+    }
 
--- one batch more says its rows behind the others
-pub say_more : (payloads : List Payload) (payload : Payload) (batch : BatchAt) (schema : Schema) (rows : Rows) → SaysBatchBehind payload batch → AnsweredAs schema batch.columns
-    → PayloadsSay payloads schema rows → PayloadsSay (payloads ++ payload ∷ []) schema (rows ++ rows_of batch)
-say_more payloads payload batch schema rows s ans said =
+-- rows more, in a batch behind its dictionaries
+pub say_more : (payloads : List Payload) (parcel : Parcel) (schema : Schema) (rows more : Rows) → SaysRows parcel schema more
+    → SayDressed payloads schema rows → SayDressed (payloads ++ parcel) schema (rows ++ more)
+unfolding say_carried
+say_more payloads parcel schema rows more s so =
+    let said = so.said in
     let sent = map message_in said.0 in
     let known = said.2.0 in
-    let same : map (λ (field : Field). field.data_type) known.schema.fields ≡ map (λ (field : Field). copied_type field.data_type) ans.fields = rw said.2.1 ans.same in
-    let read = s.said known ans.fields ans.typed same in
-    let news : News = record { state = Some known; batch = Some read.0 } in
-    let one : Follows (Some known) (s.message ∷ []) (Some known) (rows_of read.0) = (news, [], read.1, sym (append-nil (rows_of read.0)), (refl, refl)) in
-    let all : Follows None (sent ++ s.message ∷ []) (Some known) (rows ++ rows_of read.0) = joined None sent (s.message ∷ []) (Some known) (Some known) rows (rows_of read.0) said.2.2 one in
-    say_carried (payloads ++ payload ∷ []) (sent ++ s.message ∷ []) schema (rows ++ rows_of batch)
-    (carry_more payloads payload sent s.message (record { all = said.0; read = said.1; same = refl }) s.carries)
-    (known, said.2.1, subst (λ (more : Rows). Follows None (sent ++ s.message ∷ []) (Some known) (rows ++ more)) read.2 all)
+    let messages = s.dictionaries ++ s.batch ∷ [] in
+    let d : Dressing = record { dictionaries = s.dictionaries; batch = s.batch; rows = more } in
+    let one : AreDressed schema messages more = more_dressed schema [] [] d (none_dressed schema) s.dressed in
+    let read = dressed_say schema messages more one known said.2.1 in
+    let all : Follows None (sent ++ messages) (Some read.0) (rows ++ more) = joined None sent messages (Some known) (Some read.0) rows more said.2.2 read.2 in
+    let carry = carry_more payloads parcel sent messages (record { all = said.0; read = said.1; same = refl }) (carry_each parcel messages s.carry) in
+    record {
+      said = say_carried (payloads ++ parcel) (sent ++ messages) schema (rows ++ more) carry (read.0, read.1, all);
+      first = so.first;
+      behind = so.behind ++ messages;
+      messages = carry.same ∙ ap (λ (l : List Sent). l ++ messages) so.messages;
+      dressed = more_dressed schema so.behind rows d so.dressed s.dressed;
+    }
 
 -- what a payload carries is no longer than its message
-pub carried_short : (payload : Payload) (message : Sent) → Carries payload message → length message.body ≤ most_body_bytes → IfOk (data_of payload) (λ carried. length carried.data_body ≤ most_body_bytes)
+pub carried_short : (payload : Payload) (message : Sent) → Carries payload message → length message.body ≤ most_body_bytes → HasShortBody payload
 carried_short payload message c short =
     let same : c.carried.data_body ≡ message.body = ap (λ (sent : Sent). sent.body) c.same in
     rw c.read (rw same short)
 
+pub each_short : (payloads : List Payload) (messages : List Sent) → AllZip Carries payloads messages → All HasShort messages → All HasShortBody payloads
+each_short [] [] all short = All-nil HasShortBody
+each_short (payload ∷ payloads) (message ∷ messages) all short =
+    All-cons HasShortBody payload payloads (carried_short payload message all.0 (short 0 message (omega arith)))
+    (each_short payloads messages all.1 (λ k d low. short (suc k) d (omega (arith, low))))
+each_short [] (message ∷ messages) all short = absurd all
+each_short (payload ∷ payloads) [] all short = absurd all
+
 -- ---- columns that are answered
 
--- slices of columns are of their types
-cut_typed : (fields : List Field) (columns : List ColumnAt) (from to : ℕ) → AreOfTypes fields columns → AreOfTypes fields (map (λ column. cut column from to) columns)
-cut_typed [] [] from to typed = tt
-cut_typed (field ∷ fields) (column ∷ columns) from to typed = (typed.0, cut_typed fields columns from to typed.1)
-cut_typed [] (column ∷ columns) from to typed = absurd typed
-cut_typed (field ∷ fields) [] from to typed = absurd typed
+-- slices of columns can be dressed as they
+cut_dressable : (fields : List Field) (columns : List ColumnAt) (from to : ℕ) → AreDressable fields columns → AreDressable fields (map (λ column. cut column from to) columns)
+cut_dressable [] [] from to are = tt
+cut_dressable (field ∷ fields) (column ∷ columns) from to are = (by field.data_type are.0, cut_dressable fields columns from to are.1)
+  where
+    by : (t : DataType) → IsDressable t column → IsDressable t (cut column from to)
+    by (Integer integer) is = is
+    by Utf8 is = is
+    by Flags is = is
+    by Decimal128 is = is
+    by Date is = is
+    by (Dictionary encoding) is = is
+cut_dressable [] (column ∷ columns) from to are = absurd are
+cut_dressable (field ∷ fields) [] from to are = absurd are
 
 -- slices of columns are answered as the columns
 pub cut_answered : (schema : Schema) (columns : List ColumnAt) (from to : ℕ) → AnsweredAs schema columns → AnsweredAs schema (map (λ column. cut column from to) columns)
-cut_answered schema columns from to ans = record { fields = ans.fields; typed = cut_typed ans.fields columns from to ans.typed; same = ans.same }
+cut_answered schema columns from to ans = record { numbered = ans.numbered; dressable = cut_dressable schema.fields columns from to ans.dressable }
+
+-- there is one for each field
+dressable_many : (fields : List Field) (columns : List ColumnAt) → AreDressable fields columns → length columns ≡ length fields
+dressable_many [] [] are = refl
+dressable_many (field ∷ fields) (column ∷ columns) are = ap suc (dressable_many fields columns are.1)
+dressable_many [] (column ∷ columns) are = absurd are
+dressable_many (field ∷ fields) [] are = absurd are
 
 -- there are no more of them than a schema has
 pub few_answered : (schema : Schema) (columns : List ColumnAt) → IsSchema schema → AnsweredAs schema columns → length columns ≤ most_columns
-few_answered schema columns is ans =
-    let long : length (map (λ (field : Field). field.data_type) schema.fields) ≡ length (map (λ (field : Field). copied_type field.data_type) ans.fields) = ap length ans.same in
-    omega (
-      arith,
-      is.few,
-      long,
-      length-typed ans.fields columns ans.typed,
-      length-map schema.fields (λ (field : Field). field.data_type),
-      length-map ans.fields (λ (field : Field). copied_type field.data_type),
-    )
+few_answered schema columns is ans = omega (arith, is.few, dressable_many schema.fields columns ans.dressable)
+
+-- ---- parcels that are written
+
+-- the rows of a batch that was dressed
+pub dressed_rows : (parcel : Parcel) (schema : Schema) (batch : BatchAt) (made : DressedBatch) → IsDressedBatch schema batch made
+    → CarryDressed parcel (map written_seen made.dictionaries.items) made.batch → SaysRows parcel schema (rows_of batch)
+dressed_rows parcel schema batch made is carry = record {
+  dictionaries = map written_seen made.dictionaries.items;
+  batch = carry.message;
+  carry = carry.carry;
+  dressed = record { coded = is.coded; adds = is.adds carry.message carry.said };
+  short = carry.short;
+}
+
+-- the bodies of messages that together are short
+pub short_each : (messages : List Sent) (most : ℕ) → bodies_length messages ≤ most → (k : ℕ) (d : Sent) → k < length messages → length (get_or messages k d).body ≤ most
+short_each [] most short k d low = absurd (omega (arith, low))
+short_each (message ∷ messages) most short zero d low = omega (arith, short)
+short_each (message ∷ messages) most short (suc k) d low = short_each messages most (omega (arith, short)) k d (omega (arith, low))
+
+-- one more behind them
+zip_more : (payloads : List Payload) (messages : List Sent) (payload : Payload) (message : Sent) → AllZip Carries payloads messages → Carries payload message
+    → AllZip Carries (payloads ++ payload ∷ []) (messages ++ message ∷ [])
+zip_more [] [] payload message all is = (is, tt)
+zip_more (p ∷ payloads) (m ∷ messages) payload message all is = (all.0, zip_more payloads messages payload message all.1 is)
+zip_more [] (m ∷ messages) payload message all is = absurd all
+zip_more (p ∷ payloads) [] payload message all is = absurd all
+
+pub carry_last : (payloads : List Payload) (parcel : Parcel) (last : Payload) (dictionaries : List Sent) (batch : BatchAt) (room : ℕ) → parcel ≡ payloads ++ last ∷ []
+    → AllZip Carries payloads dictionaries → SaysWritten last batch → bodies_length dictionaries + room ≡ most_body_bytes → body_length batch ≤ room → CarryDressed parcel dictionaries batch
+carry_last payloads parcel last dictionaries batch room is all s sum short = record {
+  message = s.message;
+  carry = subst (λ (p : Parcel). AllZip Carries p (dictionaries ++ s.message ∷ [])) (sym is) (zip_more payloads dictionaries last s.message all s.carries);
+  said = s.said;
+  short = All-push HasShort dictionaries s.message (λ k d low. short_each dictionaries most_body_bytes (omega (arith, sum)) k d low) (omega (arith, s.sized, sum, short));
+}
+
+-- messages with short headers, that together have short bodies
+pub short_messages : (messages : List Sent) (room : ℕ) → All (λ (sent : Sent). length sent.header ≤ most_header_bytes) messages → bodies_length messages + room ≡ most_body_bytes → All IsShort messages
+short_messages messages room headers sum = λ k d low.
+    record { header = headers k d low; body = short_each messages most_body_bytes (omega (arith, sum)) k d low }
+
+-- ---- messages one by one
+
+-- one message more is carried, of which a loop has the others still before it
+pub carry_next : (payloads : List Payload) (all rest : List Sent) (payload : Payload) (message : Sent) → Carries payload message
+    → ((more : List Payload) → AllZip Carries more (message ∷ rest) → AllZip Carries (payloads ++ more) all)
+    → (more : List Payload) → AllZip Carries more rest → AllZip Carries ((payloads ++ payload ∷ []) ++ more) all
+carry_next payloads all rest payload message is so more behind =
+    subst (λ (p : List Payload). AllZip Carries p all) (sym (append_assoc payloads (payload ∷ []) more)) (so (payload ∷ more) (is, behind))

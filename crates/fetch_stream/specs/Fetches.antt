@@ -1,15 +1,18 @@
 -- What a fetch shows, and what its handle answers.
-use Rattle.std.specs.Prelude.{◌≡◌, ◌≤◌, ◌<◌, ◌⊎◌, ◌&&◌, ℕ, Bool, true, nat_le, List, [], length, take, Option, Some, None, Result, Ok}
+use Rattle.std.specs.Prelude.{◌≡◌, ◌≤◌, ◌<◌, ◌⊎◌, ◌&&◌, ℕ, Bool, true, nat_le, List, [], ◌∷◌, length, map, take, Option, Some, None, Result, Ok}
 use Rattle.scan_base.specs.declared.fault.Fault.{Fault}
 use Rattle.scan_base.specs.declared.fault.Fault.TheVariants.{BadTicket, VersionUnknown, ResultTooLarge, OutOfMemory}
 use Rattle.scan_base.specs.Reading.{◌>>=◌, demand}
 use Rattle.scan_base.specs.Limits.{most_query_bytes, most_answer_rows}
+use Rattle.arrow_schema.specs.declared.schema.Schema.{Schema}
 use Rattle.endpoint_split.specs.Handle.{HandleAt, Query, Tables}
-use Rattle.table_versions.specs.Table.{Table}
+use Rattle.ipc_batch.specs.Said.{Sent}
+use Rattle.ipc_batch.specs.Dressed.{AreDressed}
+use Rattle.table_versions.specs.Table.{Row, Table}
 use Rattle.table_versions.specs.Database.{Database}
 use Rattle.flight_info.specs.Infos.{handle_asked}
 use Rattle.flight_info.specs.Meant.{Meant}
-use Rattle.flight_info.specs.Payloads.{Payload, PayloadsSay}
+use Rattle.flight_info.specs.Payloads.{Payload, message_in, PayloadsSay}
 use Rattle.flight_info.specs.Tables.{tables_listed}
 
 -- the version of the catalog to which a handle is pinned
@@ -49,17 +52,26 @@ HandleMeans database (Tables number) answer = answer ≡ tables_listed database
 abbrev pub MeansNothing : Database → HandleAt → Type 0
 MeansNothing database handle = (answer : Table) → HandleMeans database handle answer → ⊥
 
+-- Payloads say a schema and rows. Behind the schema's message come record batches, and right before each of them a dictionary
+-- for each column that is one, in the columns' order: its id is the column's number, and its values the texts of that batch.
+pub record SayDressed (payloads : List Payload) (schema : Schema) (rows : List Row) : Type 0 where
+  pub said : PayloadsSay payloads schema rows
+  pub first : Sent
+  pub behind : List Sent
+  pub messages : map message_in said.0 ≡ first ∷ behind
+  pub dressed : AreDressed schema behind rows
+
 -- payloads say a beginning of an answer, or all of it, but no more rows than an answer may have
 abbrev pub SayBeginning : List Payload → Table → Type 0
 SayBeginning payloads answer = (n : ℕ) × (n ≤ most_answer_rows) × (n ≤ length answer.rows)
     × PayloadsSay payloads answer.schema (take n answer.rows)
 
--- payloads are all of an answer: what the handle means, its rows cut into batches freely
+-- payloads are all of an answer: what the handle means, its rows cut into batches freely, each behind its dictionaries
 pub record IsAnswer (database : Database) (handle : HandleAt) (payloads : List Payload) : Type 0 where
   pub answer : Table
   pub means : HandleMeans database handle answer
   pub few : length answer.rows ≤ most_answer_rows
-  pub said : PayloadsSay payloads answer.schema answer.rows
+  pub said : SayDressed payloads answer.schema answer.rows
 
 -- The answer to a handle at its version. Of an answer of too many rows it is a beginning, and where memory is refused there may
 -- be one. A handle that means nothing is a bad ticket.

@@ -1,12 +1,12 @@
 -- A stream that falls into morsels: each is a stream of its own, and in order they are the whole.
-use Rattle.std.specs.Prelude.{◌≡◌, ℕ, Bool, true, false, List, [], get_or, None, Result, Ok, Err}
+use Rattle.std.specs.Prelude.{◌≡◌, ℕ, Bool, true, false, List, [], ◌∷◌, get_or, None, Result, Ok, Err}
 use Rattle.std.specs.List.{flat_map}
 use Rattle.scan_base.specs.declared.fault.Fault.{Fault}
 use Rattle.scan_base.specs.declared.fault.Fault.TheVariants.{OutOfMemory}
 use Rattle.arrow_schema.specs.declared.schema.Schema.{Schema}
 use Rattle.table_versions.specs.Table.{Row}
 use Rattle.flight_info.specs.Payloads.{Payload}
-use Rattle.fetch_stream.specs.Streams.{StreamAt, GivesPayload}
+use Rattle.fetch_stream.specs.Streams.{StreamAt, GivesParcel}
 
 -- the schema of an answer, and whether a payload has said it; and its rows, morsel by morsel
 pub record MorselsAt : Type 0 where
@@ -38,5 +38,5 @@ morsel_stream morsels number = behind_schema morsels.schema (get_or morsels.rows
 
 -- the payload of a schema, whatever rows come behind it, unless memory is refused
 abbrev pub GivesSchema : Schema → Result Payload Fault → Type 0
-GivesSchema schema (Ok payload) = (rows : List Row) → GivesPayload (before_schema schema rows) payload (behind_schema schema rows)
+GivesSchema schema (Ok payload) = (rows : List Row) → GivesParcel (before_schema schema rows) (payload ∷ []) (behind_schema schema rows)
 GivesSchema schema (Err fault) = fault ≡ OutOfMemory

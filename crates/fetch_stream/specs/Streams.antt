@@ -1,8 +1,9 @@
--- A stream of an answer's payloads: what is still to come, and what its calls give.
-use Rattle.std.specs.Prelude.{◌≡◌, ◌≢◌, ◌≤◌, ◌<◌, ◌⊎◌, ℕ, ◌+◌, Bool, true, false, List, [], ◌∷◌, ◌++◌, length, Option, Some, None, Result, Ok, Err, IfOk}
+-- A stream of an answer's payloads: what is still to come, and what its calls give. Each call gives a parcel: the payload of
+-- the schema, or those of the dictionaries of some rows, and behind them that of these rows.
+use Rattle.std.specs.Prelude.{◌≡◌, ◌≢◌, ◌≤◌, ◌<◌, ◌⊎◌, ℕ, ◌+◌, Bool, true, false, All, List, [], ◌++◌, length, Option, Some, None, Result, Ok, Err, IfOk}
 use Rattle.scan_base.specs.declared.fault.Fault.{Fault}
 use Rattle.scan_base.specs.declared.fault.Fault.TheVariants.{BadTicket, ResultTooLarge, OutOfMemory}
-use Rattle.scan_base.specs.Limits.{most_answer_rows, most_message_bytes}
+use Rattle.scan_base.specs.Limits.{most_answer_rows}
 use Rattle.arrow_schema.specs.declared.schema.Schema.{Schema}
 use Rattle.row_sources.specs.declared.turn.Patience.{Patience}
 use Rattle.row_sources.specs.declared.turn.Patience.TheVariants.{Endless}
@@ -12,14 +13,14 @@ use Rattle.table_versions.specs.Table.{Row, Table}
 use Rattle.table_versions.specs.Database.{Database}
 use Rattle.endpoint_split.specs.Handle.{HandleAt}
 use Rattle.flight_proto.specs.FlightData.{data_of}
-use Rattle.flight_info.specs.Payloads.{Payload, PayloadsSay}
-use Rattle.fetch_stream.specs.Fetches.{HandleMeans, MeansNothing, FetchAt}
+use Rattle.flight_info.specs.Payloads.{Payload, FitMessages}
+use Rattle.fetch_stream.specs.Fetches.{HandleMeans, MeansNothing, SayDressed, FetchAt}
 
 -- as many rows as a message of an answer has
 abbrev pub most_message_rows : ℕ
 most_message_rows = 65536
 
--- as many bytes as its body has
+-- as many bytes as a body has
 abbrev pub most_body_bytes : ℕ
 most_body_bytes = 8388608
 
@@ -31,6 +32,10 @@ pub record StreamAt : Type 0 where
   pub left : List Row
   pub given : ℕ
   pub refused : Option Fault
+
+-- payloads that are given together
+abbrev pub Parcel : Type 0
+Parcel = List Payload
 
 -- all of an answer is still to come
 abbrev pub opened : Table → StreamAt
@@ -44,27 +49,31 @@ Opens database handle (Err BadTicket) = MeansNothing database handle
 Opens database handle (Err OutOfMemory) = Unit {0}
 Opens database handle (Err _) = ⊥
 
--- the payloads that a stream has given say these rows behind its schema
+-- the payloads that a stream has given say these rows behind its schema, each batch of them right behind its dictionaries
 abbrev pub SaySoFar : StreamAt → List Payload → List Row → Type 0
 SaySoFar stream payloads rows = so_far stream.begun
   where
     so_far : Bool → Type 0
-    so_far true = PayloadsSay payloads stream.schema rows
+    so_far true = SayDressed payloads stream.schema rows
     so_far false = (payloads ≡ []) × (rows ≡ [])
 
--- The next payload: the schema's, and then one row or more. With those before it, it says them behind theirs. A message
--- has no more rows and bytes than it may have, and an answer no more rows.
-pub record GivesPayload (before : StreamAt) (payload : Payload) (after : StreamAt) : Type 0 where
+-- the body of a payload has no more bytes than it may
+abbrev pub HasShortBody : Payload → Type 0
+HasShortBody payload = IfOk (data_of payload) (λ carried. length carried.data_body ≤ most_body_bytes)
+
+-- The next parcel: the schema's payload, and then one row or more behind their dictionaries. With those before it, it says them
+-- behind theirs. A message has no more rows and bytes than it may have, and an answer no more rows.
+pub record GivesParcel (before : StreamAt) (parcel : Parcel) (after : StreamAt) : Type 0 where
   pub rows : List Row
   pub said : (payloads : List Payload) (given : List Row) → SaySoFar before payloads given →
-      SaySoFar after (payloads ++ payload ∷ []) (given ++ rows)
+      SaySoFar after (payloads ++ parcel) (given ++ rows)
   pub left : rows ++ after.left ≡ before.left
   pub counted : after.given ≡ before.given + length rows
   pub within : after.given ≤ most_answer_rows
   pub some : before.begun ≡ true → 0 < length rows
   pub few : length rows ≤ most_message_rows
-  pub short : IfOk (data_of payload) (λ carried. length carried.data_body ≤ most_body_bytes)
-  pub fits : length payload ≤ most_message_bytes
+  pub short : All HasShortBody parcel
+  pub fits : FitMessages parcel
   pub schema : after.schema ≡ before.schema
   pub begun : after.begun ≡ true
   pub refused : after.refused ≡ None
@@ -75,19 +84,19 @@ MayRefuse before fault = (fault ≡ OutOfMemory)
     ⊎ ((fault ≡ ResultTooLarge) × (before.begun ≡ true) × (most_answer_rows < before.given + length before.left))
 
 -- What a call gives. What refused a stream is answered from then on.
-abbrev pub Gives : StreamAt → Result (Option Payload) Fault → StreamAt → Type 0
+abbrev pub Gives : StreamAt → Result (Option Parcel) Fault → StreamAt → Type 0
 Gives before result after = going before.refused result
   where
-    going : Option Fault → Result (Option Payload) Fault → Type 0
+    going : Option Fault → Result (Option Parcel) Fault → Type 0
     going (Some fault) result = (result ≡ Err fault) × (after ≡ before)
-    going None (Ok (Some payload)) = GivesPayload before payload after
+    going None (Ok (Some parcel)) = GivesParcel before parcel after
     going None (Ok None) = (before.begun ≡ true) × (before.left ≡ []) × (after ≡ before)
     going None (Err fault) = MayRefuse before fault × (after.refused ≡ Some fault)
 
 -- What a turn gives: what a call gives, or nothing yet, of a stream that was not refused, where its patience has an end. Then
 -- the same is still to come.
-abbrev pub GivesTurn : Patience → StreamAt → Result (Turn Payload) Fault → StreamAt → Type 0
-GivesTurn patience before (Ok (Given payload)) after = Gives before (Ok (Some payload)) after
+abbrev pub GivesTurn : Patience → StreamAt → Result (Turn Parcel) Fault → StreamAt → Type 0
+GivesTurn patience before (Ok (Given parcel)) after = Gives before (Ok (Some parcel)) after
 GivesTurn patience before (Ok Working) after = (before.refused ≡ None) × (after ≡ before) × (patience ≢ Endless)
 GivesTurn patience before (Ok End) after = Gives before (Ok None) after
 GivesTurn patience before (Err fault) after = Gives before (Err fault) after
@@ -105,8 +114,8 @@ pub record HasGiven (answer : Table) (payloads : List Payload) (stream : StreamA
 -- the stream is refused.
 pub record StreamsAnswer : Type 0 where
   pub begin : (answer : Table) → HasGiven answer [] (opened answer)
-  pub go_on : (answer : Table) (payloads : List Payload) (before after : StreamAt) (payload : Payload) →
-      HasGiven answer payloads before → GivesPayload before payload after → HasGiven answer (payloads ++ payload ∷ []) after
+  pub go_on : (answer : Table) (payloads : List Payload) (before after : StreamAt) (parcel : Parcel) →
+      HasGiven answer payloads before → GivesParcel before parcel after → HasGiven answer (payloads ++ parcel) after
   pub end : (database : Database) (handle : HandleAt) (answer : Table) (payloads : List Payload) (stream : StreamAt) →
       HandleMeans database handle answer → HasGiven answer payloads stream →
       stream.begun ≡ true → stream.left ≡ [] → FetchAt database handle payloads None

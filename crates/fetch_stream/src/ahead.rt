@@ -9,7 +9,7 @@ ghost use Rattle.fetch_stream.specs.Streams.{Gives, GivesTurn};
 ghost use Rattle.fetch_stream.specs.inside.MadeAhead.{AreAhead, GivesMade, MakesNext};
 
 use crate::made::Made;
-use crate::payload::Payload;
+use crate::parcel::Parcel;
 use crate::stream::FetchStream;
 use row_sources::{Patience, Turn};
 use scan_base::Fault;
@@ -18,7 +18,7 @@ use std::alloc::{AllocError, Global};
 use std::collections::VecDeque;
 use std::marker::Model;
 
-// How many payloads are made ahead, and how many bytes they have, before no more are.
+// How many parcels are made ahead, and how many bytes they have, before no more are.
 const MOST_MADE: usize = 16;
 
 const MOST_MADE_BYTES: usize = 8_388_608;
@@ -29,7 +29,7 @@ const TURNS_AHEAD: usize = 8;
 
 const ROWS_AHEAD: usize = 65_536;
 
-/// The payloads of a morsel: those that were made ahead, and behind them the others, each of which is made when it is asked
+/// The parcels of a morsel: those that were made ahead, and behind them the others, each of which is made when it is asked
 /// for. A contract sees a stream that has begun: it says no schema.
 pub struct Ahead<'s> {
     scan: &'s Scan,
@@ -38,7 +38,7 @@ pub struct Ahead<'s> {
     taken: usize,
     refused: Option<Fault>,
     made: VecDeque<Made>,
-    // How many bytes the payloads have that were made ahead.
+    // How many bytes the parcels have that were made ahead.
     bytes: usize,
     // Nothing where memory was refused for it.
     rest: Option<FetchStream>,
@@ -89,7 +89,7 @@ impl<'s> Ahead<'s> {
     }
 
     /// How many rows were taken of the morsel's scan: those that were given, and behind them the others of the batch of which
-    /// the last payload is a part.
+    /// the last parcel is a part.
     pub fn taken(&self) -> usize
         ensures given { self.now.given ≤ result }
         ensures there { result ≤ self.now.given + length self.now.left }
@@ -97,29 +97,29 @@ impl<'s> Ahead<'s> {
         self.taken
     }
 
-    /// The next payload, and `None` behind the last one. What refuses it is answered from then on.
+    /// The next parcel, and `None` behind the last one. What refuses it is answered from then on.
     ///
     /// # Errors
     ///
     /// F20 (`Fault::ResultTooLarge`) where the morsel has more than 67,108,864 rows; F21 (`Fault::OutOfMemory`) where memory is
-    /// refused, or was when payloads were made ahead.
-    pub fn next(&mut self, alloc: Global) -> Result<Option<Payload>, Fault>
+    /// refused, or was when parcels were made ahead.
+    pub fn next(&mut self, alloc: Global) -> Result<Option<Parcel>, Fault>
         ensures { Gives self.old result self.new }
     {
         match self.turn(alloc, Patience::Endless)? {
-            Turn::Given(payload) => Ok(Some(payload)),
+            Turn::Given(parcel) => Ok(Some(parcel)),
             Turn::Working => Ok(None),
             Turn::End => Ok(None),
         }
     }
 
-    /// A turn to the next payload. `Turn::Working` where none of the rows is given that the turn looked at: then the same is
+    /// A turn to the next parcel. `Turn::Working` where none of the rows is given that the turn looked at: then the same is
     /// still to come, and the next turn goes on behind them.
     ///
     /// # Errors
     ///
     /// Those of `next`.
-    pub fn turn(&mut self, alloc: Global, patience: Patience) -> Result<Turn<Payload>, Fault>
+    pub fn turn(&mut self, alloc: Global, patience: Patience) -> Result<Turn<Parcel>, Fault>
         ensures { GivesTurn patience self.old result self.new }
     {
         if let Some(fault) = self.refused {
@@ -129,7 +129,7 @@ impl<'s> Ahead<'s> {
             Ok(Turn::Given(made)) => {
                 self.given = made.given;
                 self.taken = made.taken;
-                Ok(Turn::Given(made.payload))
+                Ok(Turn::Given(made.parcel))
             }
             Ok(Turn::Working) => Ok(Turn::Working),
             Ok(Turn::End) => Ok(Turn::End),
@@ -140,8 +140,8 @@ impl<'s> Ahead<'s> {
         }
     }
 
-    /// Makes payloads ahead for a while, until there are 16 or they have 8,388,608 bytes: it looks at 1,048,576 rows at most.
-    /// Whether there is more to be made ahead then. The same is still to come. What refuses a payload is answered behind those
+    /// Makes parcels ahead for a while, until there are 16 or they have 8,388,608 bytes: it looks at 1,048,576 rows at most.
+    /// Whether there is more to be made ahead then. The same is still to come. What refuses a parcel is answered behind those
     /// that were made before.
     pub fn go_on(&mut self, alloc: Global) -> bool
         ensures { self.new ≡ self.old }
@@ -150,7 +150,7 @@ impl<'s> Ahead<'s> {
     }
 }
 
-// A turn to the next payload: the first one that was made ahead, or else that of the rest.
+// A turn to the next parcel: the first one that was made ahead, or else that of the rest.
 fn turn_of_made(
     alloc: Global,
     patience: Patience,
@@ -169,7 +169,7 @@ fn turn_of_made(
     }
 }
 
-// A turn to the next payload of a stream, with how many rows are given with it, and taken.
+// A turn to the next parcel of a stream, with how many rows are given with it, and taken.
 fn make_next(
     alloc: Global,
     patience: Patience,
@@ -177,20 +177,20 @@ fn make_next(
 ) -> Result<Turn<Made>, Fault>
     ensures { MakesNext patience stream.old result stream.new }
 {
-    let payload = match stream.turn(alloc, patience)? {
-        Turn::Given(payload) => payload,
+    let parcel = match stream.turn(alloc, patience)? {
+        Turn::Given(parcel) => parcel,
         Turn::Working => return Ok(Turn::Working),
         Turn::End => return Ok(Turn::End),
     };
     let (given, taken) = (stream.given(), stream.taken());
     Ok(Turn::Given(Made {
-        payload,
+        parcel,
         given,
         taken,
     }))
 }
 
-// Makes payloads of a stream ahead for a while, as many as there is room for. Whether there is more to be made ahead then.
+// Makes parcels of a stream ahead for a while, as many as there is room for. Whether there is more to be made ahead then.
 fn make_ahead(
     alloc: Global,
     made: &mut VecDeque<Made>,
@@ -206,7 +206,7 @@ fn make_ahead(
         turns -= 1;
         match make_next(alloc, patience, rest) {
             Ok(Turn::Given(next)) => {
-                *bytes = bytes.saturating_add(next.payload.len());
+                *bytes = bytes.saturating_add(next.parcel.len());
                 made.push_back_reserved(next);
             }
             Ok(Turn::Working) => {}
@@ -233,7 +233,7 @@ fn make_more(
     }
 }
 
-// Room for the payloads that are made ahead, or none where memory is refused for it.
+// Room for the parcels that are made ahead, or none where memory is refused for it.
 fn room_ahead(alloc: Global) -> VecDeque<Made>
     ensures { result.items ≡ [] }
 {
@@ -243,7 +243,7 @@ fn room_ahead(alloc: Global) -> VecDeque<Made>
     }
 }
 
-// The payloads of a morsel of a scan, whose stream is this, before its first row.
+// The parcels of a morsel of a scan, whose stream is this, before its first row.
 pub(crate) fn made_ahead<'s>(
     alloc: Global,
     scan: &'s Scan,

@@ -5,14 +5,15 @@ ghost use Rattle.std.specs.List.{list_any};
 ghost use Rattle.scan_base.specs.Limits.{most_columns};
 ghost use Rattle.arrays.specs.Batch.{rows_of};
 ghost use Rattle.table_versions.specs.Table.{is_long_text};
-ghost use Rattle.fetch_stream.specs.inside.Ahead.{IsCutter};
+ghost use Rattle.fetch_stream.specs.inside.Ahead.{AnsweredAs, IsCutter};
 ghost use Rattle.fetch_stream.specs.inside.Cut.{Cuts};
 
-use crate::message::slice_payload;
-use crate::payload::Payload;
+use crate::message::{Writing, batch_parcel};
+use crate::parcel::Parcel;
 use arrays::Batch;
 use arrays::laws::batch_slices_keep_rows;
-use std::alloc::{AllocError, Global};
+use arrow_schema::Schema;
+use std::alloc::AllocError;
 
 // The most rows of a message.
 const MOST_ROWS: usize = 65_536;
@@ -49,27 +50,29 @@ impl Cutter {
         }
     }
 
-    /// The next rows as a payload: as many as a message may have. Where its body would have too many bytes, it has half
-    /// as many rows, down to one.
+    /// The next rows as a parcel: as many as a message may have. Where the bodies of its payloads would have too many bytes, it
+    /// has half as many rows, down to one.
     ///
     /// # Errors
     ///
     /// `AllocError` where memory is refused. The same rows come next.
-    pub(crate) fn next(&mut self, alloc: Global) -> Result<Payload, AllocError>
+    pub(crate) fn next(&mut self, writing: Writing, schema: &Schema) -> Result<Parcel, AllocError>
         requires placed { IsCutter self.old }
         requires more { self.old.at < self.old.batch.rows }
         requires few { length self.old.batch.columns ≤ most_columns }
-        ensures cut { IfOk result (λ payload. Cuts self.old payload self.new) }
+        requires answered { AnsweredAs schema.now self.old.batch.columns }
+        ensures cut { IfOk result (λ parcel. Cuts schema.now self.old parcel self.new) }
         ensures kept { OnErr result (self.new ≡ self.old) }
     {
         batch_slices_keep_rows();
         let mut rows = self.most.min(self.batch.rows() - self.at);
         loop {
             let end = self.at + rows;
-            if let Some(payload) = slice_payload(alloc, &self.batch, self.at, end)? {
+            let slice = self.batch.slice(writing.alloc, self.at, end)?;
+            if let Some(parcel) = batch_parcel(writing, schema, &slice)? {
                 self.at = end;
                 self.most = (rows * 2).min(MOST_ROWS);
-                return Ok(payload);
+                return Ok(parcel);
             }
             rows /= 2;
         }

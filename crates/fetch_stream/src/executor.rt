@@ -4,36 +4,36 @@ ghost use Rattle.std.specs.Prelude.{Result};
 ghost use Rattle.scan_base.specs.declared.fault.Fault.{Fault as FaultAt};
 ghost use Rattle.fetch_stream.specs.Streams.{StreamAt, Gives, GivesTurn};
 
-use crate::payload::Payload;
+use crate::parcel::Parcel;
 use crate::stream::FetchStream;
 use row_sources::{Patience, Turn};
 use scan_base::Fault;
 use std::alloc::Global;
 
-/// The payloads of an answer, one at a time, whoever makes them.
+/// The payloads of an answer, one parcel at a time, whoever makes them.
 pub trait Payloads {
     // What is still to come of the answer.
     ghost stream: { Self → StreamAt };
 
-    /// The next payload, as that of a [`FetchStream`], and `None` behind the last one.
+    /// The next parcel, as that of a [`FetchStream`], and `None` behind the last one.
     ///
     /// # Errors
     ///
     /// F20 (`Fault::ResultTooLarge`) where the answer has more than 67,108,864 rows, behind a beginning of it; F21
     /// (`Fault::OutOfMemory`) where memory is refused. What refuses payloads is answered from then on.
-    fn next(&mut self, alloc: Global) -> Result<Option<Payload>, Fault>
+    fn next(&mut self, alloc: Global) -> Result<Option<Parcel>, Fault>
         ensures { Gives (stream self.old) result (stream self.new) };
 
-    /// A turn to the next payload, as that of a [`FetchStream`]. An impl that leaves it out finds a payload or the end in each.
+    /// A turn to the next parcel, as that of a [`FetchStream`]. An impl that leaves it out finds a parcel or the end in each.
     ///
     /// # Errors
     ///
     /// Those of `next`.
-    fn turn(&mut self, alloc: Global, _patience: Patience) -> Result<Turn<Payload>, Fault>
+    fn turn(&mut self, alloc: Global, _patience: Patience) -> Result<Turn<Parcel>, Fault>
         ensures { GivesTurn _patience (stream self.old) result (stream self.new) }
     {
         match self.next(alloc)? {
-            Some(payload) => Ok(Turn::Given(payload)),
+            Some(parcel) => Ok(Turn::Given(parcel)),
             None => Ok(Turn::End),
         }
     }
@@ -42,16 +42,16 @@ pub trait Payloads {
 impl Payloads for FetchStream {
     ghost stream = { λ s. s };
 
-    fn next(&mut self, alloc: Global) -> Result<Option<Payload>, Fault> {
+    fn next(&mut self, alloc: Global) -> Result<Option<Parcel>, Fault> {
         FetchStream::next(self, alloc)
     }
 
-    fn turn(&mut self, alloc: Global, patience: Patience) -> Result<Turn<Payload>, Fault> {
+    fn turn(&mut self, alloc: Global, patience: Patience) -> Result<Turn<Parcel>, Fault> {
         FetchStream::turn(self, alloc, patience)
     }
 }
 
-/// Who reads the payloads of an answer, each before the next one is asked for.
+/// Who reads the payloads of an answer, each parcel before the next one is asked for.
 pub trait ReadsPayloads {
     // What has to hold before it reads.
     ghost takes: { Self → Type 0 };

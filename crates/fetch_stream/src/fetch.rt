@@ -1,6 +1,6 @@
 //! Answering a fetch at a version.
 
-ghost use Rattle.std.specs.Prelude.{◌≡◌, ◌≢◌, [], false, None, Some};
+ghost use Rattle.std.specs.Prelude.{◌≡◌, ◌≢◌, ◌++◌, [], false, length, take, None, Some, OnErr, OnOk};
 ghost use Rattle.scan_base.specs.declared.fault.Fault.TheVariants.{BadTicket, ResultTooLarge};
 ghost use Rattle.scan_base.specs.Reading.{Gives};
 ghost use Rattle.endpoint_split.specs.Seen.{handle_seen};
@@ -11,13 +11,14 @@ ghost use Rattle.flight_info.specs.Payloads.{FitMessages};
 ghost use Rattle.fetch_stream.specs.Fetches.{version_of, may_mean, FetchAt};
 
 use crate::executor::{Execution, Executor, Payloads, ReadsPayloads};
+use crate::parcel::Parcel;
 use crate::stream::FetchStream;
 use bytes::Bytes;
 use endpoint_split::{Handle, read_handle};
 use flight_info::Reply;
 use flight_proto::read_statement_handle;
 use scan_base::Fault;
-use std::alloc::Global;
+use std::alloc::{AllocError, Global};
 use table_versions::Snapshot;
 
 /// The handle in the Ticket that begins a fetch. It takes no memory.
@@ -48,6 +49,30 @@ struct Collected {
     payloads: Vec<Bytes>,
 }
 
+// Puts the bytes of a parcel's payloads behind the others, or those of none.
+fn push_parcel(payloads: &mut Vec<Bytes>, parcel: Parcel) -> Result<(), AllocError>
+    ensures ok { OnOk result (payloads.new.items ≡ payloads.old.items ++ parcel) }
+    ensures err { OnErr result (payloads.new.items ≡ payloads.old.items) }
+{
+    let start = payloads.len();
+    let pushed = append_parcel(payloads, parcel);
+    if pushed.is_err() {
+        payloads.truncate(start);
+    }
+    pushed
+}
+
+// The same, or those of the first ones.
+fn append_parcel(payloads: &mut Vec<Bytes>, parcel: Parcel) -> Result<(), AllocError>
+    ensures ok { OnOk result (payloads.new.items ≡ payloads.old.items ++ parcel) }
+    ensures begins { take (length payloads.old.items) payloads.new.items ≡ payloads.old.items }
+{
+    for payload in parcel.into_payloads() {
+        payloads.push(payload.into_bytes()?)?;
+    }
+    Ok(())
+}
+
 // Collects all payloads that are given, of an answer whole or up to what refuses it.
 impl ReadsPayloads for Collected {
     ghost use Rattle.std.specs.Prelude.{◌≡◌, []};
@@ -58,8 +83,8 @@ impl ReadsPayloads for Collected {
     ghost reads = { λ old stream result new. CollectsAll stream new.payloads.items result };
 
     fn read<P: Payloads>(&mut self, alloc: Global, payloads: &mut P) -> Result<(), Fault> {
-        while let Some(payload) = payloads.next(alloc)? {
-            self.payloads.push(payload.into_bytes()?)?;
+        while let Some(parcel) = payloads.next(alloc)? {
+            push_parcel(&mut self.payloads, parcel)?;
         }
         Ok(())
     }

@@ -13,6 +13,7 @@ mod made;
 mod message;
 pub mod morsels;
 pub mod opening;
+pub mod parcel;
 pub mod payload;
 mod source;
 pub mod stream;
@@ -22,5 +23,6 @@ pub use crate::executor::{Execution, Executor, OneWorker, Payloads, ReadsPayload
 pub use crate::fetch::{answer_fetch, read_ticket, version_of};
 pub use crate::morsels::Morsels;
 pub use crate::opening::Opening;
+pub use crate::parcel::Parcel;
 pub use crate::payload::Payload;
 pub use crate::stream::FetchStream;

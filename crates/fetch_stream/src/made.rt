@@ -1,11 +1,11 @@
-//! Payloads that are made before they are asked for.
+//! Parcels that are made before they are asked for.
 
-use crate::payload::Payload;
+use crate::parcel::Parcel;
 
-// A payload that was made ahead, how many rows of its morsel are given with it, and how many were taken of the scan.
+// A parcel that was made ahead, how many rows of its morsel are given with it, and how many were taken of the scan.
 #[derive(Drop)]
 pub(crate) struct Made {
-    pub(crate) payload: Payload,
+    pub(crate) parcel: Parcel,
     pub(crate) given: usize,
     pub(crate) taken: usize,
 }

@@ -1,27 +1,41 @@
-//! The messages of an answer: its schema, and batches.
+//! The messages of an answer: its schema, and batches behind their dictionaries.
 
-ghost use Rattle.std.specs.Prelude.{◌≡◌, ◌≤◌, ◌<◌, length, None, IfOk, IfSome};
-ghost use Rattle.scan_base.specs.Limits.{most_columns, most_message_bytes};
+ghost use Rattle.std.specs.Prelude.{◌≡◌, ◌≤◌, ◌<◌, ◌+◌, ◌++◌, ◌∷◌, [], All, length, map, None, IfOk, IfSome, MatchOption};
+ghost use Rattle.std.specs.List.{AllZip};
+ghost use Rattle.scan_base.specs.Limits.{most_columns, most_message_bytes, most_values};
 ghost use Rattle.arrow_schema.specs.Schema.{IsSchema};
-ghost use Rattle.arrays.specs.Batch.{cut_batch};
-ghost use Rattle.flight_proto.specs.FlightData.{data_of};
-ghost use Rattle.ipc_batch.specs.Written.{body_length};
-ghost use Rattle.plain_batches.specs.Plain.{plain_length};
+ghost use Rattle.arrays.specs.Batch.{rows_of};
+ghost use Rattle.flight_info.specs.Payloads.{FitMessages};
+ghost use Rattle.ipc_batch.specs.Seen.{written_seen};
+ghost use Rattle.ipc_batch.specs.Written.{body_length, most_header_bytes};
+ghost use Rattle.dressed_batches.specs.Lengths.{bodies_length, dressed_length};
 ghost use Rattle.fetch_stream.specs.Morsels.{GivesSchema};
 ghost use Rattle.fetch_stream.specs.Streams.{most_body_bytes};
-ghost use Rattle.fetch_stream.specs.inside.Written.{SaysSchema, SaysWritten, SaysBatchBehind};
+ghost use Rattle.fetch_stream.specs.inside.Ahead.{AnsweredAs};
+ghost use Rattle.fetch_stream.specs.inside.Written.{Carries, CarryDressed, IsShort, SaysRows, SaysSchema, SaysWritten};
 
+use crate::parcel::Parcel;
 use crate::payload::{Payload, body_parts};
 use arrays::Batch;
 use arrow_schema::{Schema, write_schema};
+use bytes::Bytes;
+use dressed_batches::{DressedBatch, dress};
 use flight_proto::{put_flight_data, put_flight_data_head};
-use ipc_batch::SizedBatch;
-use plain_batches::plain_batch;
+use hash_seed::HashSeed;
+use ipc_batch::{SizedBatch, WrittenMessage};
 use scan_base::Fault;
 use std::alloc::{AllocError, Global};
 
-// The most bytes of a message's body. One row has fewer: at most 64 texts of at most 65,536 bytes.
+// The most bytes of the bodies of a batch and of its dictionaries. Those of one row have fewer: at most 64 texts of at most
+// 65,536 bytes.
 const MOST_BODY_BYTES: usize = 8_388_608;
+
+/// Whence memory is taken, and what the hashes of texts begin with.
+#[derive(Clone, Copy)]
+pub(crate) struct Writing {
+    pub(crate) alloc: Global,
+    pub(crate) seed: HashSeed,
+}
 
 /// The payload of a schema.
 pub(crate) fn schema_payload(alloc: Global, schema: &Schema) -> Result<Payload, AllocError>
@@ -60,40 +74,99 @@ fn batch_payload(alloc: Global, batch: &SizedBatch<'_>) -> Result<Payload, Alloc
     Ok(Payload::new(head, parts, len))
 }
 
-/// The payload of the rows `from` up to, not with, `to` of a batch, or nothing where its body would have too
-/// many bytes. Columns of dictionaries are copied to their texts, since a dictionary is answered as texts.
-pub(crate) fn slice_payload(
-    alloc: Global,
-    batch: &Batch,
-    from: usize,
-    to: usize,
-) -> Result<Option<Payload>, AllocError>
-    requires few { length batch.now.columns ≤ most_columns }
-    requires ordered { from ≤ to }
-    requires within { to ≤ batch.now.rows }
-    ensures said { IfOk result (λ found. IfSome found (λ payload.
-        SaysBatchBehind payload (cut_batch batch.now from to))) }
-    ensures fits { IfOk result (λ found. IfSome found (λ payload. length payload ≤ most_message_bytes)) }
-    ensures long { IfOk result (λ found. found ≡ None → most_body_bytes < plain_length (cut_batch batch.now from to)) }
+// The payload of a message that is written. Its body is not copied.
+fn message_payload(alloc: Global, message: WrittenMessage) -> Result<Payload, AllocError>
+    requires short { IsShort (written_seen message) }
+    ensures carries { IfOk result (λ payload. Carries payload (written_seen message)) }
+    ensures fits { IfOk result (λ payload. length payload ≤ most_message_bytes) }
 {
-    let slice = batch.slice(alloc, from, to)?;
-    match plain_batch(alloc, slice, MOST_BODY_BYTES)? {
-        Some(plain) => plain_payload(alloc, &plain),
-        None => Ok(None),
+    let WrittenMessage { header, body } = message;
+    let mut head = Vec::with_capacity(alloc, header.len().saturating_add(32))?;
+    put_flight_data_head(&mut head, &header, body.len() as u64)?;
+    let len = head.len() + body.len();
+    let mut parts = Vec::with_capacity(alloc, 1)?;
+    parts.push(Bytes::from_vec(body)?)?;
+    Ok(Payload::new(head, parts, len))
+}
+
+// The payloads of messages that are written.
+fn message_payloads(
+    alloc: Global,
+    messages: Vec<WrittenMessage>,
+) -> Result<Vec<Payload>, AllocError>
+    requires short { All IsShort (map written_seen messages.items) }
+    ensures carry { IfOk result (λ payloads. AllZip Carries payloads.items (map written_seen messages.items)) }
+    ensures fits { IfOk result (λ payloads. FitMessages payloads.items) }
+{
+    let mut payloads = Vec::with_capacity(alloc, messages.len().saturating_add(1))?;
+    for message in messages {
+        payloads.push(message_payload(alloc, message)?)?;
+    }
+    Ok(payloads)
+}
+
+// How many bytes a body may have beside those of these messages: `None` where they have too many.
+fn room_beside(messages: &[WrittenMessage]) -> Option<usize>
+    ensures { MatchOption result (most_body_bytes < bodies_length (map written_seen messages.now))
+        (λ room. bodies_length (map written_seen messages.now) + room ≡ most_body_bytes) }
+{
+    let mut room = MOST_BODY_BYTES;
+    for message in messages {
+        let len = message.body.len();
+        if len > room {
+            return None;
+        }
+        room -= len;
+    }
+    Some(room)
+}
+
+// The payloads of a batch and of its dictionaries, which come before it, or nothing where their bodies would have too many
+// bytes.
+fn dressed_parcel(alloc: Global, dressed: DressedBatch) -> Result<Option<Parcel>, AllocError>
+    requires few { length dressed.batch.columns ≤ most_columns }
+    requires short { All (λ sent. length sent.header ≤ most_header_bytes) (map written_seen dressed.dictionaries.items) }
+    ensures carry { IfOk result (λ found. IfSome found (λ parcel. CarryDressed parcel (map written_seen dressed.dictionaries.items) dressed.batch)) }
+    ensures fits { IfOk result (λ found. IfSome found FitMessages) }
+    ensures long { IfOk result (λ found. found ≡ None →
+        most_body_bytes < bodies_length (map written_seen dressed.dictionaries.items) + body_length dressed.batch) }
+{
+    let DressedBatch {
+        dictionaries,
+        batch,
+    } = dressed;
+    let Some(room) = room_beside(dictionaries.as_slice()) else {
+        return Ok(None);
+    };
+    match SizedBatch::new(alloc, &batch)? {
+        Some(sized) if sized.body_length() <= room => {
+            let last = batch_payload(alloc, &sized)?;
+            let mut payloads = message_payloads(alloc, dictionaries)?;
+            payloads.push(last)?;
+            Ok(Some(Parcel::new(payloads)))
+        }
+        _ => Ok(None),
     }
 }
 
-// The payload of a batch without dictionaries, or nothing where its body would have too many bytes.
-fn plain_payload(alloc: Global, batch: &Batch) -> Result<Option<Payload>, AllocError>
-    requires { length batch.now.columns ≤ most_columns }
-    ensures said { IfOk result (λ found. IfSome found (λ payload. SaysWritten payload batch.now)) }
-    ensures fits { IfOk result (λ found. IfSome found (λ payload. length payload ≤ most_message_bytes)) }
-    ensures long { IfOk result (λ found. found ≡ None → most_body_bytes < body_length batch.now) }
+/// The payloads of a batch: one for each column that is answered as a dictionary, of the texts that the batch holds, and behind
+/// them that of its rows. Nothing where their bodies would have too many bytes.
+pub(crate) fn batch_parcel(
+    writing: Writing,
+    schema: &Schema,
+    batch: &Batch,
+) -> Result<Option<Parcel>, AllocError>
+    requires few { length batch.now.columns ≤ most_columns }
+    requires rows { batch.now.rows ≤ most_values }
+    requires answered { AnsweredAs schema.now batch.now.columns }
+    ensures said { IfOk result (λ found. IfSome found (λ parcel. SaysRows parcel schema.now (rows_of batch.now))) }
+    ensures fits { IfOk result (λ found. IfSome found FitMessages) }
+    ensures long { IfOk result (λ found. found ≡ None →
+        most_body_bytes < dressed_length schema.now.fields batch.now.columns) }
 {
-    match SizedBatch::new(alloc, batch)? {
-        Some(sized) if sized.body_length() <= MOST_BODY_BYTES => {
-            Ok(Some(batch_payload(alloc, &sized)?))
-        }
-        _ => Ok(None),
+    let Writing { alloc, seed } = writing;
+    match dress(alloc, seed, schema, batch, MOST_BODY_BYTES)? {
+        Some(dressed) => dressed_parcel(alloc, dressed),
+        None => Ok(None),
     }
 }

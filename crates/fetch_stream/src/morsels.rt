@@ -6,11 +6,12 @@ ghost use Rattle.fetch_stream.specs.inside.MadeAhead.{FallsInto, morsels_at};
 ghost use Rattle.scan_exec.specs.Morsels.{morsel_rows};
 
 use crate::ahead::{Ahead, made_ahead};
-use crate::message::schema_payload;
+use crate::message::{Writing, schema_payload};
 use crate::payload::Payload;
 use crate::source::Source;
 use crate::stream::FetchStream;
 use arrays::Batch;
+use hash_seed::HashSeed;
 use scan_base::Fault;
 use scan_exec::Scan;
 use std::alloc::{AllocError, Global};
@@ -24,6 +25,8 @@ pub struct Morsels<'s> {
     scan: &'s Scan,
     count: usize,
     begun: bool,
+    // What the hashes of texts begin with.
+    seed: HashSeed,
 }
 
 impl<'s> Model for Morsels<'s> {
@@ -44,17 +47,23 @@ impl<'s> Drop for Morsels<'s> {
             scan: _,
             count: _,
             begun: _,
+            seed: _,
         } = self;
     }
 }
 
 impl<'s> Morsels<'s> {
     // The morsels of a scan that falls into so many, of whose schema a payload has told or not.
-    pub(crate) fn new(scan: &'s Scan, count: usize, begun: bool) -> Morsels<'s>
+    pub(crate) fn new(scan: &'s Scan, count: usize, begun: bool, seed: HashSeed) -> Morsels<'s>
         requires { FallsInto scan.now count }
         ensures { result ≡ morsels_at scan.now count begun }
     {
-        Morsels { scan, count, begun }
+        Morsels {
+            scan,
+            count,
+            begun,
+            seed,
+        }
     }
 
     /// How many there are.
@@ -89,18 +98,23 @@ impl<'s> Morsels<'s> {
         ensures { result ≡ morsel_stream self.now number }
     {
         let scan = self.scan;
-        let rest = morsel_rest(alloc, scan, number);
+        let writing = Writing {
+            alloc,
+            seed: self.seed,
+        };
+        let rest = morsel_rest(writing, scan, number);
         made_ahead(alloc, scan, number, rest)
     }
 }
 
 // The stream of a morsel of a scan, before its first row.
-fn morsel_rest(alloc: Global, scan: &Scan, number: usize) -> Result<FetchStream, AllocError>
+fn morsel_rest(writing: Writing, scan: &Scan, number: usize) -> Result<FetchStream, AllocError>
     requires falls { (count : ℕ) × FallsInto scan.now count × (number < count) }
     ensures { IfOk result (λ stream. stream ≡ behind_schema scan.now.schema (morsel_rows scan.now number)) }
 {
+    let Writing { alloc, seed } = writing;
     let morsel = scan.morsel(alloc, number)?;
     let nothing = Batch::new(Vec::new(alloc), 0);
-    let stream = FetchStream::of(nothing, Source::Scanned(morsel));
+    let stream = FetchStream::of(seed, nothing, Source::Scanned(morsel));
     Ok(stream.behind_schema())
 }

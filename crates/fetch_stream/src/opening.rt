@@ -130,9 +130,9 @@ impl Opening {
         }
     }
 
-    /// What a handle means at a version of the catalog. A dictionary of texts is answered as texts. The list of tables has a row
-    /// for each table of this version, in byte order of the names. So many workers may make the payloads, if an executor lets
-    /// them: what its stream gives is the same for any number.
+    /// What a handle means at a version of the catalog. The list of tables has a row for each table of this
+    /// version, in byte order of the names. So many workers may make the parcels, if an executor lets them: what its stream
+    /// gives is the same for any number.
     ///
     /// # Errors
     ///
@@ -219,7 +219,7 @@ impl PlannedScan {
         } = self;
         let scan = Scan::new(alloc, seed, plan, from..to)?;
         let nothing = Batch::new(Vec::new(alloc), 0);
-        Ok(FetchStream::of(nothing, Source::Scanned(scan)))
+        Ok(FetchStream::of(seed, nothing, Source::Scanned(scan)))
     }
 
     // Whether it joins or makes groups, and a place has more than a few rows.
@@ -323,6 +323,6 @@ fn open_tables(alloc: Global, catalog: &CatalogVersion) -> Result<Opening, Alloc
 {
     let schema = tables_schema(alloc)?;
     let batch = tables_batch(alloc, catalog)?;
-    let stream = FetchStream::of(batch, Source::Listed(schema));
+    let stream = FetchStream::of(catalog.seed(), batch, Source::Listed(schema));
     Ok(Opening::of(Meaning::Listed(stream)))
 }

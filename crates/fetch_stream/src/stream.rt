@@ -1,4 +1,4 @@
-//! Streams: an answer, one payload at a time.
+//! Streams: an answer, one parcel at a time.
 
 ghost use Rattle.std.specs.Prelude.{◌≡◌, ◌≢◌, ◌≤◌, ◌<◌, ◌+◌, ◌++◌, true, false, None, length, nat_le, Err, IfOk, IfErr, IfSome};
 ghost use Rattle.std.specs.List.{list_any};
@@ -19,15 +19,16 @@ ghost use Rattle.fetch_stream.specs.inside.Ahead.{IsGoing, IsSource, AnsweredAs,
 ghost use Rattle.fetch_stream.specs.inside.Steps.{GivesFirst, Refills, GivesRows};
 
 use crate::cutter::Cutter;
-use crate::message::schema_payload;
+use crate::message::{Writing, schema_payload};
 use crate::morsels::Morsels;
 use crate::opening::Opening;
-use crate::payload::Payload;
+use crate::parcel::Parcel;
 use crate::source::Source;
 use arrays::Batch;
 use arrays::laws::batch_slices_keep_rows;
 use arrow_schema::Schema;
 use endpoint_split::Handle;
+use hash_seed::HashSeed;
 use row_sources::{Patience, Turn};
 use scan_base::Fault;
 use scan_exec::{GroupsBatches, InOneWalk, Making};
@@ -35,13 +36,16 @@ use std::alloc::Global;
 use std::marker::Model;
 use table_versions::Snapshot;
 
-/// The answer to a handle, one payload at a time: the message of its schema, and then record batches. A contract sees
-/// what is still to come, and what refused the stream. It shares the tables of its version, and holds no message.
+/// The answer to a handle, one parcel at a time: the message of its schema, and then record batches, each right behind its
+/// dictionaries. A contract sees what is still to come, and what refused the stream. It shares the tables of its version, and
+/// holds no message.
 pub struct FetchStream {
     begun: bool,
     cutter: Cutter,
     source: Source,
     refused: Option<Fault>,
+    // What the hashes of texts begin with.
+    seed: HashSeed,
     // How many workers may make payloads, and how many rows the range has. Contracts see nothing of them: the answer is the
     // same for any numbers.
     workers: usize,
@@ -74,6 +78,7 @@ impl Drop for FetchStream {
             cutter: _,
             source: _,
             refused: _,
+            seed: _,
             workers: _,
             rows: _,
         } = self;
@@ -82,7 +87,7 @@ impl Drop for FetchStream {
 
 impl FetchStream {
     // The stream of the rows of a batch and of those that a source gives behind them.
-    pub(crate) fn of(batch: Batch, source: Source) -> FetchStream
+    pub(crate) fn of(seed: HashSeed, batch: Batch, source: Source) -> FetchStream
         requires source { IsSource source }
         requires columns { 0 < batch.rows → AnsweredAs (schema_behind source) batch.columns }
         requires short { list_any (list_any is_long_text) (rows_of batch) ≡ false }
@@ -102,6 +107,7 @@ impl FetchStream {
             cutter: Cutter::new(batch),
             source,
             refused: None,
+            seed,
             workers: 1,
             rows: 0,
         }
@@ -116,6 +122,7 @@ impl FetchStream {
             cutter,
             source,
             refused,
+            seed,
             workers: _,
             rows: _,
         } = self;
@@ -124,6 +131,7 @@ impl FetchStream {
             cutter,
             source,
             refused,
+            seed,
             workers,
             rows,
         }
@@ -138,6 +146,7 @@ impl FetchStream {
             cutter,
             source,
             refused,
+            seed,
             workers,
             rows,
         } = self;
@@ -146,14 +155,15 @@ impl FetchStream {
             cutter,
             source,
             refused,
+            seed,
             workers,
             rows,
         }
     }
 
-    /// The stream of the answer to a handle at a version of the catalog. A dictionary of texts is answered as texts. The
-    /// list of tables has a row for each table of this version, in byte order of the names. So many workers may make its
-    /// payloads, if an executor lets them: what it gives is the same for any number.
+    /// The stream of the answer to a handle at a version of the catalog. The list of
+    /// tables has a row for each table of this version, in byte order of the names. So many workers may make its
+    /// parcels, if an executor lets them: what it gives is the same for any number.
     ///
     /// # Errors
     ///
@@ -227,23 +237,24 @@ impl FetchStream {
             return None;
         }
         let count = scan.morsels()?;
-        Some(Morsels::new(scan, count, self.begun))
+        Some(Morsels::new(scan, count, self.begun, self.seed))
     }
 
-    /// The next payload, and `None` behind the last one: first the message of the schema, and then record batches of at
-    /// most 65,536 rows, whose bodies have at most 8,388,608 bytes. What refuses a stream is answered from then on.
+    /// The next parcel, and `None` behind the last one: first the message of the schema, and then record batches of at
+    /// most 65,536 rows, each behind a dictionary for each column that is answered as one. The bodies of a parcel have at most
+    /// 8,388,608 bytes together. What refuses a stream is answered from then on.
     ///
     /// # Errors
     ///
     /// F20 (`Fault::ResultTooLarge`) where the answer has more than 67,108,864 rows, behind a beginning of it; F21
     /// (`Fault::OutOfMemory`) where memory is refused.
-    pub fn next(&mut self, alloc: Global) -> Result<Option<Payload>, Fault>
+    pub fn next(&mut self, alloc: Global) -> Result<Option<Parcel>, Fault>
         ensures { Gives self.old result self.new }
     {
         self.next_by(alloc, &InOneWalk)
     }
 
-    /// The same, where the groups of a grouped query are made by the one that is handed in, before the first payload of them.
+    /// The same, where the groups of a grouped query are made by the one that is handed in, before the first parcel of them.
     ///
     /// # Errors
     ///
@@ -252,24 +263,24 @@ impl FetchStream {
         &mut self,
         alloc: Global,
         by: &G,
-    ) -> Result<Option<Payload>, Fault>
+    ) -> Result<Option<Parcel>, Fault>
         ensures { Gives self.old result self.new }
     {
         let patience = Patience::Endless;
         match self.turn_by(alloc, Making { by, patience })? {
-            Turn::Given(payload) => Ok(Some(payload)),
+            Turn::Given(parcel) => Ok(Some(parcel)),
             Turn::Working => Ok(None),
             Turn::End => Ok(None),
         }
     }
 
-    /// A turn to the next payload. `Turn::Working` where none of the rows is given that the turn looked at: then the same is
+    /// A turn to the next parcel. `Turn::Working` where none of the rows is given that the turn looked at: then the same is
     /// still to come, and the next turn goes on behind them.
     ///
     /// # Errors
     ///
     /// Those of `next`.
-    pub fn turn(&mut self, alloc: Global, patience: Patience) -> Result<Turn<Payload>, Fault>
+    pub fn turn(&mut self, alloc: Global, patience: Patience) -> Result<Turn<Parcel>, Fault>
         ensures { GivesTurn patience self.old result self.new }
     {
         let by = &InOneWalk;
@@ -285,16 +296,20 @@ impl FetchStream {
         &mut self,
         alloc: Global,
         making: Making<'_, G>,
-    ) -> Result<Turn<Payload>, Fault>
+    ) -> Result<Turn<Parcel>, Fault>
         ensures { GivesTurn making.entry.patience self.old result self.new }
     {
         if let Some(fault) = self.refused {
             return Err(fault);
         }
         let given = if self.begun {
-            turn_of_rows(alloc, making, &mut self.cutter, &mut self.source)
+            let writing = Writing {
+                alloc,
+                seed: self.seed,
+            };
+            turn_of_rows(writing, making, &mut self.cutter, &mut self.source)
         } else {
-            first_payload(alloc, self.source.schema())
+            first_parcel(alloc, self.source.schema())
         };
         match &given {
             Ok(_) => self.begun = true,
@@ -304,12 +319,13 @@ impl FetchStream {
     }
 }
 
-// The payload of a schema, as the first one.
-fn first_payload(alloc: Global, schema: &Schema) -> Result<Turn<Payload>, Fault>
+// The payload of a schema alone, as the first parcel.
+fn first_parcel(alloc: Global, schema: &Schema) -> Result<Turn<Parcel>, Fault>
     requires { IsSchema schema.now }
     ensures { GivesFirst schema.now result }
 {
-    Ok(Turn::Given(schema_payload(alloc, schema)?))
+    let payload = schema_payload(alloc, schema)?;
+    Ok(Turn::Given(Parcel::one(alloc, payload)?))
 }
 
 // A turn to the next batch, where the last one was given whole.
@@ -336,19 +352,19 @@ fn refill<G: GroupsBatches>(
     }
 }
 
-// A turn to the payload of the next rows.
+// A turn to the parcel of the next rows.
 fn turn_of_rows<G: GroupsBatches>(
-    alloc: Global,
+    writing: Writing,
     making: Making<'_, G>,
     cutter: &mut Cutter,
     source: &mut Source,
-) -> Result<Turn<Payload>, Fault>
+) -> Result<Turn<Parcel>, Fault>
     requires { IsGoing cutter.old source.old }
     ensures { GivesRows making.entry.patience cutter.old source.old result cutter.new source.new }
 {
     batch_slices_keep_rows();
-    match refill(alloc, making, cutter, source)? {
-        Turn::Given(_) => Ok(Turn::Given(cutter.next(alloc)?)),
+    match refill(writing.alloc, making, cutter, source)? {
+        Turn::Given(_) => Ok(Turn::Given(cutter.next(writing, source.schema())?)),
         Turn::Working => Ok(Turn::Working),
         Turn::End => Ok(Turn::End),
     }

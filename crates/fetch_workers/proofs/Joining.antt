@@ -11,8 +11,9 @@ use Rattle.row_sources.specs.declared.turn.Patience.TheVariants.{Endless}
 use Rattle.row_sources.specs.declared.turn.Turn.{Turn}
 use Rattle.row_sources.specs.declared.turn.Turn.TheVariants.{Given, Working, End}
 use Rattle.table_versions.specs.Table.{Row}
-use Rattle.flight_info.specs.Payloads.{Payload, PayloadsSay}
-use Rattle.fetch_stream.specs.Streams.{StreamAt, GivesTurn, GivesPayload, MayRefuse, SaySoFar}
+use Rattle.flight_info.specs.Payloads.{Payload}
+use Rattle.fetch_stream.specs.Fetches.{SayDressed}
+use Rattle.fetch_stream.specs.Streams.{StreamAt, Parcel, GivesTurn, GivesParcel, MayRefuse, SaySoFar}
 use Rattle.fetch_stream.specs.Morsels.{MorselsAt, morsel_stream, whole_stream}
 use Rattle.fetch_stream.proofs.Answering.{gave, ended, was_refused}
 use Rattle.fetch_workers.specs.inside.Joined.{GivesCounted, GivesFirst, GivesJoined, GivesPresent, Goes, IsJoined, given_of, joined_stream, left_of}
@@ -24,16 +25,16 @@ rest_of morsels answered = flat_map (λ (rows : List Row). rows) (drop answered 
 -- ---- a morsel, counted
 
 -- where so many rows were taken
-pub counts_payload : (patience other : Patience) (before after : StreamAt) (payload : Payload) (done taken : ℕ) → GivesTurn other before (Ok (Given payload)) after → after.given ≤ taken → done + taken ≤ most_answer_rows
-    → GivesCounted patience before done (Ok (Given payload)) after
-counts_payload patience other before after payload done taken gives there few = (gave before after payload gives, omega (arith, there, few))
+pub counts_parcel : (patience other : Patience) (before after : StreamAt) (parcel : Parcel) (done taken : ℕ) → GivesTurn other before (Ok (Given parcel)) after → after.given ≤ taken → done + taken ≤ most_answer_rows
+    → GivesCounted patience before done (Ok (Given parcel)) after
+counts_parcel patience other before after parcel done taken gives there few = (gave before after parcel gives, omega (arith, there, few))
 
 -- where there are too many
-pub counts_too_many : (patience other : Patience) (before after : StreamAt) (payload : Payload) (done taken : ℕ) → GivesTurn other before (Ok (Given payload)) after → taken ≤ after.given + length after.left → most_answer_rows < done + taken
+pub counts_too_many : (patience other : Patience) (before after : StreamAt) (parcel : Parcel) (done taken : ℕ) → GivesTurn other before (Ok (Given parcel)) after → taken ≤ after.given + length after.left → most_answer_rows < done + taken
     → GivesCounted patience before done (Err ResultTooLarge) after
-counts_too_many patience other before after payload done taken gives there many =
-    let payload_gives = gave before after payload gives in
-    inr (refl, omega (arith, there, many, payload_gives.counted, ap length payload_gives.left, length-append payload_gives.rows after.left))
+counts_too_many patience other before after parcel done taken gives there many =
+    let parcel_gives = gave before after parcel gives in
+    inr (refl, omega (arith, there, many, parcel_gives.counted, ap length parcel_gives.left, length-append parcel_gives.rows after.left))
 
 -- where none of the rows is given that were looked at
 pub counts_working : (patience other : Patience) (before after : StreamAt) (done : ℕ) → GivesTurn other before (Ok Working) after → (patience ≡ Endless → other ≡ Endless) → GivesCounted patience before done (Ok Working) after
@@ -49,7 +50,7 @@ counts_refusal patience other before after done fault none gives = by (was_refus
     by (inl memory) = inl memory
     by (inr large) = inr (large.0, omega (arith, large.2))
 
--- ---- one payload
+-- ---- one parcel
 
 -- what payloads say so far, where the stream has begun
 said_as : (one other : StreamAt) → one.begun ≡ true → other.begun ≡ true → one.schema ≡ other.schema → (payloads : List Payload) (rows : List Row) → SaySoFar one payloads rows → SaySoFar other payloads rows
@@ -58,20 +59,20 @@ said_as one other on off same payloads rows said = by one.schema other.schema on
     by : (schema last : Schema) (begun too : Bool) → begun ≡ true → too ≡ true → schema ≡ last
         → SaySoFar (record { schema = schema; begun = begun; left = one.left; given = one.given; refused = one.refused }) payloads rows
         → SaySoFar (record { schema = last; begun = too; left = other.left; given = other.given; refused = other.refused }) payloads rows
-    by schema last true true on off same said = subst (λ (s : Schema). PayloadsSay payloads s rows) same said
+    by schema last true true on off same said = subst (λ (s : Schema). SayDressed payloads s rows) same said
     by schema last false too on off same said = absurd cc
     by schema last true false on off same said = absurd cc
 
--- a payload of the present morsel is one of the stream, if there are not too many rows
-gives_present : (morsels : MorselsAt) (answered done : ℕ) (present after : StreamAt) (payload : Payload) → Goes morsels.schema (Some present) → GivesPayload present payload after
-    → done + after.given ≤ most_answer_rows → GivesPayload (joined_stream morsels answered true (Some present) done None) payload (joined_stream morsels answered true (Some after) done None)
-gives_present morsels answered done present after payload goes gives within =
+-- a parcel of the present morsel is one of the stream, if there are not too many rows
+gives_present : (morsels : MorselsAt) (answered done : ℕ) (present after : StreamAt) (parcel : Parcel) → Goes morsels.schema (Some present) → GivesParcel present parcel after
+    → done + after.given ≤ most_answer_rows → GivesParcel (joined_stream morsels answered true (Some present) done None) parcel (joined_stream morsels answered true (Some after) done None)
+gives_present morsels answered done present after parcel goes gives within =
     let before = joined_stream morsels answered true (Some present) done None in
     let behind = joined_stream morsels answered true (Some after) done None in
     record {
       rows = gives.rows;
       said = λ payloads given so.
-          said_as after behind gives.begun refl (gives.schema ∙ goes.0) (payloads ++ payload ∷ []) (given ++ gives.rows)
+          said_as after behind gives.begun refl (gives.schema ∙ goes.0) (payloads ++ parcel) (given ++ gives.rows)
           (gives.said payloads given (said_as before present refl goes.1 (sym goes.0) payloads given so));
       left = sym (append_assoc gives.rows after.left (rest_of morsels answered)) ∙ ap (λ (rows : List Row). rows ++ rest_of morsels answered) gives.left;
       counted = omega (arith, gives.counted);
@@ -86,8 +87,8 @@ gives_present morsels answered done present after payload goes gives within =
     }
 
 -- the present morsel goes on
-still_goes : (schema : Schema) (present after : StreamAt) (payload : Payload) → Goes schema (Some present) → GivesPayload present payload after → Goes schema (Some after)
-still_goes schema present after payload goes gives = (gives.schema ∙ goes.0, gives.begun, gives.refused)
+still_goes : (schema : Schema) (present after : StreamAt) (parcel : Parcel) → Goes schema (Some present) → GivesParcel present parcel after → Goes schema (Some after)
+still_goes schema present after parcel goes gives = (gives.schema ∙ goes.0, gives.begun, gives.refused)
 
 -- what refuses a morsel that is counted refuses the stream
 refuses_counted : (patience : Patience) (morsels : MorselsAt) (answered done : ℕ) (present : StreamAt) (fault : Fault) → GivesCounted patience present done (Err fault) present → MayRefuse (joined_stream morsels answered true (Some present) done None) fault
@@ -111,11 +112,11 @@ module _ (patience : Patience) (morsels : MorselsAt) (answered done : ℕ) where
   pub present_none : (present next : Option StreamAt) → present ≡ None → next ≡ None → done + given_of present ≤ most_answer_rows → GivesPresent patience morsels answered present done (Ok End) next done
   present_none present next none too few = rw (none, too) (refl, omega (arith, rw none at few), refl)
 
-  -- a payload of it
-  pub present_payload : (present after : StreamAt) (payload : Payload) → Goes morsels.schema (Some present) → GivesCounted patience present done (Ok (Given payload)) after
-      → GivesPresent patience morsels answered (Some present) done (Ok (Given payload)) (Some after) done
-  present_payload present after payload goes gives =
-      (gives_present morsels answered done present after payload goes gives.0 gives.1, still_goes morsels.schema present after payload goes gives.0, gives.1)
+  -- a parcel of it
+  pub present_parcel : (present after : StreamAt) (parcel : Parcel) → Goes morsels.schema (Some present) → GivesCounted patience present done (Ok (Given parcel)) after
+      → GivesPresent patience morsels answered (Some present) done (Ok (Given parcel)) (Some after) done
+  present_parcel present after parcel goes gives =
+      (gives_present morsels answered done present after parcel goes gives.0 gives.1, still_goes morsels.schema present after parcel goes gives.0, gives.1)
 
   -- it gives nothing yet
   pub present_working : (present after : StreamAt) → GivesCounted patience present done (Ok Working) after
@@ -165,14 +166,14 @@ module _ (patience : Patience) (morsels : MorselsAt) (done first now : ℕ) (sto
     with_next : joined_stream morsels (now + 1) true (Some part) done None ≡ joined_stream morsels first true None done None
     with_next = ap (λ (s : StreamAt). joined_stream morsels (now + 1) true (Some s) done None) is ∙ sym (next_present morsels now done there) ∙ stood
 
-    -- a payload of it
-    pub later_payload : (after : StreamAt) (payload : Payload) (next : ℕ) → next ≡ now + 1 → GivesCounted patience part done (Ok (Given payload)) after → GivesJoined patience morsels first None done (Ok (Given payload)) next (Some after) done
-    later_payload after payload next more gives =
+    -- a parcel of it
+    pub later_parcel : (after : StreamAt) (parcel : Parcel) (next : ℕ) → next ≡ now + 1 → GivesCounted patience part done (Ok (Given parcel)) after → GivesJoined patience morsels first None done (Ok (Given parcel)) next (Some after) done
+    later_parcel after parcel next more gives =
         let goes : Goes morsels.schema (Some part) = fresh_goes morsels now part is in
-        let one : GivesPayload (joined_stream morsels (now + 1) true (Some part) done None) payload (joined_stream morsels (now + 1) true (Some after) done None) = gives_present morsels (now + 1) done part after payload goes gives.0 gives.1 in
-        let all : GivesPayload (joined_stream morsels first true None done None) payload (joined_stream morsels (now + 1) true (Some after) done None) =
-        subst (λ (s : StreamAt). GivesPayload s payload (joined_stream morsels (now + 1) true (Some after) done None)) with_next one in
-        subst (λ (k : ℕ). GivesJoined patience morsels first None done (Ok (Given payload)) k (Some after) done) (sym more) (all, still_goes morsels.schema part after payload goes gives.0, gives.1)
+        let one : GivesParcel (joined_stream morsels (now + 1) true (Some part) done None) parcel (joined_stream morsels (now + 1) true (Some after) done None) = gives_present morsels (now + 1) done part after parcel goes gives.0 gives.1 in
+        let all : GivesParcel (joined_stream morsels first true None done None) parcel (joined_stream morsels (now + 1) true (Some after) done None) =
+        subst (λ (s : StreamAt). GivesParcel s parcel (joined_stream morsels (now + 1) true (Some after) done None)) with_next one in
+        subst (λ (k : ℕ). GivesJoined patience morsels first None done (Ok (Given parcel)) k (Some after) done) (sym more) (all, still_goes morsels.schema part after parcel goes gives.0, gives.1)
 
     -- nothing of it yet
     pub later_waits : (after : StreamAt) (next : ℕ) → next ≡ now + 1 → done ≤ most_answer_rows → GivesCounted patience part done (Ok Working) after → GivesJoined patience morsels first None done (Ok Working) next (Some after) done
@@ -198,20 +199,20 @@ module _ (patience : Patience) (morsels : MorselsAt) (done first now : ℕ) (sto
 -- ---- a call
 
 -- what a stream gives, by another name of it
-pub joined_as : (patience : Patience) (morsels : MorselsAt) (answered done all now last : ℕ) (one other next : Option StreamAt) (result : Result (Turn Payload) Fault)
+pub joined_as : (patience : Patience) (morsels : MorselsAt) (answered done all now last : ℕ) (one other next : Option StreamAt) (result : Result (Turn Parcel) Fault)
     → joined_stream morsels answered true one done None ≡ joined_stream morsels answered true other all None
     → GivesJoined patience morsels answered one done result now next last → GivesJoined patience morsels answered other all result now next last
-joined_as patience morsels answered done all now last one other next (Ok (Given payload)) same gives =
-    (subst (λ (s : StreamAt). GivesPayload s payload (joined_stream morsels now true next last None)) same gives.0, gives.1, gives.2)
+joined_as patience morsels answered done all now last one other next (Ok (Given parcel)) same gives =
+    (subst (λ (s : StreamAt). GivesParcel s parcel (joined_stream morsels now true next last None)) same gives.0, gives.1, gives.2)
 joined_as patience morsels answered done all now last one other next (Ok Working) same gives = (gives.0 ∙ same, gives.1, gives.2, gives.3)
 joined_as patience morsels answered done all now last one other next (Ok End) same gives =
     (sym (ap (λ (s : StreamAt). s.left) same) ∙ gives.0, gives.1 ∙ same, gives.2, gives.3)
 joined_as patience morsels answered done all now last one other next (Err fault) same gives = subst (λ (s : StreamAt). MayRefuse s fault) same gives
 
 -- what the present morsel gives is what the stream gives
-pub joined_present : (patience : Patience) (morsels : MorselsAt) (answered done all : ℕ) (present next : Option StreamAt) (payload : Payload) → GivesPresent patience morsels answered present done (Ok (Given payload)) next all
-    → GivesJoined patience morsels answered present done (Ok (Given payload)) answered next all
-joined_present patience morsels answered done all present next payload gives = gives
+pub joined_present : (patience : Patience) (morsels : MorselsAt) (answered done all : ℕ) (present next : Option StreamAt) (parcel : Parcel) → GivesPresent patience morsels answered present done (Ok (Given parcel)) next all
+    → GivesJoined patience morsels answered present done (Ok (Given parcel)) answered next all
+joined_present patience morsels answered done all present next parcel gives = gives
 
 -- where it gives nothing yet, neither does the stream
 pub joined_working : (patience : Patience) (morsels : MorselsAt) (answered done all : ℕ) (present next : Option StreamAt) → Goes morsels.schema present → done + given_of present ≤ most_answer_rows
@@ -219,33 +220,33 @@ pub joined_working : (patience : Patience) (morsels : MorselsAt) (answered done 
 joined_working patience morsels answered done all present next goes few gives =
     rw (gives.0, gives.1) (refl, goes, few, gives.2)
 
--- no morsel was answered, and no payload given
+-- no morsel was answered, and no parcel given
 pub begins : (morsels : MorselsAt) → joined_stream morsels 0 morsels.begun None 0 None ≡ whole_stream morsels
 begins morsels = refl
 
--- the first payload
-pub first_joined : (patience : Patience) (morsels : MorselsAt) (answered done : ℕ) (begun : Bool) (present : Option StreamAt) (given : Turn Payload) → begun ≡ false → done + given_of present ≡ 0 → GivesFirst morsels.schema (Ok given)
+-- the first parcel
+pub first_joined : (patience : Patience) (morsels : MorselsAt) (answered done : ℕ) (begun : Bool) (present : Option StreamAt) (given : Turn Parcel) → begun ≡ false → done + given_of present ≡ 0 → GivesFirst morsels.schema (Ok given)
     → GivesTurn patience (joined_stream morsels answered begun present done None) (Ok given) (joined_stream morsels answered true present done None)
 first_joined patience morsels answered done begun present Working first zero says = absurd says
 first_joined patience morsels answered done begun present End first zero says = absurd says
-first_joined patience morsels answered done true present (Given payload) first zero says = absurd cc
-first_joined patience morsels answered done false present (Given payload) first zero says = by (done + given_of present) zero
+first_joined patience morsels answered done true present (Given parcel) first zero says = absurd cc
+first_joined patience morsels answered done false present (Given parcel) first zero says = by (done + given_of present) zero
   where
-    by : (count : ℕ) → count ≡ 0 → GivesPayload (record { schema = morsels.schema; begun = false; left = left_of present ++ rest_of morsels answered; given = count; refused = None }) payload
+    by : (count : ℕ) → count ≡ 0 → GivesParcel (record { schema = morsels.schema; begun = false; left = left_of present ++ rest_of morsels answered; given = count; refused = None }) parcel
         (record { schema = morsels.schema; begun = true; left = left_of present ++ rest_of morsels answered; given = count; refused = None })
-    by count none = rw none (says (left_of present ++ rest_of morsels answered))
+    by count none = rw (none, says.1) (says.2 (left_of present ++ rest_of morsels answered))
 
 -- a later one
-pub next_joined : (patience : Patience) (morsels : MorselsAt) (answered done now all : ℕ) (begun : Bool) (present next : Option StreamAt) (given : Turn Payload) → begun ≡ true → GivesJoined patience morsels answered present done (Ok given) now next all
+pub next_joined : (patience : Patience) (morsels : MorselsAt) (answered done now all : ℕ) (begun : Bool) (present next : Option StreamAt) (given : Turn Parcel) → begun ≡ true → GivesJoined patience morsels answered present done (Ok given) now next all
     → GivesTurn patience (joined_stream morsels answered begun present done None) (Ok given) (joined_stream morsels now true next all None)
 next_joined patience morsels answered done now all false present next given on gives = absurd cc
-next_joined patience morsels answered done now all true present next (Given payload) on gives = gives.0
+next_joined patience morsels answered done now all true present next (Given parcel) on gives = gives.0
 next_joined patience morsels answered done now all true present next Working on gives = (refl, gives.0, gives.3)
 next_joined patience morsels answered done now all true present next End on gives = (refl, gives.0, gives.1)
 
 -- where a stream stands behind a call
-pub stands_on : (patience : Patience) (morsels : MorselsAt) (answered done now all : ℕ) (present next : Option StreamAt) (given : Turn Payload) (refused : Option Fault) → GivesJoined patience morsels answered present done (Ok given) now next all
+pub stands_on : (patience : Patience) (morsels : MorselsAt) (answered done now all : ℕ) (present next : Option StreamAt) (given : Turn Parcel) (refused : Option Fault) → GivesJoined patience morsels answered present done (Ok given) now next all
     → IsJoined morsels true next all refused
-stands_on patience morsels answered done now all present next (Given payload) refused gives = record { goes = λ e. gives.1; few = λ e. gives.2; first = λ e. absurd cc }
+stands_on patience morsels answered done now all present next (Given parcel) refused gives = record { goes = λ e. gives.1; few = λ e. gives.2; first = λ e. absurd cc }
 stands_on patience morsels answered done now all present next Working refused gives = record { goes = λ e. gives.1; few = λ e. gives.2; first = λ e. absurd cc }
 stands_on patience morsels answered done now all present next End refused gives = record { goes = λ e. gives.2; few = λ e. gives.3; first = λ e. absurd cc }

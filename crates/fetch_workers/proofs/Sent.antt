@@ -1,4 +1,4 @@
--- The morsels of a stream, and the payloads that are made ahead of one, may cross threads: each of their parts may. The tree of types
+-- The morsels of a stream, and the parcels that are made ahead of one, may cross threads: each of their parts may. The tree of types
 -- is too deep for one search, so each type that holds a recursive one has a lemma here; the others have one that is generated.
 use denote.Builtin.{usize}
 use denote.Param.Send.{IsSend, IsSync, sendable}
@@ -108,4 +108,4 @@ source_send : IsSend (source.the_field).row
 source_send = let a = scan_send in let b = schema.the_field_send in search (sendable, crosses) depth 20
 
 pub stream_send : IsSend (stream.the_field).row
-stream_send = let a = source_send in let b = cutter.the_field_send in let c = fault.the_field_send in search (sendable, crosses) depth 20
+stream_send = let a = source_send in let b = cutter.the_field_send in let c = fault.the_field_send in let d = seed.the_field_send in search (sendable, crosses) depth 20

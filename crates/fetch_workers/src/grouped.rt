@@ -2,7 +2,7 @@
 
 ghost use Rattle.std.specs.Prelude.{◌≡◌};
 
-use fetch_stream::{FetchStream, Payload, Payloads, ReadsPayloads};
+use fetch_stream::{FetchStream, Parcel, Payloads, ReadsPayloads};
 use group_workers::GroupWorkers;
 use row_sources::{Patience, Turn};
 use scan_base::Fault;
@@ -30,11 +30,11 @@ impl<'g, G: GroupsBatches> GroupedStream<'g, G> {
 impl<'g, G: GroupsBatches> Payloads for GroupedStream<'g, G> {
     ghost stream = { λ s. s.stream };
 
-    fn next(&mut self, alloc: Global) -> Result<Option<Payload>, Fault> {
+    fn next(&mut self, alloc: Global) -> Result<Option<Parcel>, Fault> {
         self.stream.next_by(alloc, self.by)
     }
 
-    fn turn(&mut self, alloc: Global, patience: Patience) -> Result<Turn<Payload>, Fault> {
+    fn turn(&mut self, alloc: Global, patience: Patience) -> Result<Turn<Parcel>, Fault> {
         let by = self.by;
         self.stream.turn_by(alloc, Making { by, patience })
     }

@@ -9,7 +9,7 @@ ghost use Rattle.fetch_workers.specs.inside.Coming.{ComesIn};
 ghost use Rattle.fetch_workers.specs.inside.Joined.{AnswersMorsels, GivesCounted, GivesFirst, GivesJoined, GivesPresent, Goes, given_of};
 
 use crate::part::Part;
-use fetch_stream::{Morsels, Payload, Payloads};
+use fetch_stream::{Morsels, Parcel, Payloads};
 use row_sources::{Looking, Patience, Turn};
 use scan_base::Fault;
 use scan_workers::{Answers, NextAnswer};
@@ -51,15 +51,15 @@ impl<'x, 'a, A: Part, P: Answers<A>> Model for Joined<'x, 'a, A, P> {
 impl<'x, 'a, A: Part, P: Answers<A>> Payloads for Joined<'x, 'a, A, P> {
     ghost stream = { λ s. s };
 
-    fn next(&mut self, alloc: Global) -> Result<Option<Payload>, Fault> {
+    fn next(&mut self, alloc: Global) -> Result<Option<Parcel>, Fault> {
         match self.turn(alloc, Patience::Endless)? {
-            Turn::Given(payload) => Ok(Some(payload)),
+            Turn::Given(parcel) => Ok(Some(parcel)),
             Turn::Working => Ok(None),
             Turn::End => Ok(None),
         }
     }
 
-    fn turn(&mut self, alloc: Global, patience: Patience) -> Result<Turn<Payload>, Fault> {
+    fn turn(&mut self, alloc: Global, patience: Patience) -> Result<Turn<Parcel>, Fault> {
         if let Some(fault) = self.refused {
             return Err(fault);
         }
@@ -67,7 +67,7 @@ impl<'x, 'a, A: Part, P: Answers<A>> Payloads for Joined<'x, 'a, A, P> {
             let looking = Looking { alloc, patience };
             turn_of_rows(&looking, self.answers, &mut self.present, &mut self.done)
         } else {
-            first_payload(alloc, self.morsels)
+            first_parcel(alloc, self.morsels)
         };
         match &given {
             Ok(_) => self.begun = true,
@@ -78,10 +78,11 @@ impl<'x, 'a, A: Part, P: Answers<A>> Payloads for Joined<'x, 'a, A, P> {
 }
 
 // The payload of the schema, as the first one.
-fn first_payload(alloc: Global, morsels: &Morsels<'_>) -> Result<Turn<Payload>, Fault>
+fn first_parcel(alloc: Global, morsels: &Morsels<'_>) -> Result<Turn<Parcel>, Fault>
     ensures { GivesFirst morsels.now.schema result }
 {
-    Ok(Turn::Given(morsels.first_payload(alloc)?))
+    let only = morsels.first_payload(alloc)?;
+    Ok(Turn::Given(Parcel::one(alloc, only)?))
 }
 
 // For how many rows a turn of one morsel has patience.
@@ -104,24 +105,24 @@ fn is_over(patience: Patience, ended: usize) -> bool
     }
 }
 
-// A turn to the next payload of a morsel, where those before it had so many rows. The rows of all are counted as they are taken of
-// the scan, so that an answer of too many rows is refused before the first payload of the batch that has them.
+// A turn to the next parcel of a morsel, where those before it had so many rows. The rows of all are counted as they are taken of
+// the scan, so that an answer of too many rows is refused before the first parcel of the batch that has them.
 fn turn_counted<A: Part>(
     looking: &Looking,
     part: &mut A,
     done: usize,
-) -> Result<Turn<Payload>, Fault>
+) -> Result<Turn<Parcel>, Fault>
     requires begun { (A.stream part.old).begun ≡ true }
     requires going { (A.stream part.old).refused ≡ None }
     requires few { done + (A.stream part.old).given ≤ most_answer_rows }
     ensures { GivesCounted looking.now.patience (A.stream part.old) done result (A.stream part.new) }
 {
     match part.turn(looking.alloc, of_morsel(looking.patience)) {
-        Ok(Turn::Given(payload)) => {
+        Ok(Turn::Given(parcel)) => {
             if part.taken() > MAX_ANSWER_ROWS - done {
                 return Err(Fault::ResultTooLarge);
             }
-            Ok(Turn::Given(payload))
+            Ok(Turn::Given(parcel))
         }
         Ok(Turn::Working) => Ok(Turn::Working),
         Ok(Turn::End) => Ok(Turn::End),
@@ -129,12 +130,12 @@ fn turn_counted<A: Part>(
     }
 }
 
-// A turn to the next payload of the present morsel, if there is one. Behind its last one none is present, and its rows are counted.
+// A turn to the next parcel of the present morsel, if there is one. Behind its last one none is present, and its rows are counted.
 fn turn_of_present<A: Part>(
     looking: &Looking,
     present: &mut Option<A>,
     done: &mut usize,
-) -> Result<Turn<Payload>, Fault>
+) -> Result<Turn<Parcel>, Fault>
     requires goes { (schema : Schema) × Goes schema (option_map A.stream present.old) }
     requires few { done.old + given_of (option_map A.stream present.old) ≤ most_answer_rows }
     ensures { (morsels : MorselsAt) (answered : ℕ) → Goes morsels.schema (option_map A.stream present.old) →
@@ -144,7 +145,7 @@ fn turn_of_present<A: Part>(
         return Ok(Turn::End);
     };
     match turn_counted(looking, part, *done) {
-        Ok(Turn::Given(payload)) => Ok(Turn::Given(payload)),
+        Ok(Turn::Given(parcel)) => Ok(Turn::Given(parcel)),
         Ok(Turn::Working) => Ok(Turn::Working),
         Ok(Turn::End) => {
             *done += part.given();
@@ -171,14 +172,14 @@ fn next_answer<A, P: Answers<A>>(patience: Patience, answers: &mut P) -> NextAns
     }
 }
 
-// A turn to the next payload of the morsels that are still to be answered, if there is one. The morsel of which it is one is
+// A turn to the next parcel of the morsels that are still to be answered, if there is one. The morsel of which it is one is
 // present then.
 fn turn_of_later<A: Part, P: Answers<A>>(
     looking: &Looking,
     answers: &mut P,
     present: &mut Option<A>,
     done: usize,
-) -> Result<Turn<Payload>, Fault>
+) -> Result<Turn<Parcel>, Fault>
     requires ready { P.ready answers.old }
     requires right { (morsels : MorselsAt) × AnswersMorsels A.stream morsels P.right (P.count answers.old) }
     requires none { option_map A.stream present.old ≡ None }
@@ -196,9 +197,9 @@ fn turn_of_later<A: Part, P: Answers<A>>(
             NextAnswer::End => return Ok(Turn::End),
         };
         match turn_counted(looking, &mut part, done) {
-            Ok(Turn::Given(payload)) => {
+            Ok(Turn::Given(parcel)) => {
                 *present = Some(part);
-                return Ok(Turn::Given(payload));
+                return Ok(Turn::Given(parcel));
             }
             Ok(Turn::Working) => {
                 *present = Some(part);
@@ -215,14 +216,14 @@ fn turn_of_later<A: Part, P: Answers<A>>(
     }
 }
 
-// A turn to the payload of the next rows: of the present morsel, or of the first one behind it that has rows. `done` rows were
+// A turn to the parcel of the next rows: of the present morsel, or of the first one behind it that has rows. `done` rows were
 // those of the morsels before the present one.
 fn turn_of_rows<A: Part, P: Answers<A>>(
     looking: &Looking,
     answers: &mut P,
     present: &mut Option<A>,
     done: &mut usize,
-) -> Result<Turn<Payload>, Fault>
+) -> Result<Turn<Parcel>, Fault>
     requires ready { P.ready answers.old }
     requires right { (morsels : MorselsAt) × AnswersMorsels A.stream morsels P.right (P.count answers.old) × Goes morsels.schema (option_map A.stream present.old) }
     requires few { done.old + given_of (option_map A.stream present.old) ≤ most_answer_rows }
@@ -232,7 +233,7 @@ fn turn_of_rows<A: Part, P: Answers<A>>(
         GivesJoined looking.now.patience morsels (P.given answers.old) (option_map A.stream present.old) done.old result (P.given answers.new) (option_map A.stream present.new) done.new }
 {
     match turn_of_present(looking, present, done) {
-        Ok(Turn::Given(payload)) => Ok(Turn::Given(payload)),
+        Ok(Turn::Given(parcel)) => Ok(Turn::Given(parcel)),
         Ok(Turn::Working) => Ok(Turn::Working),
         Ok(Turn::End) => turn_of_later(looking, answers, present, *done),
         Err(fault) => Err(fault),

@@ -1,6 +1,6 @@
 //! The payloads of one morsel.
 
-use fetch_stream::{Ahead, Payload};
+use fetch_stream::{Ahead, Parcel};
 use row_sources::{Patience, Turn};
 use scan_base::Fault;
 use std::alloc::Global;
@@ -13,8 +13,8 @@ pub(crate) trait Part: Drop {
     // What is still to come of it.
     ghost stream: { Self → StreamAt };
 
-    // A turn to the next payload.
-    fn turn(&mut self, alloc: Global, patience: Patience) -> Result<Turn<Payload>, Fault>
+    // A turn to the next parcel.
+    fn turn(&mut self, alloc: Global, patience: Patience) -> Result<Turn<Parcel>, Fault>
         ensures { GivesTurn patience (stream self.old) result (stream self.new) };
 
     // How many rows were given.
@@ -30,7 +30,7 @@ pub(crate) trait Part: Drop {
 impl<'s> Part for Ahead<'s> {
     ghost stream = { λ s. s };
 
-    fn turn(&mut self, alloc: Global, patience: Patience) -> Result<Turn<Payload>, Fault> {
+    fn turn(&mut self, alloc: Global, patience: Patience) -> Result<Turn<Parcel>, Fault> {
         Ahead::turn(self, alloc, patience)
     }
 

@@ -1,6 +1,6 @@
 -- A stream as it is sent.
 use Rattle.std.proofs.Common.{◌≡◌, ◌≤◌, ℕ, zero, suc, arith, true, List, [], ◌∷◌, ◌++◌, length, Option, Some, None, Result, Ok, Err, inl, refl, sym, ap, subst, ◌∙◌, append_assoc, append-nil}
-use Rattle.std.proofs.lemmas.List.Elements.{All-append, All-cons, All-nil}
+use Rattle.std.proofs.lemmas.List.Elements.{All-append, All-nil}
 use Rattle.scan_base.specs.declared.fault.Fault.{Fault}
 use Rattle.scan_base.specs.declared.fault.Fault.TheVariants.{OutOfMemory}
 use Rattle.scan_base.specs.Limits.{most_message_bytes}
@@ -15,13 +15,13 @@ use Rattle.flight_info.specs.Payloads.{Payload, FitMessages}
 use Rattle.flight_info.specs.Replies.{ReplyAt}
 use Rattle.fetch_stream.specs.Fetches.{FetchAt}
 use Rattle.fetch_stream.specs.Morsels.{GivesSchema, before_schema, behind_schema}
-use Rattle.fetch_stream.specs.Streams.{StreamAt, Opens, Gives, GivesPayload, HasGiven, MayRefuse, StreamsAnswer}
+use Rattle.fetch_stream.specs.Streams.{StreamAt, Opens, Parcel, Gives, GivesParcel, HasGiven, MayRefuse, StreamsAnswer}
 use Rattle.fetch_stream.proofs.Answering.{gave, ended, was_refused}
 use Rattle.row_sources.specs.declared.turn.Patience.{Patience}
 use Rattle.row_sources.specs.declared.turn.Patience.TheVariants.{Endless}
 use Rattle.std.specs.Prelude.{◌≢◌}
 use Rattle.flight_calls.specs.Answered.{SendsReply, SendsRest}
-use Rattle.flight_calls.proofs.Writing.{messages_bytes, none_sent, nothing_sent, nothing_not_sent, payload_sent, payload_not_sent, rest_sent, status_sent}
+use Rattle.flight_calls.proofs.Writing.{messages_bytes, none_sent, nothing_sent, nothing_not_sent, parcel_sent, parcel_not_sent, rest_sent, status_sent}
 
 -- what a stream has given was sent
 pub record HasSent (first stream : StreamAt) (a b : Option (List ℕ)) (before after : List ℕ) : Type 0 where
@@ -44,13 +44,6 @@ both_fit : (payloads more : List Payload) → FitMessages payloads → FitMessag
 unfolding FitMessages
 both_fit payloads more all rest = All-append (λ (p : Payload). length p ≤ most_message_bytes) payloads more all rest
 
-one_fits : (payloads : List Payload) (payload : Payload) → FitMessages payloads → length payload ≤ most_message_bytes → FitMessages (payloads ++ payload ∷ [])
-unfolding FitMessages
-one_fits payloads payload all one = All-append Fits payloads (payload ∷ []) all (All-cons Fits payload [] one (All-nil Fits))
-  where
-    Fits : Payload → Type 0
-    Fits p = length p ≤ most_message_bytes
-
 no_payloads : FitMessages []
 unfolding FitMessages
 no_payloads = All-nil (λ (p : Payload). length p ≤ most_message_bytes)
@@ -65,37 +58,48 @@ module _ (law : StreamsAnswer) where
     sent = none_sent a before;
   }
 
-  -- one payload more was given
-  more_given : (answer : Table) (earlier payloads : List Payload) (stream next : StreamAt) (payload : Payload) → HasGiven answer (earlier ++ payloads) stream → GivesPayload stream payload next
-      → HasGiven answer (earlier ++ (payloads ++ payload ∷ [])) next
-  more_given answer earlier payloads stream next payload has one =
-      subst (λ (p : List Payload). HasGiven answer p next) (append_assoc earlier payloads (payload ∷ [])) (law.go_on answer (earlier ++ payloads) stream next payload has one)
+  -- one parcel more was given
+  more_given : (answer : Table) (earlier payloads : List Payload) (stream next : StreamAt) (parcel : Parcel) → HasGiven answer (earlier ++ payloads) stream → GivesParcel stream parcel next
+      → HasGiven answer (earlier ++ (payloads ++ parcel)) next
+  more_given answer earlier payloads stream next parcel has one =
+      subst (λ (p : List Payload). HasGiven answer p next) (append_assoc earlier payloads parcel) (law.go_on answer (earlier ++ payloads) stream next parcel has one)
 
   -- and sent
-  pub stream_goes_on : (first stream next : StreamAt) (payload : Payload) (a b c : Option (List ℕ)) (before mid after : List ℕ) → HasSent first stream a b before mid → Gives stream (Ok (Some payload)) next
-      → Sent b c mid after (spelling (Message payload)) → HasSent first next a c before after
-  stream_goes_on first stream next payload a b c before mid after has gives more =
-      let one = gave stream next payload gives in
+  pub parcel_goes_on : (first stream next : StreamAt) (parcel : Parcel) (a b c : Option (List ℕ)) (before mid after : List ℕ) → HasSent first stream a b before mid → Gives stream (Ok (Some parcel)) next
+      → Sent b c mid after (messages_bytes parcel) → HasSent first next a c before after
+  parcel_goes_on first stream next parcel a b c before mid after has gives more =
+      let one = gave stream next parcel gives in
       record {
-        payloads = has.payloads ++ payload ∷ [];
-        given = λ answer earlier at. more_given answer earlier has.payloads stream next payload (has.given answer earlier at) one;
+        payloads = has.payloads ++ parcel;
+        given = λ answer earlier at. more_given answer earlier has.payloads stream next parcel (has.given answer earlier at) one;
         going = λ none. one.refused;
-        fits = one_fits has.payloads payload has.fits one.fits;
-        sent = payload_sent a b c before mid after has.payloads payload has.sent more;
+        fits = both_fit has.payloads parcel has.fits one.fits;
+        sent = parcel_sent a b c before mid after has.payloads parcel has.sent more;
       }
 
   -- or not: what went before it and it are a beginning of an answer that memory cut short
-  pub stream_fails : (fault : Fault) (first stream next : StreamAt) (payload : Payload) (a b c : Option (List ℕ)) (before mid after : List ℕ) → HasSent first stream a b before mid
-      → Gives stream (Ok (Some payload)) next → NotSent b c mid after (spelling (Message payload)) → SendsRest first (Err fault) a c before after
-  stream_fails fault first stream next payload a b c before mid after has gives failed database handle answer earlier means at none =
-      let one = gave stream next payload gives in
-      let all = more_given answer earlier has.payloads stream next payload (has.given answer earlier at) one in
+  pub parcel_fails : (fault : Fault) (first stream next : StreamAt) (parcel : Parcel) (a b c : Option (List ℕ)) (before mid after : List ℕ) → HasSent first stream a b before mid
+      → Gives stream (Ok (Some parcel)) next → NotSent b c mid after (messages_bytes parcel) → SendsRest first (Err fault) a c before after
+  parcel_fails fault first stream next parcel a b c before mid after has gives failed database handle answer earlier means at none =
+      let one = gave stream next parcel gives in
+      let all = more_given answer earlier has.payloads stream next parcel (has.given answer earlier at) one in
       record {
-        reply = record { payloads = has.payloads ++ payload ∷ []; fault = Some OutOfMemory };
-        right = law.refused database handle answer (earlier ++ (has.payloads ++ payload ∷ [])) next OutOfMemory means all (inl refl);
-        fits = one_fits has.payloads payload has.fits one.fits;
-        sent = payload_not_sent a b c before mid after has.payloads payload (status_of (Some OutOfMemory)) has.sent failed;
+        reply = record { payloads = has.payloads ++ parcel; fault = Some OutOfMemory };
+        right = law.refused database handle answer (earlier ++ (has.payloads ++ parcel)) next OutOfMemory means all (inl refl);
+        fits = both_fit has.payloads parcel has.fits one.fits;
+        sent = parcel_not_sent a b c before mid after has.payloads parcel (status_of (Some OutOfMemory)) has.sent failed;
       }
+
+  -- the same of one payload alone
+  pub stream_goes_on : (first stream next : StreamAt) (payload : Payload) (a b c : Option (List ℕ)) (before mid after : List ℕ) → HasSent first stream a b before mid → Gives stream (Ok (Some (payload ∷ []))) next
+      → Sent b c mid after (spelling (Message payload)) → HasSent first next a c before after
+  stream_goes_on first stream next payload a b c before mid after has gives more =
+      parcel_goes_on first stream next (payload ∷ []) a b c before mid after has gives (subst (Sent b c mid after) (sym (append-nil (spelling (Message payload)))) more)
+
+  pub stream_fails : (fault : Fault) (first stream next : StreamAt) (payload : Payload) (a b c : Option (List ℕ)) (before mid after : List ℕ) → HasSent first stream a b before mid
+      → Gives stream (Ok (Some (payload ∷ []))) next → NotSent b c mid after (spelling (Message payload)) → SendsRest first (Err fault) a c before after
+  stream_fails fault first stream next payload a b c before mid after has gives failed =
+      parcel_fails fault first stream next (payload ∷ []) a b c before mid after has gives (subst (NotSent b c mid after) (sym (append-nil (spelling (Message payload)))) failed)
 
   -- nothing more was sent
   pub stream_waits : (first stream next : StreamAt) (a b c : Option (List ℕ)) (before mid after : List ℕ) → HasSent first stream a b before mid → next ≡ stream
@@ -166,8 +170,8 @@ abbrev fresh : StreamAt → StreamAt
 fresh stream = before_schema stream.schema stream.left
 
 -- its first payload
-pub first_given : (stream : StreamAt) (payload : Payload) → stream ≡ fresh stream → GivesSchema stream.schema (Ok payload) → Gives stream (Ok (Some payload)) (behind_schema stream.schema stream.left)
-first_given stream payload is gives = subst (λ (s : StreamAt). Gives s (Ok (Some payload)) (behind_schema stream.schema stream.left)) (sym is) (gives stream.left)
+pub first_given : (stream : StreamAt) (payload : Payload) → stream ≡ fresh stream → GivesSchema stream.schema (Ok payload) → Gives stream (Ok (Some (payload ∷ []))) (behind_schema stream.schema stream.left)
+first_given stream payload is gives = subst (λ (s : StreamAt). Gives s (Ok (Some (payload ∷ []))) (behind_schema stream.schema stream.left)) (sym is) (gives stream.left)
 
 -- the stream behind it
 pub made_behind : (stream made last : StreamAt) → stream ≡ fresh stream → made ≡ stream → last ≡ record made { begun = true } → last ≡ behind_schema stream.schema stream.left

@@ -83,20 +83,47 @@ unfolding FitMessages
 each_fits payloads i payload inside is fits =
     subst (λ (p : Payload). length p ≤ 16777216) (sym is) (All-get_or (λ (p : Payload). length p ≤ 16777216) payloads i payload inside fits)
 
--- ---- a stream
+-- ---- parcels
 
--- one payload more was sent
-pub payload_sent : (a b c : Option (List ℕ)) (before mid after : List ℕ) (payloads : List Payload) (payload : Payload)
-    → Sent a b before mid (messages_bytes payloads) → Sent b c mid after (spelling (Message payload)) → Sent a c before after (messages_bytes (payloads ++ payload ∷ []))
-payload_sent a b c before mid after payloads payload sent more =
-    subst (Sent a c before after) (sym (bytes_more payloads payload)) (both_sent a b c before mid after (messages_bytes payloads) (spelling (Message payload)) sent more)
+-- the payloads of a parcel before one, that one, and the rest
+record CutParcel (parcel : List Payload) (i : ℕ) (payload : Payload) : Type 0 where
+  rest : List ℕ
+  whole : messages_bytes parcel ≡ messages_bytes (take i parcel) ++ (spelling (Message payload) ++ rest)
+
+cut_parcel : (parcel : List Payload) (i : ℕ) (payload : Payload) → i < length parcel → payload ≡ get_or parcel i payload → CutParcel parcel i payload
+cut_parcel parcel i payload inside is =
+    let parts : parcel ≡ take i parcel ++ (payload ∷ drop (i + 1) parcel) =
+    sym (take-append-drop i parcel) ∙ ap (λ l. take i parcel ++ l) (drop_more parcel i payload inside ∙ ap (λ (p : Payload). p ∷ drop (i + 1) parcel) (sym is)) in
+    record {
+      rest = messages_bytes (drop (i + 1) parcel);
+      whole = ap messages_bytes parts ∙ ap (flat_map spelling) (map-append Message (take i parcel) (payload ∷ drop (i + 1) parcel))
+          ∙ flat_map-append spelling (map Message (take i parcel)) (map Message (payload ∷ drop (i + 1) parcel));
+    }
+
+-- one of them was not sent
+pub parcel_stopped : (a b c : Option (List ℕ)) (before mid after : List ℕ) (parcel : List Payload) (i : ℕ) (payload : Payload) → i < length parcel → payload ≡ get_or parcel i payload
+    → Sent a b before mid (messages_bytes (take i parcel)) → NotSent b c mid after (spelling (Message payload)) → NotSent a c before after (messages_bytes parcel)
+parcel_stopped a b c before mid after parcel i payload inside is sent failed =
+    let at = cut_parcel parcel i payload inside is in
+    rw at.whole (second_not_sent a b c before mid after (messages_bytes (take i parcel)) (spelling (Message payload) ++ at.rest) sent (head_not_sent b c mid after (spelling (Message payload)) at.rest failed))
+
+bytes_all : (payloads parcel : List Payload) → messages_bytes (payloads ++ parcel) ≡ messages_bytes payloads ++ messages_bytes parcel
+bytes_all payloads parcel = ap (flat_map spelling) (map-append Message payloads parcel) ∙ flat_map-append spelling (map Message payloads) (map Message parcel)
+
+-- one parcel more was sent
+pub parcel_sent : (a b c : Option (List ℕ)) (before mid after : List ℕ) (payloads parcel : List Payload)
+    → Sent a b before mid (messages_bytes payloads) → Sent b c mid after (messages_bytes parcel) → Sent a c before after (messages_bytes (payloads ++ parcel))
+parcel_sent a b c before mid after payloads parcel sent more =
+    subst (Sent a c before after) (sym (bytes_all payloads parcel)) (both_sent a b c before mid after (messages_bytes payloads) (messages_bytes parcel) sent more)
 
 -- or not
-pub payload_not_sent : (a b c : Option (List ℕ)) (before mid after : List ℕ) (payloads : List Payload) (payload : Payload) (status : Record)
-    → Sent a b before mid (messages_bytes payloads) → NotSent b c mid after (spelling (Message payload)) → NotSent a c before after (answer_bytes (payloads ++ payload ∷ []) status)
-payload_not_sent a b c before mid after payloads payload status sent failed =
-    rw (status_last (payloads ++ payload ∷ []) status, bytes_more payloads payload, append_assoc (messages_bytes payloads) (spelling (Message payload)) (spelling status))
-    (second_not_sent a b c before mid after (messages_bytes payloads) (spelling (Message payload) ++ spelling status) sent (head_not_sent b c mid after (spelling (Message payload)) (spelling status) failed))
+pub parcel_not_sent : (a b c : Option (List ℕ)) (before mid after : List ℕ) (payloads parcel : List Payload) (status : Record)
+    → Sent a b before mid (messages_bytes payloads) → NotSent b c mid after (messages_bytes parcel) → NotSent a c before after (answer_bytes (payloads ++ parcel) status)
+parcel_not_sent a b c before mid after payloads parcel status sent failed =
+    rw (status_last (payloads ++ parcel) status, bytes_all payloads parcel, append_assoc (messages_bytes payloads) (messages_bytes parcel) (spelling status))
+    (second_not_sent a b c before mid after (messages_bytes payloads) (messages_bytes parcel ++ spelling status) sent (head_not_sent b c mid after (messages_bytes parcel) (spelling status) failed))
+
+-- ---- a stream
 
 -- nothing more was sent
 pub nothing_sent : (a b c : Option (List ℕ)) (before mid after : List ℕ) (payloads : List Payload)

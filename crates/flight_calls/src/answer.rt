@@ -1,6 +1,7 @@
 //! Writing the answer of a call.
 
-ghost use Rattle.std.specs.Prelude.{◌≡◌, [], Result, Ok, OnErr};
+ghost use Rattle.std.specs.Prelude.{◌≡◌, [], Result, Ok, OnErr, map};
+ghost use Rattle.std.specs.List.{flat_map};
 ghost use Rattle.scan_base.specs.declared.fault.Fault.{Fault as FaultAt};
 ghost use Rattle.grpc_frame.specs.declared.record.Record.TheVariants.{Message};
 ghost use Rattle.grpc_frame.specs.Records.{spelling};
@@ -19,7 +20,7 @@ ghost use Rattle.flight_calls.specs.Owed.{answer_bytes, last_status};
 ghost use Rattle.flight_calls.specs.Answered.{AnsweredBy, IsReplyOf, FitsMessages, WritesReply, SendsReply, SendsRest};
 
 use crate::setting::Setting;
-use fetch_stream::{Executor, FetchStream, Opening, Payload, Payloads, ReadsPayloads};
+use fetch_stream::{Executor, FetchStream, Opening, Parcel, Payload, Payloads, ReadsPayloads};
 use flight_core::Reply;
 use flight_core::laws::streams_answer;
 use grpc_frame::{Outbox, Output};
@@ -40,8 +41,8 @@ pub enum Answer {
 }
 
 /// Writes an answer: each payload in a Message, of which a large part is not copied, and then the Status. Where it is
-/// small it is one write. A payload of a stream is sent before the next one is made, and of it no more than an outbox
-/// gathers waits for the next write. Where the second one may come late (`Opening::takes_long`), the first is written at once.
+/// small it is one write. The payloads of a parcel of a stream are sent before the next one is made, and of them no more than an
+/// outbox gathers waits for the next write. Where the second parcel may come late (`Opening::takes_long`), the first is written at once.
 /// Where 1,048,576 rows were looked at without one that is given, what waits is written. Behind either the other end is looked at.
 ///
 /// # Errors
@@ -121,6 +122,24 @@ fn send_payload<W: Output>(
     outbox.send_part(writer, head)?;
     for part in parts {
         outbox.send_part(writer, part.as_slice())?;
+    }
+    Ok(())
+}
+
+// Sends the payloads of a parcel, each in a Message.
+fn send_parcel<W: Output>(
+    writer: &mut W,
+    outbox: &mut Outbox,
+    parcel: &Parcel,
+) -> Result<(), Fault>
+    requires failures { CanFail (W.failures writer.old) }
+    ensures bytes { Sends result (W.contents writer.old) (W.contents writer.new)
+        outbox.old outbox.new (flat_map spelling (map Message parcel.now)) }
+    ensures counted { CountsFailure result (W.failures writer.old) (W.failures writer.new) }
+    ensures kind { FailsByTransport result }
+{
+    for payload in parcel.payloads() {
+        send_payload(writer, outbox, payload)?;
     }
     Ok(())
 }
@@ -243,7 +262,7 @@ fn send_stream<W: Output, P: Payloads>(
     let mut looks = u64::MAX;
     loop {
         match payloads.turn(alloc, patience_of(looks)) {
-            Ok(Turn::Given(payload)) => send_payload(writer, outbox, &payload)?,
+            Ok(Turn::Given(parcel)) => send_parcel(writer, outbox, &parcel)?,
             Ok(Turn::Working) => {
                 looks -= 1;
                 outbox.look(writer)?;

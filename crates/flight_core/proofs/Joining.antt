@@ -107,7 +107,7 @@ said log told text query r rows seen fits asks f =
     let same : version f.log (puts_in log) ≡ database_of log = same_version log told seen.seat f.log f.seen.seat seen.saw seen.learnt fits f.seen.saw f.seen.learnt by.reached in
     let at : FetchAt (database_of log) h f.payloads None = subst (λ d. FetchAt d h f.payloads None) same by.at in
     let q : at.means.query ≡ query = one_sentence text at.means.query query at.means.asks.says asks.says in
-    (answers_say_one_thing say_one_thing f.payloads _ _ _ _ f.says at.said).1 ∙ ap (λ (t : Table). t.rows) at.means.is ∙ ap (λ (p : Sentence). meaning p (database_of log) r.from r.to) q
+    (answers_say_one_thing say_one_thing f.payloads _ _ _ _ f.says at.said.said).1 ∙ ap (λ (t : Table). t.rows) at.means.is ∙ ap (λ (p : Sentence). meaning p (database_of log) r.from r.to) q
 
 -- ---- all of them
 
@@ -130,7 +130,7 @@ listed log told rows seen fits f =
     let by = reaches f.log f.ticket h f.payloads f.is_handle f.reply in
     let same : version f.log (puts_in log) ≡ database_of log = same_version log told seen.seat f.log f.seen.seat seen.saw seen.learnt fits f.seen.saw f.seen.learnt by.reached in
     let at : FetchAt (database_of log) h f.payloads None = subst (λ d. FetchAt d h f.payloads None) same by.at in
-    (answers_say_one_thing say_one_thing f.payloads _ _ _ _ f.says at.said).1 ∙ ap (λ (t : Table). t.rows) at.means
+    (answers_say_one_thing say_one_thing f.payloads _ _ _ _ f.says at.said.said).1 ∙ ap (λ (t : Table). t.rows) at.means
 
 -- and it is the one stream
 list_joins : (log told : Log) (streams : List Rows) → Saw told log → puts_in log ≤ puts_in told → Pairwise (FetchedAt told) (Tables (puts_in log) ∷ []) streams

@@ -1,5 +1,5 @@
 -- A dictionary that was written is read again with the same values.
-use Rattle.std.proofs.Common.{◌≡◌, ℕ, ◌+◌, ◌==◌, ◌^◌, ◌<◌, nat_le, not, Bool, true, false, List, [], ◌∷◌, ◌++◌, length, Some, None, Result, Ok, refl, arith, ap, sym, subst, ◌∙◌, append-nil}
+use Rattle.std.proofs.Common.{◌≡◌, ℕ, ◌+◌, ◌==◌, ◌^◌, ◌<◌, ◌≤◌, nat_le, not, Bool, true, false, List, [], ◌∷◌, ◌++◌, length, Some, None, Result, Ok, refl, arith, ap, sym, subst, ◌∙◌, append-nil}
 use Rattle.std.specs.List.{list_any}
 use Rattle.std.proofs.lemmas.Bool.{eq-eqb, eqb-true, eqb-false, ne_eqb, le-leb}
 use Rattle.std.proofs.lemmas.List.{length-append}
@@ -10,9 +10,10 @@ use Rattle.scan_base.specs.declared.value.Value.{Value}
 use Rattle.scan_base.specs.Reading.{◌>>=◌, demand}
 use Rattle.scan_base.specs.Lists.{each}
 use Rattle.flatbuf.specs.Place.{scalar_of}
-use Rattle.flatbuf.specs.Block.{Part, Given, Number, Offset, given_at, table_part}
+use Rattle.flatbuf.specs.Block.{Part, Given, Number, Offset, given_at, little, table_part, buffer_of}
 use Rattle.flatbuf.specs.Fits.{FitsTable}
 use Rattle.flatbuf.specs.Written.{table_at, LeadsToBlock, SlotReads}
+use Rattle.flatbuf.proofs.Standing.{length-little}
 use Rattle.flatbuf.proofs.Written.{table_reads}
 use Rattle.flatbuf.proofs.Lengths.{whole_table, short_table, fits_table}
 use Rattle.flatbuf.proofs.Led.{led_table}
@@ -21,8 +22,8 @@ use Rattle.arrow_schema.specs.declared.data_type.DataType.{DataType}
 use Rattle.arrow_schema.specs.declared.data_type.DataType.TheVariants.{Integer, Utf8, Bool as Flags, Decimal128, Date, Dictionary}
 use Rattle.arrow_schema.specs.Written.{flag}
 use Rattle.arrow_schema.specs.Header.{MessageAt, table_wanted}
-use Rattle.arrow_schema.specs.Message.{message_bytes, MessageReads}
-use Rattle.arrow_schema.proofs.Messages.{messages_read}
+use Rattle.arrow_schema.specs.Message.{message_part, message_bytes, MessageReads}
+use Rattle.arrow_schema.proofs.Messages.{messages_read, short_message}
 use Rattle.arrays.specs.declared.layout.Layout.TheVariants as layout
 use Rattle.arrays.specs.Texts.{TextsAt, texts_slot, texts_values}
 use Rattle.scan_base.specs.Limits.{most_values}
@@ -36,11 +37,11 @@ use Rattle.ipc_batch.specs.Parts.{DictionaryParts, dictionary_parts, buffer_at}
 use Rattle.ipc_batch.specs.Columns.{FrontAt, texts_at, front_of, values_led_to, one_texts, counts_agree}
 use Rattle.ipc_batch.specs.State.{Known, Dictionaries, values_under, with_values}
 use Rattle.ipc_batch.specs.Said.{Sent, News, leads_to, kept_of, has_id, dictionary_sent, known_after, news_of}
-use Rattle.ipc_batch.specs.Written.{WrittenParts, FitsBatch, FitParts, parts_part, dictionary_part, body_of, body_length, buffers_written, node_written, parts_written, values_batch, values_after, dictionary_news, SaysDictionaryParts, SaysValues}
+use Rattle.ipc_batch.specs.Written.{WrittenParts, FitsBatch, FitParts, parts_part, dictionary_part, body_of, body_length, buffers_written, node_written, parts_written, values_batch, values_after, dictionary_news, most_header_bytes, SaysDictionaryParts, SaysValues}
 use Rattle.ipc_batch.specs.Laws.{DictionariesReadBack}
 use Rattle.ipc_batch.proofs.Entries.{under_set, under_other}
 use Rattle.ipc_batch.proofs.Lengths.{fine, both}
-use Rattle.ipc_batch.proofs.PartsAgain.{parts_read, is_whole, short_parts}
+use Rattle.ipc_batch.proofs.PartsAgain.{few_bytes, parts_read, is_whole, short_parts}
 use Rattle.ipc_batch.proofs.BatchAgain.{fit_parts, column_short}
 use Rattle.ipc_batch.proofs.WriterLoops.{short_texts}
 use Rattle.ipc_batch.proofs.ColumnsAgain.{Front, front_again}
@@ -69,6 +70,25 @@ short_dictionary id values delta short =
     let a = ap length (append-nil values.bytes) in
     let b = short_table (dictionary_slots id values delta) in
     omega arith
+
+-- the header of a dictionary's message has few bytes
+short_message_of : (id : ℕ) (values : Part) (delta n : ℕ) → length values.bytes ≤ 4176 → length (message_bytes DictionaryBatch (table_part (dictionary_slots id values delta)) n) ≤ most_header_bytes
+unfolding buffer_of
+short_message_of id values delta n few =
+    let block = table_part (dictionary_slots id values delta) in
+    let a = ap length (append-nil values.bytes) in
+    let b = short_table (dictionary_slots id values delta) in
+    let part = message_part DictionaryBatch block n in
+    let message = short_message DictionaryBatch block n in
+    let all = length-append (little 8 (8 + part.root)) part.bytes in
+    let front = length-little 8 (8 + part.root) in
+    omega arith
+
+pub dictionary_header_short : (batch : BatchAt) (id delta n : ℕ) (table block : Part) (header : List ℕ) → FitsBatch batch → table ≡ parts_part (parts_written batch) →
+    block ≡ table_part (dictionary_slots id table delta) → header ≡ message_bytes DictionaryBatch block n → length header ≤ most_header_bytes
+dictionary_header_short batch id delta n table block header fits table_is block_is header_is =
+    let is : header ≡ message_bytes DictionaryBatch (table_part (dictionary_slots id (parts_part (parts_written batch)) delta)) n = rw (header_is, block_is, table_is) refl in
+    subst (λ (x : List ℕ). length x ≤ most_header_bytes) (sym is) (short_message_of id (parts_part (parts_written batch)) delta n (few_bytes (parts_written batch) (fit_parts batch fits)))
 
 -- the message of a dictionary
 abbrev pub dictionary_written : ℕ → WrittenParts → Bool → Sent
@@ -127,7 +147,7 @@ no_place body (place ∷ more) e =
     let b = both (each (buffer_at body) more) (λ (ys : List (List ℕ)). fine (a.0 ∷ ys)) [] a.2 in
     absurd (let c = b.2 in let no : ⊥ = cc in no)
 
-texts_whole : (texts : TextsAt) → values_of (whole (layout.Texts texts)) ≡ texts_values texts
+pub texts_whole : (texts : TextsAt) → values_of (whole (layout.Texts texts)) ≡ texts_values texts
 texts_whole texts = map_same (slot_of (whole (layout.Texts texts))) (texts_slot texts) 0 texts.len (λ j first low. let z : 0 + j ≡ j = omega arith in ap (texts_slot texts) z)
 
 texts_read : (body : List ℕ) (column : ColumnAt) (places : List BufferPlace) → Front Utf8 [] column.len body column places [] → TextsRead body column places

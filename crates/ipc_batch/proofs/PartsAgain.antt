@@ -245,7 +245,7 @@ parts_read parts message bytes place fit s claimed =
     }
 
 -- the table of parts, and with it the message, has few bytes
-few_bytes : (parts : WrittenParts) → FitParts parts → length (parts_part parts).bytes ≤ 4176
+pub few_bytes : (parts : WrittenParts) → FitParts parts → length (parts_part parts).bytes ≤ 4176
 unfolding parts_part
 few_bytes parts fit =
     let slots = length-batch_slots parts.rows (nodes_packed parts) (places_packed parts) in

@@ -8,7 +8,7 @@ ghost use Rattle.arrow_schema.specs.Message.{message_bytes};
 ghost use Rattle.arrow_schema.specs.Written.{flag};
 ghost use Rattle.arrays.specs.Texts.{texts_values};
 ghost use Rattle.ipc_batch.specs.Written.{body_of, buffers_written, parts_written, body_length};
-ghost use Rattle.ipc_batch.specs.Written.{dictionary_part, values_batch, FitsBatch};
+ghost use Rattle.ipc_batch.specs.Written.{dictionary_part, values_batch, FitsBatch, most_header_bytes};
 ghost use Rattle.ipc_batch.specs.Written.{SaysParts, SaysBatch, SaysDictionaryParts, SaysValues};
 ghost use Rattle.ipc_batch.specs.Seen.{written_seen};
 
@@ -94,6 +94,7 @@ fn dictionary_header(
     ensures whole { IfOk result (λ header. length header.items % 8 ≡ 0) }
     ensures items { IfOk result (λ header. header.items ≡ message_bytes DictionaryBatch
         (dictionary_part id (parts_written values.now) is_delta) (body_length values.now)) }
+    ensures short { IfOk result (λ header. length header.items ≤ most_header_bytes) }
     ensures fits { OnOk result (FitsBatch values.now) }
 {
     let table = values.table(alloc)?;
@@ -109,8 +110,8 @@ fn dictionary_header(
 /// The message of a dictionary's values, which are set or, where they are a delta, stand behind the old
 /// ones. The values may be null, and their buffers are written as those of a batch of one column: each
 /// begins at a multiple of 8 in the body, with zeros between, and the offsets begin at 0. The header claims
-/// all of the body, and both have a multiple of 8 bytes. `None` where the body would have 2 to the 31 bytes or
-/// more.
+/// all of the body, and both have a multiple of 8 bytes, the header at most 8,192. `None` where the body would
+/// have 2 to the 31 bytes or more.
 ///
 /// # Errors
 ///
@@ -123,6 +124,7 @@ pub fn write_dictionary(
 ) -> Result<Option<WrittenMessage>, AllocError>
     ensures found { IfOk result (λ found. IsSome found ↔ (body_length (values_batch values.now) < 2 ^ 31)) }
     ensures header { IfOk result (λ found. IfSome found (λ message. length message.header.items % 8 ≡ 0)) }
+    ensures short { IfOk result (λ found. IfSome found (λ message. length message.header.items ≤ most_header_bytes)) }
     ensures body { IfOk result (λ found. IfSome found (λ message. length message.body.items % 8 ≡ 0)) }
     ensures parts { IfOk result (λ found. IfSome found (λ message. SaysDictionaryParts (written_seen message) id
         (parts_written (values_batch values.now)) is_delta)) }

@@ -1,13 +1,12 @@
 -- Inside: rows that are still to be cut into messages.
-use Rattle.std.specs.Prelude.{◌≡◌, ◌≤◌, ◌<◌, ◌-◌, ℕ, false, List, [], map, None, Option}
+use Rattle.std.specs.Prelude.{◌≡◌, ◌≤◌, ◌<◌, ◌-◌, ℕ, false, List, [], None, Option}
 use Rattle.std.specs.List.{list_any}
 use Rattle.arrow_schema.specs.declared.schema.Schema.{Schema}
-use Rattle.arrow_schema.specs.declared.schema.Field.{Field}
-use Rattle.arrow_schema.specs.Answer.{copied_type, LieBehind}
+use Rattle.arrow_schema.specs.Answer.{LieBehind}
 use Rattle.arrow_schema.specs.Schema.{IsSchema}
 use Rattle.arrays.specs.Batch.{BatchAt, rows_of, cut_batch}
 use Rattle.arrays.specs.Column.{ColumnAt}
-use Rattle.arrays.specs.Typed.{AreOfTypes}
+use Rattle.dressed_batches.specs.Dress.{AreDressable, AreNumbered}
 use Rattle.scan_exec.specs.Scan.{left}
 use Rattle.scan_base.specs.declared.fault.Fault.{Fault}
 use Rattle.scan_base.specs.Limits.{most_answer_rows}
@@ -17,11 +16,10 @@ use Rattle.fetch_stream.specs.declared.cutter.Cutter.{Cutter}
 use Rattle.fetch_stream.specs.declared.source.Source.{Source}
 use Rattle.fetch_stream.specs.declared.source.Source.TheVariants.{Scanned, Listed}
 
--- copied, the columns of a batch are those of this schema
+-- the columns of a batch can be answered as this schema says
 pub record AnsweredAs (schema : Schema) (columns : List ColumnAt) : Type 0 where
-  pub fields : List Field
-  pub typed : AreOfTypes fields columns
-  pub same : map (λ field. field.data_type) schema.fields ≡ map (λ field. copied_type field.data_type) fields
+  pub numbered : AreNumbered 0 schema.fields
+  pub dressable : AreDressable schema.fields columns
 
 -- the rows of a batch that are still to be cut
 abbrev pub uncut : Cutter → List Row

@@ -1,4 +1,4 @@
--- Inside: payloads of a morsel that are made ahead.
+-- Inside: parcels of a morsel that are made ahead.
 use Rattle.std.specs.Prelude.{◌≡◌, ◌≢◌, ◌≤◌, ◌⊎◌, ℕ, ◌+◌, Bool, true, List, [], ◌∷◌, length, map, drop, Option, Some, None, Result, Ok, Err}
 use Rattle.std.specs.List.{range_with_len}
 use Rattle.scan_base.specs.declared.fault.Fault.{Fault}
@@ -10,7 +10,7 @@ use Rattle.row_sources.specs.declared.turn.Turn.TheVariants.{Given, Working, End
 use Rattle.table_versions.specs.Table.{Row}
 use Rattle.scan_exec.specs.Scan.{ScanAt}
 use Rattle.scan_exec.specs.Morsels.{HasMorsels, morsel_rows}
-use Rattle.fetch_stream.specs.Streams.{StreamAt, Gives, GivesPayload, MayRefuse}
+use Rattle.fetch_stream.specs.Streams.{StreamAt, Gives, GivesParcel, MayRefuse}
 use Rattle.fetch_stream.specs.Morsels.{MorselsAt}
 use Rattle.fetch_stream.specs.declared.made.Made.{Made}
 use Rattle.fetch_stream.specs.declared.source.Source.TheVariants.{Scanned}
@@ -35,27 +35,27 @@ abbrev pub Stands : StreamAt → Option StreamAt → Type 0
 Stands stream None = Unit {0}
 Stands stream (Some rest) = (rest ≡ stream) ⊎ ((fault : Fault) × (rest.refused ≡ Some fault) × MayRefuse stream fault)
 
--- Payloads that were made of these rows behind the first ones, each behind the other, and the rest. With each stands how many
+-- Parcels that were made of these rows behind the first ones, each behind the other, and the rest. With each stands how many
 -- rows are given with it, and how many were taken of the scan.
 abbrev pub AreAhead : Schema → List Row → ℕ → List Made → Option StreamAt → Type 0
 AreAhead schema rows given [] rest = Stands (behind schema rows given) rest
 AreAhead schema rows given (made ∷ more) rest =
-    GivesPayload (behind schema rows given) made.payload (behind schema rows made.given)
+    GivesParcel (behind schema rows given) made.parcel (behind schema rows made.given)
     × (made.given ≤ made.taken) × (made.taken ≤ length rows)
     × AreAhead schema rows made.given more rest
 
 -- what a turn of a stream gives, with how many rows were given and taken then
 abbrev pub MakesNext : Patience → StreamAt → Result (Turn Made) Fault → StreamAt → Type 0
-MakesNext patience before (Ok (Given made)) after = Gives before (Ok (Some made.payload)) after × (made.given ≡ after.given)
+MakesNext patience before (Ok (Given made)) after = Gives before (Ok (Some made.parcel)) after × (made.given ≡ after.given)
     × (made.given ≤ made.taken) × (made.taken ≤ after.given + length after.left)
 MakesNext patience before (Ok Working) after = (before.refused ≡ None) × (after ≡ before) × (patience ≢ Endless)
 MakesNext patience before (Ok End) after = Gives before (Ok None) after
 MakesNext patience before (Err fault) after = Gives before (Err fault) after
 
--- what payloads that are ahead give in a turn, and the rest behind them
+-- what parcels that are ahead give in a turn, and the rest behind them
 abbrev pub GivesMade : Patience → Schema → List Row → ℕ → Result (Turn Made) Fault → List Made → Option StreamAt → Type 0
 GivesMade patience schema rows given (Ok (Given made)) more rest =
-    GivesPayload (behind schema rows given) made.payload (behind schema rows made.given)
+    GivesParcel (behind schema rows given) made.parcel (behind schema rows made.given)
     × (made.given ≤ made.taken) × (made.taken ≤ length rows)
     × AreAhead schema rows made.given more rest
 GivesMade patience schema rows given (Ok Working) more rest = AreAhead schema rows given more rest × (patience ≢ Endless)

@@ -1,25 +1,31 @@
 -- Inside: how a stream goes on that was not refused.
-use Rattle.std.specs.Prelude.{◌≡◌, ◌≢◌, ◌≤◌, ◌<◌, ◌⊎◌, ◌+◌, List, [], ◌++◌, length, Result, Ok, Err}
+use Rattle.std.specs.Prelude.{◌≡◌, ◌≢◌, ◌≤◌, ◌<◌, ◌⊎◌, ◌+◌, List, [], ◌∷◌, ◌++◌, length, Result, Ok, Err}
 use Rattle.scan_base.specs.declared.fault.Fault.{Fault}
 use Rattle.scan_base.specs.declared.fault.Fault.TheVariants.{OutOfMemory, ResultTooLarge}
 use Rattle.scan_base.specs.Limits.{most_answer_rows, most_message_bytes}
 use Rattle.arrow_schema.specs.declared.schema.Schema.{Schema}
-use Rattle.arrays.specs.Batch.{BatchAt, rows_of}
 use Rattle.row_sources.specs.declared.turn.Patience.{Patience}
 use Rattle.row_sources.specs.declared.turn.Patience.TheVariants.{Endless}
 use Rattle.row_sources.specs.declared.turn.Turn.{Turn}
 use Rattle.row_sources.specs.declared.turn.Turn.TheVariants.{Given, Working, End}
 use Rattle.table_versions.specs.Table.{Row}
-use Rattle.flight_info.specs.Payloads.{Payload}
-use Rattle.fetch_stream.specs.Streams.{most_message_rows}
+use Rattle.flight_info.specs.Payloads.{Payload, FitMessages}
+use Rattle.fetch_stream.specs.Streams.{Parcel, most_message_rows}
 use Rattle.fetch_stream.specs.declared.cutter.Cutter.{Cutter}
 use Rattle.fetch_stream.specs.declared.source.Source.{Source}
-use Rattle.fetch_stream.specs.inside.Ahead.{IsGoing, AnsweredAs, uncut, schema_behind, left_behind, rows_cut}
-use Rattle.fetch_stream.specs.inside.Written.{SaysSchema, SaysBatchBehind}
+use Rattle.fetch_stream.specs.inside.Ahead.{IsGoing, uncut, schema_behind, left_behind, rows_cut}
+use Rattle.fetch_stream.specs.inside.Written.{SaysRows, SaysSchema}
 
--- the first payload says the schema
-abbrev pub GivesFirst : Schema → Result (Turn Payload) Fault → Type 0
-GivesFirst schema (Ok (Given payload)) = SaysSchema payload schema × (length payload ≤ most_message_bytes)
+-- a parcel is the payload of the schema alone
+pub record SaysFirst (parcel : Parcel) (schema : Schema) : Type 0 where
+  pub payload : Payload
+  pub alone : parcel ≡ payload ∷ []
+  pub said : SaysSchema payload schema
+  pub fits : length payload ≤ most_message_bytes
+
+-- the first parcel says the schema
+abbrev pub GivesFirst : Schema → Result (Turn Parcel) Fault → Type 0
+GivesFirst schema (Ok (Given parcel)) = SaysFirst parcel schema
 GivesFirst schema (Ok Working) = ⊥
 GivesFirst schema (Ok End) = ⊥
 GivesFirst schema (Err fault) = fault ≡ OutOfMemory
@@ -64,21 +70,20 @@ Refills patience cutter source (Ok Working) new_cutter new = Waits cutter source
 Refills patience cutter source (Ok End) new_cutter new = Ends cutter source new_cutter new
 Refills patience cutter source (Err fault) new_cutter new = Fails cutter source fault
 
--- a payload says a batch of the next rows, one or more, and no more than a message has
-pub record SaysNext (cutter : Cutter) (source : Source) (payload : Payload) (new_cutter : Cutter) (new : Source) : Type 0 where
-  pub batch : BatchAt
-  pub said : SaysBatchBehind payload batch
-  pub columns : AnsweredAs (schema_behind source) batch.columns
-  pub rows : rows_of batch ++ rows_left new_cutter new ≡ rows_left cutter source
-  pub counted : rows_cut new_cutter new ≡ rows_cut cutter source + length (rows_of batch)
-  pub some : 0 < length (rows_of batch)
-  pub few : length (rows_of batch) ≤ most_message_rows
-  pub fits : length payload ≤ most_message_bytes
+-- a parcel says the next rows, one or more, and no more than a message has
+pub record SaysNext (cutter : Cutter) (source : Source) (parcel : Parcel) (new_cutter : Cutter) (new : Source) : Type 0 where
+  pub given : List Row
+  pub said : SaysRows parcel (schema_behind source) given
+  pub rows : given ++ rows_left new_cutter new ≡ rows_left cutter source
+  pub counted : rows_cut new_cutter new ≡ rows_cut cutter source + length given
+  pub some : 0 < length given
+  pub few : length given ≤ most_message_rows
+  pub fits : FitMessages parcel
   pub keeps : Keeps source new_cutter new
 
--- a turn to the payload of the next rows
-abbrev pub GivesRows : Patience → Cutter → Source → Result (Turn Payload) Fault → Cutter → Source → Type 0
-GivesRows patience cutter source (Ok (Given payload)) new_cutter new = SaysNext cutter source payload new_cutter new
+-- a turn to the parcel of the next rows
+abbrev pub GivesRows : Patience → Cutter → Source → Result (Turn Parcel) Fault → Cutter → Source → Type 0
+GivesRows patience cutter source (Ok (Given parcel)) new_cutter new = SaysNext cutter source parcel new_cutter new
 GivesRows patience cutter source (Ok Working) new_cutter new = Waits cutter source new_cutter new × (patience ≢ Endless)
 GivesRows patience cutter source (Ok End) new_cutter new = Ends cutter source new_cutter new
 GivesRows patience cutter source (Err fault) new_cutter new = Fails cutter source fault

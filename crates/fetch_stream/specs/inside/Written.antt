@@ -1,13 +1,14 @@
--- Inside: what a payload says that is written.
-use Rattle.std.specs.Prelude.{◌≡◌, ◌≤◌, [], length, Some, None, Ok}
+-- Inside: what payloads say that are written.
+use Rattle.std.specs.Prelude.{◌≡◌, ◌≤◌, All, List, [], ◌∷◌, ◌++◌, length, Some, None, Ok}
+use Rattle.std.specs.List.{AllZip}
 use Rattle.arrow_schema.specs.declared.schema.Schema.{Schema}
 use Rattle.arrays.specs.Batch.{BatchAt}
 use Rattle.flight_proto.specs.FlightData.{DataSaid, data_of}
-use Rattle.ipc_batch.specs.Said.{Sent, news_of}
-use Rattle.ipc_batch.specs.Written.{SaysBatch}
-use Rattle.plain_batches.specs.Plain.{SaysAnswered}
+use Rattle.ipc_batch.specs.Said.{Sent, Rows, news_of}
+use Rattle.ipc_batch.specs.Written.{body_length, most_header_bytes, SaysBatch}
+use Rattle.ipc_batch.specs.Dressed.{IsDressed}
 use Rattle.flight_info.specs.Payloads.{Payload, message_in}
-use Rattle.fetch_stream.specs.Streams.{most_body_bytes}
+use Rattle.fetch_stream.specs.Streams.{Parcel, most_body_bytes}
 
 -- a payload carries this message
 pub record Carries (payload : Payload) (message : Sent) : Type 0 where
@@ -28,11 +29,28 @@ pub record SaysWritten (payload : Payload) (batch : BatchAt) : Type 0 where
   pub message : Sent
   pub carries : Carries payload message
   pub said : SaysBatch message batch
-  pub short : length message.body ≤ most_body_bytes
+  pub sized : length message.body ≡ body_length batch
 
--- behind the schema as which its columns are answered, a payload says a batch, in a body that is not too long
-pub record SaysBatchBehind (payload : Payload) (batch : BatchAt) : Type 0 where
+-- a message has a short header and a short body
+pub record IsShort (message : Sent) : Type 0 where
+  pub header : length message.header ≤ most_header_bytes
+  pub body : length message.body ≤ most_body_bytes
+
+-- a body that is not too long
+abbrev pub HasShort : Sent → Type 0
+HasShort message = length message.body ≤ most_body_bytes
+
+-- payloads carry the messages of dictionaries, and behind them one that says a batch, in bodies that are not too long
+pub record CarryDressed (parcel : Parcel) (dictionaries : List Sent) (batch : BatchAt) : Type 0 where
   pub message : Sent
-  pub carries : Carries payload message
-  pub said : SaysAnswered message batch
-  pub short : length message.body ≤ most_body_bytes
+  pub carry : AllZip Carries parcel (dictionaries ++ message ∷ [])
+  pub said : SaysBatch message batch
+  pub short : All HasShort (dictionaries ++ message ∷ [])
+
+-- behind a schema payloads say rows, in one batch that is right behind its dictionaries, in bodies that are not too long
+pub record SaysRows (parcel : Parcel) (schema : Schema) (rows : Rows) : Type 0 where
+  pub dictionaries : List Sent
+  pub batch : Sent
+  pub carry : AllZip Carries parcel (dictionaries ++ batch ∷ [])
+  pub dressed : IsDressed schema (record { dictionaries = dictionaries; batch = batch; rows = rows })
+  pub short : All HasShort (dictionaries ++ batch ∷ [])

@@ -1,5 +1,5 @@
 -- Inside: the stream that its morsels make up, where some of them were answered.
-use Rattle.std.specs.Prelude.{◌≡◌, ◌≢◌, ◌≤◌, ◌<◌, ◌⊎◌, ℕ, ◌+◌, Bool, true, false, List, [], ◌++◌, length, drop, Option, Some, None, Result, Ok, Err}
+use Rattle.std.specs.Prelude.{◌≡◌, ◌≢◌, ◌≤◌, ◌<◌, ◌⊎◌, ℕ, ◌+◌, Bool, true, false, List, [], ◌∷◌, ◌++◌, length, drop, Option, Some, None, Result, Ok, Err}
 use Rattle.std.specs.List.{flat_map}
 use Rattle.scan_base.specs.declared.fault.Fault.{Fault}
 use Rattle.scan_base.specs.declared.fault.Fault.TheVariants.{OutOfMemory, ResultTooLarge}
@@ -11,7 +11,7 @@ use Rattle.row_sources.specs.declared.turn.Turn.{Turn}
 use Rattle.row_sources.specs.declared.turn.Turn.TheVariants.{Given, Working, End}
 use Rattle.table_versions.specs.Table.{Row}
 use Rattle.flight_info.specs.Payloads.{Payload}
-use Rattle.fetch_stream.specs.Streams.{StreamAt, GivesPayload, MayRefuse}
+use Rattle.fetch_stream.specs.Streams.{StreamAt, Parcel, GivesParcel, MayRefuse}
 use Rattle.fetch_stream.specs.Morsels.{MorselsAt, GivesSchema, morsel_stream}
 
 -- what may be answered to each morsel is its stream, and there are as many answers as morsels
@@ -43,31 +43,35 @@ abbrev pub Goes : Schema → Option StreamAt → Type 0
 Goes schema None = Unit {0}
 Goes schema (Some present) = (present.schema ≡ schema) × (present.begun ≡ true) × (present.refused ≡ None)
 
--- where a stream stands, if it was not refused; before its first payload no row was given
+-- where a stream stands, if it was not refused; before its first parcel no row was given
 pub record IsJoined (morsels : MorselsAt) (begun : Bool) (present : Option StreamAt) (done : ℕ) (refused : Option Fault) : Type 0 where
   pub goes : refused ≡ None → Goes morsels.schema present
   pub few : refused ≡ None → done + given_of present ≤ most_answer_rows
   pub first : begun ≡ false → done + given_of present ≡ 0
 
--- the first payload says the schema
-abbrev pub GivesFirst : Schema → Result (Turn Payload) Fault → Type 0
-GivesFirst schema (Ok (Given payload)) = GivesSchema schema (Ok payload)
+-- a parcel is the payload of the schema alone
+abbrev pub IsFirst : Schema → Parcel → Type 0
+IsFirst schema parcel = (only : Payload) × (parcel ≡ only ∷ []) × GivesSchema schema (Ok only)
+
+-- the first parcel says the schema
+abbrev pub GivesFirst : Schema → Result (Turn Parcel) Fault → Type 0
+GivesFirst schema (Ok (Given parcel)) = IsFirst schema parcel
 GivesFirst schema (Ok Working) = ⊥
 GivesFirst schema (Ok End) = ⊥
 GivesFirst schema (Err fault) = GivesSchema schema (Err fault)
 
 -- what a turn of a morsel gives, where those before it had so many rows
-abbrev pub GivesCounted : Patience → StreamAt → ℕ → Result (Turn Payload) Fault → StreamAt → Type 0
-GivesCounted patience before done (Ok (Given payload)) after = GivesPayload before payload after × (done + after.given ≤ most_answer_rows)
+abbrev pub GivesCounted : Patience → StreamAt → ℕ → Result (Turn Parcel) Fault → StreamAt → Type 0
+GivesCounted patience before done (Ok (Given parcel)) after = GivesParcel before parcel after × (done + after.given ≤ most_answer_rows)
 GivesCounted patience before done (Ok Working) after = (after ≡ before) × (patience ≢ Endless)
 GivesCounted patience before done (Ok End) after = (before.left ≡ []) × (after ≡ before)
 GivesCounted patience before done (Err fault) after =
     (fault ≡ OutOfMemory) ⊎ ((fault ≡ ResultTooLarge) × (most_answer_rows < done + (before.given + length before.left)))
 
 -- what a turn of the present morsel gives; behind its end none is present
-abbrev pub GivesPresent : Patience → MorselsAt → ℕ → Option StreamAt → ℕ → Result (Turn Payload) Fault → Option StreamAt → ℕ → Type 0
-GivesPresent patience morsels answered present done (Ok (Given payload)) next all =
-    GivesPayload (joined_stream morsels answered true present done None) payload (joined_stream morsels answered true next all None)
+abbrev pub GivesPresent : Patience → MorselsAt → ℕ → Option StreamAt → ℕ → Result (Turn Parcel) Fault → Option StreamAt → ℕ → Type 0
+GivesPresent patience morsels answered present done (Ok (Given parcel)) next all =
+    GivesParcel (joined_stream morsels answered true present done None) parcel (joined_stream morsels answered true next all None)
     × Goes morsels.schema next × (all + given_of next ≤ most_answer_rows)
 GivesPresent patience morsels answered present done (Ok Working) next all = (next ≡ present) × (all ≡ done) × (patience ≢ Endless)
 GivesPresent patience morsels answered present done (Ok End) next all =
@@ -77,9 +81,9 @@ GivesPresent patience morsels answered present done (Err fault) next all =
     MayRefuse (joined_stream morsels answered true present done None) fault
 
 -- what a turn of all morsels gives, where a stream stood at one and stands at another
-abbrev pub GivesJoined : Patience → MorselsAt → ℕ → Option StreamAt → ℕ → Result (Turn Payload) Fault → ℕ → Option StreamAt → ℕ → Type 0
-GivesJoined patience morsels answered present done (Ok (Given payload)) now next all =
-    GivesPayload (joined_stream morsels answered true present done None) payload (joined_stream morsels now true next all None)
+abbrev pub GivesJoined : Patience → MorselsAt → ℕ → Option StreamAt → ℕ → Result (Turn Parcel) Fault → ℕ → Option StreamAt → ℕ → Type 0
+GivesJoined patience morsels answered present done (Ok (Given parcel)) now next all =
+    GivesParcel (joined_stream morsels answered true present done None) parcel (joined_stream morsels now true next all None)
     × Goes morsels.schema next × (all + given_of next ≤ most_answer_rows)
 GivesJoined patience morsels answered present done (Ok Working) now next all =
     (joined_stream morsels now true next all None ≡ joined_stream morsels answered true present done None)

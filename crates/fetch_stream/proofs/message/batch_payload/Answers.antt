@@ -22,4 +22,4 @@ returns-clause-said c =
     let body = body_of (buffers_written batch.columns) in
     let header = c.in_ok-header.header.items in
     let whole : c.new.result ≡ data_head header (length body) ++ body = search rules in
-    batch_said c.new.result header body batch whole (search rules) c.requires.short c.in_ok-header.ensures.rows
+    batch_said c.new.result header body batch whole (search rules) c.requires.short refl c.in_ok-header.ensures.rows

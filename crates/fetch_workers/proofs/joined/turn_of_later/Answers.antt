@@ -2,10 +2,10 @@ use Rattle.std.proofs.Common.{◌≡◌, ◌<◌, length, None, Result, Ok, Err,
 use Rattle.scan_base.specs.declared.fault.Fault.{Fault}
 use Rattle.row_sources.specs.declared.turn.Turn.{Turn}
 use Rattle.row_sources.specs.declared.turn.Turn.TheVariants.{Given, Working, End}
-use Rattle.flight_info.specs.Payloads.{Payload}
+use Rattle.fetch_stream.specs.Streams.{Parcel}
 use Rattle.fetch_stream.specs.Morsels.{morsel_stream}
 use Rattle.fetch_workers.specs.inside.Joined.{GivesCounted}
-use Rattle.fetch_workers.proofs.Joining.{later_ended, later_none, later_payload, later_refused, later_waits, later_working}
+use Rattle.fetch_workers.proofs.Joining.{later_ended, later_none, later_parcel, later_refused, later_waits, later_working}
 use Rattle.fetch_workers.proofs.joined.turn_of_later.Goals as goal
 
 pub returns-in-Going-clause-gives : goal.returns-in-Going-clause-gives
@@ -31,13 +31,13 @@ returns-in-Ok-Given-clause-gives g c morsels answers =
     let next = g.P.Answers.given c.next_answer.new.answers in
     let part = g.A.Part.stream c.in-Given.part in
     let after = g.A.Part.stream c.turn_counted.new.part in
-    let payload = c.in-Ok-Given.payload in
-    let is : c.turn_counted.result ≡ Ok (Given payload) = cc in
-    let counted : GivesCounted patience part c.args.done (Ok (Given payload)) after = subst (λ (r : Result (Turn Payload) Fault). GivesCounted patience part c.args.done r after) is c.turn_counted.ensures in
+    let parcel = c.in-Ok-Given.parcel in
+    let is : c.turn_counted.result ≡ Ok (Given parcel) = cc in
+    let counted : GivesCounted patience part c.args.done (Ok (Given parcel)) after = subst (λ (r : Result (Turn Parcel) Fault). GivesCounted patience part c.args.done r after) is c.turn_counted.ensures in
     let comes = c.in-Given.ensures.comes in
     let fresh : part ≡ morsel_stream morsels now = answers.each now c.in-Given.part comes.0 in
     let there : now < length morsels.rows = omega (arith, comes.1, c.loop-part.invariant.count, answers.count_is) in
-    later_payload patience morsels c.args.done first now (c.loop-part.invariant.stood morsels answers) part fresh there after payload next comes.2 counted
+    later_parcel patience morsels c.args.done first now (c.loop-part.invariant.stood morsels answers) part fresh there after parcel next comes.2 counted
 
 pub returns-in-Ok-Working-clause-gives : goal.returns-in-Ok-Working-clause-gives
 returns-in-Ok-Working-clause-gives g c morsels answers =
@@ -48,7 +48,7 @@ returns-in-Ok-Working-clause-gives g c morsels answers =
     let part = g.A.Part.stream c.in-Given.part in
     let after = g.A.Part.stream c.turn_counted.new.part in
     let is : c.turn_counted.result ≡ Ok Working = cc in
-    let counted : GivesCounted patience part c.args.done (Ok Working) after = subst (λ (r : Result (Turn Payload) Fault). GivesCounted patience part c.args.done r after) is c.turn_counted.ensures in
+    let counted : GivesCounted patience part c.args.done (Ok Working) after = subst (λ (r : Result (Turn Parcel) Fault). GivesCounted patience part c.args.done r after) is c.turn_counted.ensures in
     let comes = c.in-Given.ensures.comes in
     let fresh : part ≡ morsel_stream morsels now = answers.each now c.in-Given.part comes.0 in
     let there : now < length morsels.rows = omega (arith, comes.1, c.loop-part.invariant.count, answers.count_is) in
@@ -63,7 +63,7 @@ returns-in-Err-clause-gives g c morsels answers =
     let after = g.A.Part.stream c.turn_counted.new.part in
     let fault = c.in-Err.fault in
     let is : c.turn_counted.result ≡ Err fault = cc in
-    let counted : GivesCounted patience part c.args.done (Err fault) after = subst (λ (r : Result (Turn Payload) Fault). GivesCounted patience part c.args.done r after) is c.turn_counted.ensures in
+    let counted : GivesCounted patience part c.args.done (Err fault) after = subst (λ (r : Result (Turn Parcel) Fault). GivesCounted patience part c.args.done r after) is c.turn_counted.ensures in
     let comes = c.in-Given.ensures.comes in
     let fresh : part ≡ morsel_stream morsels now = answers.each now c.in-Given.part comes.0 in
     let there : now < length morsels.rows = omega (arith, comes.1, c.loop-part.invariant.count, answers.count_is) in
@@ -78,7 +78,7 @@ returns-then-is_over-clause-gives g c morsels answers =
     let part = g.A.Part.stream c.in-Given.part in
     let after = g.A.Part.stream c.turn_counted.new.part in
     let is : c.turn_counted.result ≡ Ok End = cc in
-    let counted : GivesCounted patience part c.args.done (Ok End) after = subst (λ (r : Result (Turn Payload) Fault). GivesCounted patience part c.args.done r after) is c.turn_counted.ensures in
+    let counted : GivesCounted patience part c.args.done (Ok End) after = subst (λ (r : Result (Turn Parcel) Fault). GivesCounted patience part c.args.done r after) is c.turn_counted.ensures in
     let comes = c.in-Given.ensures.comes in
     let fresh : part ≡ morsel_stream morsels now = answers.each now c.in-Given.part comes.0 in
     let there : now < length morsels.rows = omega (arith, comes.1, c.loop-part.invariant.count, answers.count_is) in
@@ -98,7 +98,7 @@ loop-part-preserved g c = record {
       let part = g.A.Part.stream c.in-Given.part in
       let after = g.A.Part.stream c.turn_counted.new.part in
       let is : c.turn_counted.result ≡ Ok End = cc in
-      let counted : GivesCounted patience part c.args.done (Ok End) after = subst (λ (r : Result (Turn Payload) Fault). GivesCounted patience part c.args.done r after) is c.turn_counted.ensures in
+      let counted : GivesCounted patience part c.args.done (Ok End) after = subst (λ (r : Result (Turn Parcel) Fault). GivesCounted patience part c.args.done r after) is c.turn_counted.ensures in
       let comes = c.in-Given.ensures.comes in
       let fresh : part ≡ morsel_stream morsels now = answers.each now c.in-Given.part comes.0 in
       let there : now < length morsels.rows = omega (arith, comes.1, c.loop-part.invariant.count, answers.count_is) in

@@ -3,7 +3,7 @@ use Rattle.ipc_batch.specs.Written.{dictionary_part, parts_written}
 use Rattle.ipc_batch.proofs.Lengths.{on_ok}
 use Rattle.ipc_batch.proofs.PartsAgain.{short_parts}
 use Rattle.ipc_batch.proofs.BatchAgain.{fit_parts}
-use Rattle.ipc_batch.proofs.DictionaryAgain.{short_dictionary}
+use Rattle.ipc_batch.proofs.DictionaryAgain.{dictionary_header_short, short_dictionary}
 use Rattle.ipc_batch.proofs.writer.dictionary_header.Goals as goal
 
 pub dictionary_block-requires : goal.dictionary_block-requires
@@ -19,3 +19,7 @@ write_message-requires c =
 pub returns-clause-items : goal.returns-clause-items
 unfolding dictionary_part
 returns-clause-items c = on_ok c.write_message.result (λ header is. is ∙ rw (c.in_ok-block.ensures, c.in_ok-table.ensures.block, c.body_length.ensures.length) refl) c.write_message.ensures.items
+
+pub returns-clause-short : goal.returns-clause-short
+returns-clause-short c =
+    on_ok c.write_message.result (λ header is. dictionary_header_short c.args.values.now _ _ _ _ _ _ c.in_ok-table.ensures.fits c.in_ok-table.ensures.block c.in_ok-block.ensures is) c.write_message.ensures.items

@@ -5,11 +5,11 @@ use Rattle.fetch_stream.specs.Streams.{HasGiven, opened}
 use Rattle.fetch_stream.proofs.Answering.{turns}
 use Rattle.fetch_stream.proofs.fetch.CollectedReadsPayloads.read.Given as goal
 
-abbrev pub invariant-loop-payload : goal.invariant-loop-payload
-invariant-loop-payload g l = record {
+abbrev pub invariant-loop-parcel : goal.invariant-loop-parcel
+invariant-loop-parcel g l = record {
   given : (answer : Table) → g.P.Payloads.stream l.fn.payloads ≡ opened answer → ((g.P.Payloads.stream l.payloads).refused ≡ None) × HasGiven answer l.self.payloads.items (g.P.Payloads.stream l.payloads);
   fits : FitMessages l.self.payloads.items;
 }
 
-abbrev pub decreases-loop-payload : goal.decreases-loop-payload
-decreases-loop-payload g l = turns (g.P.Payloads.stream l.payloads)
+abbrev pub decreases-loop-parcel : goal.decreases-loop-parcel
+decreases-loop-parcel g l = turns (g.P.Payloads.stream l.payloads)

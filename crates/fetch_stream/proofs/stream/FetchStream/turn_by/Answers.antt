@@ -35,5 +35,5 @@ returns-in-Ok g c =
           let last : StreamAt = record { schema = schema_behind inside.source; begun = true; left = left; given = count; refused = inside.refused } in
           let same : after ≡ last = rw w.self-inside-is refl in
           gives_so c.args.making.patience c.args.self.now before after last c.if-self.given given (sym c.self.view_is) c.in-Ok.is same c.in_default.is c.in_default.is
-          (gives_first c.args.making.patience (schema_behind inside.source) given left count inside.begun w.if-self.false (cut_few inside.cutter inside.source (c.self.invariant c.in_default.is)) (subst (λ (schema : Schema). GivesFirst schema (Ok given)) w.schema.ensures (rw (sym w.given-is ∙ c.in-Ok.is) at w.first_payload-given.ensures)))
+          (gives_first c.args.making.patience (schema_behind inside.source) given left count inside.begun w.if-self.false (cut_few inside.cutter inside.source (c.self.invariant c.in_default.is)) (subst (λ (schema : Schema). GivesFirst schema (Ok given)) w.schema.ensures (rw (sym w.given-is ∙ c.in-Ok.is) at w.first_parcel-given.ensures)))
     ]

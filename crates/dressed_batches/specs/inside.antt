@@ -1,0 +1,2 @@
+-- What contracts of this crate's private functions alone cite.
+pub mod Written
