@@ -59,7 +59,7 @@ groups_of_part work parts number (Ok groups) is = ∥∥₁_elim is (AreGroupsOf
 groups_of_part work parts number (Err fault) is = tt
 
 -- so the groups of each part can be merged
-pub can_merge : (work : GroupWorkAt) (parts workers : ℕ) → CanBeGrouped work → parts ≡ min (length work.batches) (max 1 (workers * 4)) →
+pub can_merge : (work : GroupWorkAt) (parts workers : ℕ) → CanBeGrouped work → parts ≡ min (length work.batches) (max 1 workers) →
     CanMerge work (λ number answer. ∥ GroupsOfPartAt work parts number answer ∥₁) parts
 can_merge work parts workers can count = record {
   can = can;
