@@ -211,10 +211,16 @@ def ended_input(connection: Connection) -> None:
     connection.close()
 
 
+def broken_behind_a_byte(connection: Connection) -> None:
+    """Sends a byte behind its call, which nobody reads, and breaks off: a look finds the byte before the break."""
+    connection.send(b"\x01")
+    connection.break_off()
+
+
 def seconds_until_free(server: Server, version: int, rows: int) -> float:
-    """How long the only seat is taken at most, when its client goes away in each of three ways."""
+    """How long the only seat is taken at most, when its client goes away in each of four ways."""
     longest = 0.0
-    for leave in (Connection.close, Connection.break_off, ended_input):
+    for leave in (Connection.close, Connection.break_off, ended_input, broken_behind_a_byte):
         connection = Connection(server.port)
         connection.send(fetch_of(version, 0, rows, NEVER))
         same("the first record is a Message", b"\x02", connection.take(1))
