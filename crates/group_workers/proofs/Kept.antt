@@ -13,8 +13,8 @@ use Rattle.scan_base.specs.contracts.value.Value as value
 use Rattle.table_versions.specs.Table.{Row}
 use Rattle.typed_plan.specs.declared.plan.Aggregate.{Aggregate}
 use Rattle.typed_plan.specs.contracts.plan.Aggregate as aggregate
-use Rattle.grouping.specs.declared.tally.Tally.{Tally}
-use Rattle.grouping.specs.contracts.tally.Tally as tally
+use Rattle.group_slots.specs.declared.tally.Tally.{Tally}
+use Rattle.group_slots.specs.contracts.tally.Tally as tally
 use Rattle.grouping.specs.Fed.{AreTallied, GroupsAt, Holds}
 use Rattle.group_workers.specs.Merging.{CanMerge, GroupsOfPartAt}
 use Rattle.group_workers.proofs.Parting.{all_before}
@@ -59,7 +59,7 @@ groups_of_part work parts number (Ok groups) is = ∥∥₁_elim is (AreGroupsOf
 groups_of_part work parts number (Err fault) is = tt
 
 -- so the groups of each part can be merged
-pub can_merge : (work : GroupWorkAt) (parts workers : ℕ) → CanBeGrouped work → parts ≡ min (length work.batches) (max 1 (workers * 4)) →
+pub can_merge : (work : GroupWorkAt) (parts workers : ℕ) → CanBeGrouped work → parts ≡ min (length work.batches) (max 1 workers) →
     CanMerge work (λ number answer. ∥ GroupsOfPartAt work parts number answer ∥₁) parts
 can_merge work parts workers can count = record {
   can = can;

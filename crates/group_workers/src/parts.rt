@@ -1,19 +1,14 @@
 //! Parts of batches, one behind the other.
 
-ghost use Rattle.std.specs.Prelude.{◌≡◌, ◌≤◌, ◌<◌, ◌*◌, max, min};
+ghost use Rattle.std.specs.Prelude.{◌≡◌, ◌≤◌, ◌<◌, max, min};
 ghost use Rattle.group_workers.specs.Parts.{batches_before};
 
-// How many parts there are for each worker, where there are batches enough. The groups of a part are made anew and merged, so
-// few parts cost little more than one walk. But a worker that is done with its parts waits for the others, and the longer a part
-// is, the longer it may wait. No more parts are begun or unmerged than there are workers: their groups are those of a quarter of
-// the batches at most, however many there are.
-const PARTS_EACH: usize = 4;
-
-// Into how many parts so many batches are cut for so many workers. Each has one batch or more.
+// Into how many parts so many batches are cut for so many workers. Each has one batch or more. The groups of a part are made anew
+// and merged by the thread that reads them, which makes no groups meanwhile. So there are no more parts than workers.
 pub(crate) fn part_count(batches: usize, workers: usize) -> usize
-    ensures { result ≡ min batches (max 1 (workers * 4)) }
+    ensures { result ≡ min batches (max 1 workers) }
 {
-    batches.min(workers.saturating_mul(PARTS_EACH).max(1))
+    batches.min(workers.max(1))
 }
 
 // How many batches stand before the part of a number, of so many batches and parts.

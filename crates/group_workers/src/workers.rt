@@ -52,7 +52,7 @@ impl<R: Threads + Wait + Sync> StartsGroupWorkers for R {
 }
 
 /// Groups the rows of each part of the batches for itself, by several workers, and merges the groups in the order of the
-/// parts. There are four parts for each worker, or one for each batch where there are fewer batches. Threads are started once
+/// parts. There is one part for each worker, or for each batch where there are fewer batches. Threads are started once
 /// for a call, and have ended when it returns. No more workers are at work than there are batches; with fewer than two the rows
 /// are grouped in one walk, and no thread is started.
 #[derive(Drop)]

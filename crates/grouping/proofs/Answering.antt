@@ -15,14 +15,14 @@ use Rattle.arrays.specs.Column.{ColumnAt, slot_of}
 use Rattle.arrays.specs.Typed.{AreOf, IsOfType}
 use Rattle.arrays.specs.Written.{text_bytes}
 use Rattle.typed_plan.specs.Typed.{type_at}
+use Rattle.group_slots.specs.declared.tally.Tally.{Tally}
+use Rattle.group_slots.proofs.Slotted.{cell_slot}
 use Rattle.grouping.specs.declared.key.Place.{Place}
-use Rattle.grouping.specs.declared.tally.Tally.{Tally}
 use Rattle.grouping.specs.Answers.{IsThere}
 use Rattle.grouping.specs.Fed.{AreTyped, batch_at}
 use Rattle.array_select.specs.Fitting.{has_texts}
 use Rattle.grouping.specs.inside.Answering.{count_or_none, first_cell, sum_or_none}
 use Rattle.grouping.proofs.Feeding.{as_many}
-use Rattle.grouping.proofs.KeyCells.{cell_slot}
 use Rattle.array_select.proofs.Short.{no_text}
 
 pub if_ok : {T E : Type 0} (P Q : T → Type 0) → ((x : T) → P x → Q x) → (r : Result T E) → IfOk r P → IfOk r Q

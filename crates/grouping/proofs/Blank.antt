@@ -5,16 +5,15 @@ use Rattle.std.proofs.lemmas.List.{length-map}
 use Rattle.std.proofs.lemmas.List.Sums.{sum_by-cons}
 use Rattle.typed_plan.specs.declared.plan.Aggregate.{Aggregate}
 use Rattle.typed_plan.specs.declared.plan.Aggregate.TheVariants.{Key}
-use Rattle.grouping.specs.declared.item_tallies.ItemTallies.{ItemTallies}
-use Rattle.grouping.specs.declared.tally.Tally.{Tally}
+use Rattle.group_slots.specs.declared.item_tallies.ItemTallies.{ItemTallies}
+use Rattle.group_slots.specs.declared.tally.Tally.{Tally}
+use Rattle.group_slots.specs.Tallies.{no_rows}
+use Rattle.group_slots.specs.Adding.{IsKept, lists_of}
+use Rattle.group_slots.specs.Counting.{IsSmall, counted_in}
+use Rattle.group_slots.specs.Held.{AreBlank, tallies_in}
 use Rattle.grouping.specs.Fed.{GroupsAt, Holds, AreTallied}
 use Rattle.grouping.specs.Found.{first_found}
-use Rattle.grouping.specs.Tallies.{no_rows}
-use Rattle.grouping.specs.inside.Adding.{IsKept, lists_of}
-use Rattle.grouping.specs.inside.Counting.{IsSmall, counted_in}
-use Rattle.grouping.specs.inside.Kept.{AreBlank}
 use Rattle.grouping.specs.inside.Placing.{found_by}
-use Rattle.grouping.specs.inside.Held.{tallies_in}
 
 blank_at : (tallies : List ItemTallies) (groups : ℕ) → All (λ (list : ItemTallies). AreBlank groups (tallies_in list)) tallies →
     (item : ℕ) → item < length tallies → AreBlank groups (get_or (lists_of tallies) item [])

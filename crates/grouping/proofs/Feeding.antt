@@ -15,10 +15,11 @@ use Rattle.typed_plan.specs.Class.{can_sum}
 use Rattle.typed_plan.specs.Typed.{has_item, type_at}
 use Rattle.typed_plan.specs.declared.plan.Aggregate.{Aggregate}
 use Rattle.typed_plan.specs.declared.plan.Aggregate.TheVariants.{Key, CountRows, Count, Sum}
+use Rattle.group_slots.specs.Counting.{CanCount, IsIntegers}
+use Rattle.group_slots.specs.Adding.{CanCountAll, IsAdded}
 use Rattle.grouping.specs.Fed.{AreTyped, GroupsAt, Holds, HasItems, AreTallied, HasFed, Feeds}
 use Rattle.grouping.specs.Found.{found_in, found_then, first_found}
-use Rattle.grouping.specs.inside.Counting.{CanCount, IsIntegers}
-use Rattle.grouping.specs.inside.Adding.{CanCountAll, IsGrown, IsAdded}
+use Rattle.grouping.specs.inside.Adding.{IsGrown}
 use Rattle.grouping.specs.inside.Placing.{ArePlaced, IsBatchAt}
 use Rattle.grouping.proofs.Finding.{found_more}
 use Rattle.grouping.proofs.Sharing.{fed_tallies}

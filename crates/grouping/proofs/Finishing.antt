@@ -24,29 +24,29 @@ use Rattle.table_versions.specs.Table.{Row}
 use Rattle.typed_plan.specs.Typed.{has_item, item_type, type_at}
 use Rattle.typed_plan.specs.declared.plan.Aggregate.{Aggregate}
 use Rattle.typed_plan.specs.declared.plan.Aggregate.TheVariants.{Key, CountRows, Count, Sum}
+use Rattle.group_slots.specs.declared.item_tallies.ItemTallies.{ItemTallies}
+use Rattle.group_slots.specs.declared.tally.Tally.{Tally}
+use Rattle.group_slots.specs.Tallies.{no_rows, item_value}
+use Rattle.group_slots.specs.Adding.{lists_of}
+use Rattle.group_slots.specs.Counting.{AreWithin}
+use Rattle.group_slots.specs.Held.{tallies_in}
+use Rattle.group_slots.proofs.Stepping.{one_within}
 use Rattle.grouping.specs.declared.batches.Answer.{Answer}
-use Rattle.grouping.specs.declared.item_tallies.ItemTallies.{ItemTallies}
 use Rattle.grouping.specs.declared.key.Place.{Place}
-use Rattle.grouping.specs.declared.tally.Tally.{Tally}
 use Rattle.grouping.specs.Answered.{cell_at, row_at, answer_rows}
 use Rattle.grouping.specs.Answers.{IsThere, keys_at, row_in}
 use Rattle.grouping.specs.Fed.{GroupsAt}
 use Rattle.grouping.specs.Found.{key_in}
-use Rattle.grouping.specs.Tallies.{no_rows, item_value}
-use Rattle.grouping.specs.inside.Adding.{lists_of}
 use Rattle.array_select.specs.Room.{text_bytes_of}
 use Rattle.batch_room.specs.Light.{Fits}
 use Rattle.batch_room.specs.Room.{most_batch_cells, share_among, HasRoom}
 use Rattle.batch_room.proofs.Light.{plain_fit}
 use Rattle.batch_room.proofs.Shares.{fewer_cells, shared_texts}
 use Rattle.grouping.specs.inside.Answering.{first_cell}
-use Rattle.grouping.specs.inside.Counting.{AreWithin}
 use Rattle.grouping.specs.inside.Finishing.{groups_in, CanAnswer, item_cells, AllFit, IsItemColumn, IsBatchOf, IsNextOf}
-use Rattle.grouping.specs.inside.Held.{tallies_in}
 use Rattle.grouping.proofs.Batching.{ranged_any, rows_of_cells}
 use Rattle.grouping.proofs.Feeding.{has_each}
 use Rattle.grouping.proofs.KeyCells.{key_there}
-use Rattle.grouping.proofs.Stepping.{one_within}
 
 pub if_ok_three : {T E : Type 0} (P Q R S : T → Type 0) → ((x : T) → P x → Q x → R x → S x) → (r : Result T E) → IfOk r P → IfOk r Q → IfOk r R → IfOk r S
 if_ok_three P Q R S f (Ok x) p q r = f x p q r

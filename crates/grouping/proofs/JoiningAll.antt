@@ -4,16 +4,16 @@ use Rattle.std.proofs.Math.ListN.{length-set}
 use Rattle.std.proofs.lemmas.List.{get_or-map, length-map}
 use Rattle.std.proofs.lemmas.List.Sums.{sum_by_more, sum_by_more_le}
 use Rattle.typed_plan.specs.declared.plan.Aggregate.{Aggregate}
-use Rattle.grouping.specs.declared.item_tallies.ItemTallies.{ItemTallies}
-use Rattle.grouping.specs.declared.tally.Tally.{Tally}
-use Rattle.grouping.specs.Tallies.{no_rows, both}
-use Rattle.grouping.specs.inside.Adding.{IsKept, lists_of}
-use Rattle.grouping.specs.inside.Counting.{AreWithin, IsSmall, counted_in}
-use Rattle.grouping.specs.inside.Held.{tallies_in}
+use Rattle.group_slots.specs.declared.item_tallies.ItemTallies.{ItemTallies}
+use Rattle.group_slots.specs.declared.tally.Tally.{Tally}
+use Rattle.group_slots.specs.Tallies.{no_rows, both}
+use Rattle.group_slots.specs.Adding.{IsKept, lists_of}
+use Rattle.group_slots.specs.Counting.{AreWithin, IsSmall, counted_in}
+use Rattle.group_slots.specs.Held.{tallies_in}
+use Rattle.group_slots.proofs.AddingAll.{item_left}
+use Rattle.group_slots.proofs.Stepping.{one_within, set_within}
 use Rattle.grouping.specs.inside.Merging.{AllJoined, IsJoined, joined}
-use Rattle.grouping.proofs.AddingAll.{item_left}
 use Rattle.grouping.proofs.JoinedTallies.{joined_long}
-use Rattle.grouping.proofs.Stepping.{one_within, set_within}
 
 -- ---- the tallies of one item
 

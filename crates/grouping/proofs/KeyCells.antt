@@ -2,7 +2,6 @@
 use Rattle.std.proofs.Common.{◌≡◌, ◌≢◌, ℕ, zero, suc, ◌<◌, Bool, true, false, List, [], ◌∷◌, length, map, get_or, refl, sym, ap, ◌∙◌, true≢false, arith, nat_lt}
 use Rattle.std.specs.List.{list_all}
 use Rattle.std.proofs.lemmas.List.{get_or-map}
-use Rattle.std.proofs.lemmas.Option.{unwrap_or-slice_get}
 use Rattle.std.proofs.lemmas.Bool.{and_parts}
 use borrow.Author.Tests.{ltb-true}
 use Rattle.scan_base.specs.declared.value.Value.{Value}
@@ -11,6 +10,7 @@ use Rattle.scan_base.specs.Predicate.{cell_in}
 use Rattle.arrays.specs.Column.{ColumnAt, slot_of}
 use Rattle.arrays.specs.Batch.{row_of}
 use Rattle.typed_plan.specs.Grouped.{same_value, same_key}
+use Rattle.group_slots.proofs.Slotted.{cell_slot}
 use Rattle.grouping.specs.Keys.{value_self, key_sound}
 
 -- keys of one length whose cells are the same are the same
@@ -36,12 +36,6 @@ same_none a b k differs = decide (same_key a b) (λ (h : same_key a b ≡ true).
 -- keys of two lengths differ
 pub same_not : (a b : List Value) → length a ≢ length b → same_key a b ≡ false
 same_not a b differ = decide (same_key a b) (λ (h : same_key a b ≡ true). differ (ap length (key_sound a b h)))
-
--- a cell of a row is the slot of its column
-pub cell_slot : (columns : List ColumnAt) (row key : ℕ) (d : ColumnAt) → key < length columns →
-    cell_in (row_of columns row) key ≡ slot_of (get_or columns key d) row
-cell_slot columns row key d there =
-    unwrap_or-slice_get (row_of columns row) key Null ∙ get_or-map (λ (c : ColumnAt). slot_of c row) columns key d Null there
 
 -- a cell of a key is the slot of its column
 pub key_slot : (columns : List ColumnAt) (row : ℕ) (keys : List ℕ) (place : ℕ) (d : ColumnAt) → place < length keys →

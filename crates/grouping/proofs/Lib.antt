@@ -1,9 +1,6 @@
 pub mod KeyCells
-pub mod Numbers
-pub mod Stepping
 pub mod Finding
 pub mod Sharing
-pub mod AddingAll
 pub mod Feeding
 pub mod Blank
 pub mod Answering
@@ -15,12 +12,8 @@ pub mod Giving
 pub mod JoinedKeys
 pub mod JoinedTallies
 pub mod JoiningAll
-pub mod Counted
+pub mod JoinedCounts
 pub mod Padded
 pub mod Merging
-pub mod Slotted
 pub mod Knowing
-pub mod Tagging
-pub mod ShortTexts
 pub mod OneColumn
-pub mod Pieced

@@ -10,12 +10,13 @@ use Rattle.arrays.specs.Layout.{layout_slot}
 use Rattle.arrays.specs.Texts.{TextsAt, texts_slot}
 use Rattle.arrays.specs.declared.layout.Layout.{Layout}
 use Rattle.arrays.specs.declared.layout.Layout.TheVariants.{Texts}
-use Rattle.grouping.specs.declared.slots.Entries.{Entries}
-use Rattle.grouping.specs.declared.slots.Slots.{Slots}
+use Rattle.group_slots.specs.declared.slots.Entries.{Entries}
+use Rattle.group_slots.specs.declared.slots.Slots.{Slots}
+use Rattle.group_slots.specs.Slots.{HaveRoom, entry_cell, slot_cell}
+use Rattle.group_slots.proofs.Slotted.{cell_slot}
 use Rattle.grouping.specs.Found.{key_in}
 use Rattle.grouping.specs.inside.Knowing.{AreEntryKeys, AreKeys, AreTagged}
-use Rattle.grouping.specs.inside.Slots.{HaveRoom, entry_cell, slot_cell}
-use Rattle.grouping.proofs.KeyCells.{cell_slot, key_there}
+use Rattle.grouping.proofs.KeyCells.{key_there}
 
 -- a column of the batch is the one key
 pub record IsOnly (keys : List ℕ) (batch : BatchAt) (found : ColumnAt) : Type 0 where

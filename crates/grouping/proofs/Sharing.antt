@@ -2,7 +2,7 @@
 use Rattle.std.proofs.Common.{◌≡◌, ◌≢◌, ◌≤◌, ◌<◌, ℕ, zero, suc, Bool, true, false, cond, List, [], ◌∷◌, ◌++◌, length, map, get_or, take, slice_set, refl, sym, ap, ◌∙◌, subst, arith, All, add-one, get_or-set_other, get_or-set_same}
 use Rattle.std.specs.Prelude.{◌==◌, nat_eq, nat_lt}
 use Rattle.std.specs.List.{fold, filter}
-use Rattle.std.proofs.Math.ListN.{length-set, get_or-eq_default}
+use Rattle.std.proofs.Math.ListN.{get_or-eq_default}
 use Rattle.std.proofs.lemmas.List.{map_more, take_all}
 use Rattle.std.proofs.lemmas.List.Elements.{filter-append, All-nil, All-cons}
 use Rattle.std.proofs.lemmas.List.Sums.{fold-append}
@@ -14,12 +14,13 @@ use Rattle.arrays.specs.Column.{ColumnAt}
 use Rattle.table_versions.specs.Table.{Row}
 use Rattle.typed_plan.specs.declared.plan.Aggregate.{Aggregate}
 use Rattle.typed_plan.specs.Grouped.{same_key}
-use Rattle.grouping.specs.declared.tally.Tally.{Tally}
+use Rattle.group_slots.specs.declared.tally.Tally.{Tally}
+use Rattle.group_slots.specs.Tallies.{no_rows, added, tally_of}
+use Rattle.group_slots.specs.Counting.{stepped}
+use Rattle.group_slots.specs.Adding.{IsAdded}
+use Rattle.group_slots.proofs.Stepping.{stepped_long}
 use Rattle.grouping.specs.Found.{key_in, place_in, found_then, found_in, first_found, share}
-use Rattle.grouping.specs.Tallies.{no_rows, added, tally_of}
-use Rattle.grouping.specs.inside.Counting.{stepped}
 use Rattle.grouping.specs.Fed.{AreTallied}
-use Rattle.grouping.specs.inside.Adding.{IsAdded}
 use Rattle.grouping.specs.inside.Placing.{ArePlaced}
 use Rattle.grouping.proofs.Finding.{place_stays, place_inserted, more_there}
 
@@ -27,12 +28,6 @@ use Rattle.grouping.proofs.Finding.{place_stays, place_inserted, more_there}
 pub share_more : (keys : List ℕ) (found : List (List Value)) (xs ys : List Row) (g : ℕ) →
     share keys found (xs ++ ys) g ≡ share keys found xs g ++ share keys found ys g
 share_more keys found xs ys g = filter-append (λ row. place_in found (key_in keys row) == g) xs ys
-
-pub stepped_long : (item : Aggregate) (columns : List ColumnAt) (groups rows : List ℕ) (tallies : List Tally) (count : ℕ) →
-    length (stepped item columns groups rows tallies count) ≡ length tallies
-stepped_long item columns groups rows tallies zero = refl
-stepped_long item columns groups rows tallies (suc count) =
-    length-set _ _ _ ∙ stepped_long item columns groups rows tallies count
 
 -- a tally after rows has the rows of its group
 pub stepped_share : (keys : List ℕ) (columns : List ColumnAt) (found : List (List Value)) (rows groups : List ℕ) (item : Aggregate) (tallies : List Tally) (count : ℕ) →

@@ -5,8 +5,8 @@ use Rattle.scan_base.specs.declared.value.Value.{Value}
 use Rattle.table_versions.specs.Table.{Row}
 use Rattle.typed_plan.specs.declared.plan.Aggregate.TheVariants.{Key}
 use Rattle.typed_plan.specs.Plan.{answered, groups_by}
+use Rattle.group_slots.specs.Tallies.{no_rows, item_value}
 use Rattle.grouping.specs.Fed.{GroupsAt, Holds}
-use Rattle.grouping.specs.Tallies.{no_rows, item_value}
 
 -- what the item at a place gives of the group at a place
 abbrev pub cell_at : GroupsAt → ℕ → ℕ → Value

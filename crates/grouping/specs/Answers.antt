@@ -14,8 +14,8 @@ use Rattle.table_versions.specs.Table.{Row}
 use Rattle.typed_plan.specs.declared.plan.Aggregate.{Aggregate}
 use Rattle.typed_plan.specs.Plan.{answered, groups_by}
 use Rattle.typed_plan.specs.Typed.{item_type}
+use Rattle.group_slots.specs.declared.tally.Tally.{Tally}
 use Rattle.grouping.specs.declared.key.Place.{Place}
-use Rattle.grouping.specs.declared.tally.Tally.{Tally}
 use Rattle.grouping.specs.Answered.{answer_rows}
 use Rattle.grouping.specs.Fed.{GroupsAt, Holds, AreTyped, batch_at}
 use Rattle.grouping.specs.Found.{key_in}

@@ -11,9 +11,9 @@ use Rattle.table_versions.specs.Table.{Row}
 use Rattle.typed_plan.specs.declared.plan.Aggregate.{Aggregate}
 use Rattle.typed_plan.specs.declared.plan.Aggregate.TheVariants.{Key}
 use Rattle.typed_plan.specs.Typed.{has_item}
-use Rattle.grouping.specs.declared.tally.Tally.{Tally}
+use Rattle.group_slots.specs.declared.tally.Tally.{Tally}
+use Rattle.group_slots.specs.Tallies.{no_rows, tally_of}
 use Rattle.grouping.specs.Found.{found_in, share}
-use Rattle.grouping.specs.Tallies.{no_rows, tally_of}
 
 -- The batches whose rows are grouped, the types of their columns, the numbers of those that are the key, the items that are
 -- wanted of each group, the keys of the groups so far, for each item the tally of each group, how many rows were fed, and

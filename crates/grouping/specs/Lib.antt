@@ -4,5 +4,4 @@ pub mod Fed
 pub mod Found
 pub mod Keys
 pub mod RowKeys
-pub mod Tallies
 pub mod inside

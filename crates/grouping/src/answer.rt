@@ -7,13 +7,12 @@ ghost use Rattle.arrow_schema.specs.declared.data_type.DataType.TheVariants as t
 ghost use Rattle.arrow_schema.specs.declared.data_type.IntegerType.TheVariants as integer;
 ghost use Rattle.arrays.specs.Column.{values_of};
 ghost use Rattle.arrays.specs.Typed.{IsOfType};
+ghost use Rattle.group_slots.specs.Held.{tallies_in};
 ghost use Rattle.grouping.specs.inside.Answering.{sum_or_none};
-ghost use Rattle.grouping.specs.inside.Held.{tallies_in};
 
-use crate::item_tallies::{ItemTallies, narrowed, widened};
-use crate::tally::Tally;
 use array_select::{column_of_decimals, column_of_int64s};
 use arrays::Column;
+use group_slots::{ItemTallies, Tally, narrowed, widened};
 use std::alloc::{AllocError, Global};
 
 /// The column of a count, of the groups `from` up to, not with, `to`.
@@ -48,7 +47,7 @@ pub(crate) fn count_column(
 /// # Errors
 ///
 /// `AllocError` where memory is refused.
-#[tactic(auto, using(crate::proofs::Counted::counts_part))]
+#[tactic(auto, using(crate::proofs::Padded::counts_part))]
 pub(crate) fn sum_column(
     alloc: Global,
     tallies: &ItemTallies,

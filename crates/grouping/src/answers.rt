@@ -2,21 +2,21 @@
 
 ghost use Rattle.std.specs.Prelude.{◌≡◌, ◌≤◌, IfOk, length, map};
 ghost use Rattle.scan_base.specs.Limits.{most_rows};
+ghost use Rattle.group_slots.specs.Adding.{IsKept, lists_of};
 ghost use Rattle.grouping.specs.Answers.{GivesAnswer, IsOver, groups_at};
 ghost use Rattle.grouping.specs.Fed.{HasItems};
-ghost use Rattle.grouping.specs.inside.Adding.{IsKept, lists_of};
 ghost use Rattle.grouping.specs.inside.Finishing.{CanAnswer, groups_in};
 ghost use Rattle.grouping.specs.inside.Placing.{found_by, place_of};
 
 use crate::batches::Answer;
 use crate::groups::Grouping;
-use crate::item_tallies::ItemTallies;
 use crate::kept::Kept;
 use crate::key::{Place, RowKey};
 use array_select::MOST_BATCH_ROWS;
 use arrays::Batch;
 use arrow_schema::DataType;
 use batch_room::{next_most, tried_rows};
+use group_slots::ItemTallies;
 use std::alloc::{AllocError, Global};
 use std::marker::Model;
 use typed_plan::Aggregate;
@@ -37,8 +37,8 @@ pub struct Answers {
 
 impl Model for Answers {
     ghost use Rattle.std.specs.Prelude.{length};
+    ghost use Rattle.group_slots.specs.Adding.{lists_of};
     ghost use Rattle.grouping.specs.Answers.{AnswersAt};
-    ghost use Rattle.grouping.specs.inside.Adding.{lists_of};
     ghost use Rattle.grouping.specs.inside.Finishing.{IsAnswers};
 
     ghost Value = { AnswersAt };

@@ -11,12 +11,12 @@ ghost use Rattle.grouping.specs.inside.Answering.{first_cell};
 ghost use Rattle.grouping.specs.inside.Finishing.{groups_in, AllFit, CanAnswer, IsItemColumn, IsBatchOf, IsNextOf, item_cells};
 
 use crate::answer::{count_column, sum_column};
-use crate::item_tallies::ItemTallies;
 use crate::key::Place;
 use array_select::{SlotRef, column_of_slots, has_texts};
 use arrays::{Batch, Column};
 use arrow_schema::DataType;
 use batch_room::{fitting, share_among};
+use group_slots::ItemTallies;
 use std::alloc::{AllocError, Global};
 use typed_plan::Aggregate;
 

@@ -51,8 +51,8 @@ impl Drop for Groups<'_> {
 }
 
 impl<'t> Model for Groups<'t> {
+    ghost use Rattle.group_slots.specs.Adding.{lists_of};
     ghost use Rattle.grouping.specs.Fed.{GroupsAt};
-    ghost use Rattle.grouping.specs.inside.Adding.{lists_of};
     ghost use Rattle.grouping.specs.inside.Kept.{IsGroups};
     ghost use Rattle.grouping.specs.inside.Placing.{found_by};
 

@@ -4,17 +4,16 @@ ghost use Rattle.std.specs.Prelude.{◌≡◌, ◌≤◌, ◌<◌, ℕ, ◌+◌,
 ghost use Rattle.indexmap.specs.IndexSet.{insert_all};
 ghost use Rattle.scan_base.specs.Limits.{most_rows};
 ghost use Rattle.typed_plan.specs.Grouped.{same_key};
+ghost use Rattle.group_slots.specs.Adding.{IsKept, lists_of};
+ghost use Rattle.group_slots.specs.Counting.{AreWithin, counted_in};
+ghost use Rattle.group_slots.specs.Held.{count_tallies, tallies_in};
 ghost use Rattle.grouping.specs.RowKeys.{key_of};
-ghost use Rattle.grouping.specs.inside.Adding.{IsKept, lists_of};
-ghost use Rattle.grouping.specs.inside.Counting.{AreWithin, counted_in};
-ghost use Rattle.grouping.specs.inside.Held.{count_tallies, tallies_in};
 ghost use Rattle.grouping.specs.inside.Merging.{AllJoined, AreJoined, FirstsJoin, IsJoined, joined};
 ghost use Rattle.grouping.specs.inside.Placing.{found_by};
 
-use crate::item_tallies::{ItemTallies, widened};
 use crate::key::RowKey;
 use crate::table::group_of;
-use crate::tally::Tally;
+use group_slots::{ItemTallies, Tally, widened};
 use hash_seed::HashSeed;
 use indexmap::IndexSet;
 use std::alloc::{AllocError, Global};

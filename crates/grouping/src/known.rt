@@ -9,26 +9,10 @@ ghost use Rattle.grouping.specs.inside.Knowing.{AreKnown, AreNothing, AreTagged,
 
 use crate::key::RowKey;
 use crate::table::{Chosen, group_of};
-use crate::tags::Tags;
+use group_slots::{NOTHING, Tag, Tags};
 use hash_seed::HashSeed;
 use indexmap::IndexSet;
 use std::alloc::AllocError;
-
-/// The kind of a tag that says nothing of its key.
-pub(crate) const NOTHING: u32 = 0;
-/// The kind of NULL's tag.
-pub(crate) const NULL: u32 = 1;
-/// The kind of a number's tag.
-pub(crate) const NUMBER: u32 = 2;
-/// The kind of an empty text's tag; that of a longer text is greater by its length.
-pub(crate) const TEXT: u32 = 3;
-
-/// What tells the value of a key of one column from all others, where its kind is not `NOTHING`.
-#[derive(Clone, Copy, Drop)]
-pub(crate) struct Tag {
-    pub(crate) key: u64,
-    pub(crate) kind: u32,
-}
 
 /// The tag of a key, and the place of its group; none where the kind is `NOTHING`.
 #[derive(Clone, Copy, Drop)]

@@ -4,18 +4,20 @@ ghost use Rattle.std.specs.Prelude.{◌≡◌, ◌<◌, All, IfOk, IsTrue, OnOk,
 ghost use Rattle.std.specs.List.{list_all};
 ghost use Rattle.indexmap.specs.IndexSet.{insert_key};
 ghost use Rattle.arrays.specs.Batch.{row_of};
+ghost use Rattle.group_slots.specs.Tagged.{entry_tagged, value_tagged};
 ghost use Rattle.grouping.specs.Found.{found_then, place_in};
-ghost use Rattle.grouping.specs.inside.Knowing.{AreEntryKeys, AreKeys, AreKnown, AreTagged, StayKnown, entry_tagged, value_tagged};
+ghost use Rattle.grouping.specs.inside.Knowing.{AreEntryKeys, AreKeys, AreKnown, AreTagged, StayKnown};
 ghost use Rattle.grouping.specs.inside.Placing.{found_by, ArePlaced, FirstsStay};
 ghost use Rattle.grouping.specs.RowKeys.{key_of, same_first};
 
 use crate::coded::groups_by_codes;
 use crate::key::RowKey;
 use crate::known::{Known, index_count, know_nothing, known_group, push_known, short_group};
-use crate::slots::{Entries, Number, Slots, entry_slots, integer_slots};
-use crate::tags::{IndexTags, NumberTags, Tags, text_tags};
 use arrays::{Batch, Layout};
 use arrow_schema::IntegerType;
+use group_slots::{
+    Entries, IndexTags, Number, NumberTags, Slots, Tags, entry_slots, integer_slots, text_tags,
+};
 use hash_seed::HashSeed;
 use indexmap::IndexSet;
 use std::alloc::{AllocError, Global};

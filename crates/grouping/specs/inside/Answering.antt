@@ -3,9 +3,9 @@ use Rattle.std.specs.Prelude.{ℕ, ◌==◌, ℤ, pos, if◌then◌else◌, List
 use Rattle.scan_base.specs.declared.value.Value.{Value}
 use Rattle.scan_base.specs.Predicate.{cell_in}
 use Rattle.arrays.specs.Batch.{BatchAt}
+use Rattle.group_slots.specs.declared.tally.Tally.{Tally}
 use Rattle.grouping.specs.Answers.{row_in}
 use Rattle.grouping.specs.declared.key.Place.{Place}
-use Rattle.grouping.specs.declared.tally.Tally.{Tally}
 
 -- a count, as a number of a column
 abbrev pub count_or_none : ℕ → Option ℤ

@@ -13,12 +13,12 @@ use Rattle.scan_base.specs.declared.value.Value.{Value}
 use Rattle.typed_plan.specs.declared.plan.Aggregate.{Aggregate}
 use Rattle.typed_plan.specs.declared.plan.Aggregate.TheVariants.{Key}
 use Rattle.typed_plan.specs.Typed.{item_type}
+use Rattle.group_slots.specs.declared.tally.Tally.{Tally}
+use Rattle.group_slots.specs.Adding.{IsKept, lists_of}
 use Rattle.grouping.specs.declared.batches.Answer.{Answer}
-use Rattle.grouping.specs.declared.tally.Tally.{Tally}
 use Rattle.grouping.specs.Answered.{cell_at, row_at}
 use Rattle.grouping.specs.Answers.{IsThere, groups_at}
 use Rattle.grouping.specs.Fed.{AreTyped, GroupsAt, HasItems}
-use Rattle.grouping.specs.inside.Adding.{IsKept, lists_of}
 
 -- how many groups there are, of so many first rows; without columns there is one
 abbrev pub group_count : List ℕ → ℕ → ℕ

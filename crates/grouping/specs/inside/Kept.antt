@@ -1,16 +1,16 @@
 -- Inside: what is true of groups, whatever was fed.
-use Rattle.std.specs.Prelude.{◌≡◌, ◌<◌, ◌≤◌, ℕ, All, List, length, map, get_or, Option, None}
+use Rattle.std.specs.Prelude.{◌≡◌, ◌≤◌, ℕ, All, List, length, map, Option, None}
 use Rattle.scan_base.specs.Limits.{most_rows}
 use Rattle.scan_base.specs.declared.fault.Fault.{Fault}
+use Rattle.group_slots.specs.declared.tally.Tally.{Tally}
+use Rattle.group_slots.specs.Adding.{IsKept}
+use Rattle.group_slots.specs.Tagged.{value_tagged}
 use Rattle.grouping.specs.declared.groups.Grouping.{Grouping}
 use Rattle.grouping.specs.declared.key.RowKey.{RowKey}
 use Rattle.grouping.specs.declared.known.Known.{Known}
-use Rattle.grouping.specs.declared.tally.Tally.{Tally}
 use Rattle.grouping.specs.Fed.{AreTyped, HasItems}
-use Rattle.grouping.specs.Tallies.{no_rows}
 use Rattle.grouping.specs.RowKeys.{key_of}
-use Rattle.grouping.specs.inside.Adding.{IsKept}
-use Rattle.grouping.specs.inside.Knowing.{AreKnown, value_tagged}
+use Rattle.grouping.specs.inside.Knowing.{AreKnown}
 use Rattle.grouping.specs.inside.Placing.{found_by, IsFirst}
 
 -- the batches are of the types, and keys and items name columns that are there
@@ -25,8 +25,3 @@ pub record IsGroups (shape : Grouping) (firsts : List RowKey) (tallies : List (L
   pub few : refused ≡ None → count ≤ most_rows
   pub first : refused ≡ None → All (IsFirst shape.batches.now shape.keys.now) firsts
   pub known_are : refused ≡ None → AreKnown value_tagged (map key_of firsts) known
-
--- so many tallies of no rows
-pub record AreBlank (groups : ℕ) (tallies : List Tally) : Type 0 where
-  pub long : length tallies ≡ groups
-  pub each : (group : ℕ) → group < groups → get_or tallies group no_rows ≡ no_rows

@@ -1,33 +1,18 @@
 -- Inside: keys that are known by a number.
-use Rattle.std.specs.Prelude.{◌≡◌, ◌≢◌, ◌≤◌, ◌<◌, ◌==◌, ℕ, zero, suc, ◌-◌, ◌/◌, ◌%◌, unwrap_or, if◌then◌else◌, All, List, [], ◌∷◌, length, map, get_or}
-use Rattle.std.specs.Int.{w64, cast_signed}
+use Rattle.std.specs.Prelude.{◌≡◌, ◌≢◌, ◌≤◌, ◌<◌, ℕ, All, List, [], ◌∷◌, length, map, get_or}
 use Rattle.scan_base.specs.declared.value.Value.{Value}
-use Rattle.scan_base.specs.declared.value.Value.TheVariants.{Null, Int, Text}
 use Rattle.indexmap.specs.IndexSet.{insert_key}
+use Rattle.group_slots.specs.declared.slots.Entries.{Entries}
+use Rattle.group_slots.specs.declared.slots.Slots.{Slots}
+use Rattle.group_slots.specs.Slots.{HaveRoom, entry_cell, slot_cell}
+use Rattle.group_slots.specs.Tagged.{value_tagged}
 use Rattle.grouping.specs.declared.key.RowKey.{RowKey}
 use Rattle.grouping.specs.declared.known.Known.{Known}
 use Rattle.grouping.specs.declared.table.Chosen.{Chosen}
 use Rattle.arrays.specs.Batch.{BatchAt, row_of}
-use Rattle.arrays.specs.Dictionary.{entry_at}
-use Rattle.grouping.specs.declared.slots.Entries.{Entries}
-use Rattle.grouping.specs.declared.slots.Slots.{Slots}
 use Rattle.grouping.specs.Found.{key_in, place_in}
 use Rattle.grouping.specs.RowKeys.{key_of, same_first}
 use Rattle.grouping.specs.inside.Placing.{IsFinding}
-use Rattle.grouping.specs.inside.Slots.{HaveRoom, entry_cell, slot_cell}
-
--- the lowest bytes of a number, the lowest first
-abbrev pub low_bytes : ℕ → ℕ → List ℕ
-low_bytes zero number = []
-low_bytes (suc len) number = number % 256 ∷ low_bytes len (number / 256)
-
--- What a tag of a kind says that a value is: NULL, a number, or a text of so many bytes.
-abbrev pub value_tagged : ℕ → ℕ → Value
-value_tagged kind key = if kind == 1 then Null else if kind == 2 then Int (cast_signed w64 key) else Text (low_bytes (kind - 3) key)
-
--- What a tag of a kind says that an index leads to: NULL, or an entry of the dictionary.
-abbrev pub entry_tagged : List Value → ℕ → ℕ → Value
-entry_tagged dictionary kind key = if kind == 1 then Null else unwrap_or (entry_at dictionary (cast_signed w64 key)) Null
 
 -- the key of each row of the batch is one value
 pub record AreTagged (count : ℕ) (value : ℕ → Value) (keys : List ℕ) (batch : BatchAt) : Type 0 where

@@ -4,11 +4,11 @@ use Rattle.indexmap.specs.IndexSet.{insert_all}
 use Rattle.scan_base.specs.declared.value.Value.{Value}
 use Rattle.arrays.specs.Batch.{BatchAt}
 use Rattle.typed_plan.specs.Grouped.{same_key}
+use Rattle.group_slots.specs.declared.tally.Tally.{Tally}
+use Rattle.group_slots.specs.Tallies.{no_rows, both}
+use Rattle.group_slots.specs.Counting.{AreWithin}
 use Rattle.grouping.specs.declared.key.RowKey.{RowKey}
-use Rattle.grouping.specs.declared.tally.Tally.{Tally}
 use Rattle.grouping.specs.Found.{place_in}
-use Rattle.grouping.specs.Tallies.{no_rows, both}
-use Rattle.grouping.specs.inside.Counting.{AreWithin}
 use Rattle.grouping.specs.inside.Placing.{IsFirst}
 
 -- the group of each of the first `count` of other keys is its place

@@ -1,9 +1,9 @@
 use Rattle.std.proofs.Common.{◌≤◌, ◌-◌, pos, All, ap, map, sym, subst, ◌∙◌, take, drop}
 use Rattle.scan_base.specs.declared.value.Value.TheVariants.{Int}
 use Rattle.scan_base.specs.Limits.{most_rows}
-use Rattle.grouping.specs.declared.item_tallies.ItemTallies.{ItemTallies}
-use Rattle.grouping.specs.declared.tally.Tally.{Tally}
-use Rattle.grouping.specs.inside.Held.{tallies_in}
+use Rattle.group_slots.specs.declared.item_tallies.ItemTallies.{ItemTallies}
+use Rattle.group_slots.specs.declared.tally.Tally.{Tally}
+use Rattle.group_slots.specs.Held.{tallies_in}
 use Rattle.grouping.proofs.Answering.{if_ok}
 use Rattle.grouping.proofs.Padded.{narrowed_few, narrowed_shown, part_few, part_shown}
 use Rattle.grouping.proofs.answer.count_column.Goals as goal

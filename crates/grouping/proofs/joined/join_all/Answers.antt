@@ -1,10 +1,10 @@
 use Rattle.std.proofs.Common.{◌≡◌, ◌<◌, ◌+◌, List, [], length, get_or, sym, subst, arith}
 use Rattle.std.proofs.lemmas.List.{map-set, length-map}
-use Rattle.grouping.specs.declared.tally.Tally.{Tally}
-use Rattle.grouping.specs.inside.Adding.{lists_of}
-use Rattle.grouping.specs.inside.Counting.{counted_in}
+use Rattle.group_slots.specs.declared.tally.Tally.{Tally}
+use Rattle.group_slots.specs.Adding.{lists_of}
+use Rattle.group_slots.specs.Counting.{counted_in}
+use Rattle.group_slots.specs.Held.{tallies_in}
 use Rattle.grouping.specs.inside.Merging.{IsJoined}
-use Rattle.grouping.specs.inside.Held.{tallies_in}
 use Rattle.grouping.proofs.JoiningAll.{IsItem, item_at, kept_after, more, within_more, within_own}
 use Rattle.grouping.proofs.joined.join_all.Goals as goal
 use Rattle.grouping.proofs.joined.join_all.Goals.{After-index-others-item}

@@ -1,5 +1,5 @@
 use Rattle.std.proofs.Common.{◌+◌}
-use Rattle.grouping.specs.inside.Adding.{lists_of}
+use Rattle.group_slots.specs.Adding.{lists_of}
 use Rattle.grouping.specs.inside.Merging.{AllJoined}
 use Rattle.grouping.proofs.joined.join_all.Given as goal
 

@@ -2,8 +2,8 @@ use Rattle.std.proofs.Common.{◌<◌, length, get_or, arith, refl}
 use Rattle.std.proofs.lemmas.List.{length-map}
 use Rattle.std.proofs.lemmas.List.Elements.{All-get_or}
 use Rattle.scan_base.specs.Limits.{most_rows}
-use Rattle.grouping.specs.inside.Held.{count_tally}
-use Rattle.grouping.proofs.Counted.{count_join, joined_few}
+use Rattle.group_slots.specs.Held.{count_tally}
+use Rattle.grouping.proofs.JoinedCounts.{count_join, joined_few}
 use Rattle.grouping.proofs.joined.join_counts.Goals as goal
 use Rattle.grouping.proofs.joined.join_counts.Goals.{In-loop-k}
 

@@ -1,4 +1,4 @@
-use Rattle.grouping.specs.inside.Held.{count_tallies}
+use Rattle.group_slots.specs.Held.{count_tallies}
 use Rattle.grouping.proofs.JoiningAll.{IsJoining}
 use Rattle.grouping.proofs.joined.join_counts.Given as goal
 

@@ -1,5 +1,5 @@
 use Rattle.std.proofs.lemmas.Result.{on_ok_weaker}
-use Rattle.grouping.specs.inside.Held.{tallies_in}
+use Rattle.group_slots.specs.Held.{tallies_in}
 use Rattle.grouping.proofs.Padded.{padded_joined}
 use Rattle.grouping.proofs.joined.join_item.Goals as goal
 

@@ -1,8 +1,8 @@
 use Rattle.std.proofs.Common.{ℕ, length, map, sym, ap, subst, arith, Vec}
 use Rattle.std.specs.Global.{Global}
 use Rattle.arrays.specs.Batch.{row_of}
-use Rattle.grouping.specs.declared.item_tallies.ItemTallies.{ItemTallies}
-use Rattle.grouping.specs.inside.Adding.{IsKept, lists_of}
+use Rattle.group_slots.specs.declared.item_tallies.ItemTallies.{ItemTallies}
+use Rattle.group_slots.specs.Adding.{IsKept, lists_of}
 use Rattle.grouping.specs.inside.Placing.{found_by}
 use Rattle.grouping.proofs.Sharing.{found_grows}
 use Rattle.grouping.proofs.kept.add.Goals as goal

@@ -1,7 +1,6 @@
 use Rattle.std.proofs.Common.{◌≡◌, length, All}
-use Rattle.grouping.specs.declared.item_tallies.ItemTallies.{ItemTallies}
-use Rattle.grouping.specs.inside.Kept.{AreBlank}
-use Rattle.grouping.specs.inside.Held.{tallies_in}
+use Rattle.group_slots.specs.declared.item_tallies.ItemTallies.{ItemTallies}
+use Rattle.group_slots.specs.Held.{AreBlank, tallies_in}
 use Rattle.grouping.proofs.kept.blank.Given as goal
 
 abbrev pub invariant-loop-item : goal.invariant-loop-item

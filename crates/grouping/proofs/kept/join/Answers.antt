@@ -1,6 +1,6 @@
 use Rattle.std.proofs.Common.{◌<◌, ℕ, List, All, length, ap, sym, subst, arith}
-use Rattle.grouping.specs.declared.item_tallies.ItemTallies.{ItemTallies}
-use Rattle.grouping.specs.inside.Adding.{IsKept, lists_of}
+use Rattle.group_slots.specs.declared.item_tallies.ItemTallies.{ItemTallies}
+use Rattle.group_slots.specs.Adding.{IsKept, lists_of}
 use Rattle.grouping.specs.inside.Placing.{found_by}
 use Rattle.grouping.proofs.JoinedKeys.{all_there, keys_grow}
 use Rattle.grouping.proofs.kept.join.Goals as goal

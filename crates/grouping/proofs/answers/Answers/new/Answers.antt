@@ -1,5 +1,5 @@
 use Rattle.std.proofs.Common.{refl, map, ap, ◌∙◌, subst, arith}
-use Rattle.grouping.specs.inside.Adding.{IsKept, lists_of}
+use Rattle.group_slots.specs.Adding.{IsKept, lists_of}
 use Rattle.grouping.specs.inside.Placing.{place_of}
 use Rattle.grouping.proofs.Giving.{found_long}
 use Rattle.grouping.proofs.answers.Answers.new.Goals as goal

@@ -1,6 +1,6 @@
 use Rattle.std.proofs.Common.{◌≡◌, ◌+◌, refl, sym, ap, ◌∙◌, subst, arith}
+use Rattle.group_slots.specs.Adding.{lists_of}
 use Rattle.grouping.specs.Answers.{AnswersAt, GivesGroups, IsOver, groups_at}
-use Rattle.grouping.specs.inside.Adding.{lists_of}
 use Rattle.grouping.specs.inside.Finishing.{groups_in}
 use Rattle.grouping.proofs.Giving.{gives, none_left}
 use Rattle.grouping.proofs.answers.Answers.next.Goals as goal

@@ -1,0 +1,10 @@
+pub mod Numbers
+pub mod Stepping
+pub mod AddingAll
+pub mod Both
+pub mod Padded
+pub mod Counted
+pub mod Slotted
+pub mod Tagging
+pub mod ShortTexts
+pub mod Pieced

@@ -1,0 +1,61 @@
+//! Counts of rows and of values, for each group.
+
+ghost use Rattle.std.specs.Prelude.{◌≡◌, ◌≤◌, ◌<◌, ◌+◌, All, length};
+ghost use Rattle.scan_base.specs.Limits.{most_rows};
+ghost use Rattle.typed_plan.specs.declared.plan.Aggregate.TheVariants.{CountRows as CountAll, Count as CountOf};
+ghost use Rattle.scan_base.specs.Predicate.{cell_in};
+ghost use Rattle.arrays.specs.Batch.{row_of};
+ghost use Rattle.group_slots.specs.Counting.{AreWithin, CanCount, stepped};
+ghost use Rattle.group_slots.specs.Held.{count_tally, count_tallies};
+ghost use Rattle.group_slots.specs.Tallies.{counted};
+
+use crate::part::Part;
+use arrays::{Batch, Cells};
+use scan_base::ValueRef;
+
+/// Counts each row in its group.
+pub(crate) fn count_rows(counts: &mut [u64], part: &Part<'_>)
+    requires grouped { All (λ group. group < length counts.old) part.now.groups.now }
+    requires long { length part.now.groups.now ≡ length part.now.rows.now }
+    requires few { part.now.fed + length part.now.rows.now ≤ most_rows }
+    requires small { AreWithin part.now.fed (count_tallies counts.old) }
+    ensures stepped { count_tallies counts.new
+        ≡ stepped CountAll part.now.batch.now.columns part.now.groups.now part.now.rows.now (count_tallies counts.old) (length part.now.rows.now) }
+    ensures small { AreWithin (part.now.fed + length part.now.rows.now) (count_tallies counts.new) }
+{
+    for k in 0..part.rows.len() {
+        let group = part.groups[k] as usize;
+        counts[group] += 1;
+    }
+}
+
+/// Counts each value of a column in the group of its row.
+pub(crate) fn count_values(counts: &mut [u64], column: usize, part: &Part<'_>)
+    requires there { CanCount (CountOf column) part.now.batch.now.columns }
+    requires within { All (λ row. row < part.now.batch.now.rows) part.now.rows.now }
+    requires grouped { All (λ group. group < length counts.old) part.now.groups.now }
+    requires long { length part.now.groups.now ≡ length part.now.rows.now }
+    requires few { part.now.fed + length part.now.rows.now ≤ most_rows }
+    requires small { AreWithin part.now.fed (count_tallies counts.old) }
+    ensures stepped { count_tallies counts.new
+        ≡ stepped (CountOf column) part.now.batch.now.columns part.now.groups.now part.now.rows.now (count_tallies counts.old) (length part.now.rows.now) }
+    ensures small { AreWithin (part.now.fed + length part.now.rows.now) (count_tallies counts.new) }
+{
+    for k in 0..part.rows.len() {
+        let group = part.groups[k] as usize;
+        counts[group] += value_count(part.batch, column, part.rows[k] as usize);
+    }
+}
+
+// How many values a row has in a column: one, or none where it is null.
+fn value_count(batch: &Batch, column: usize, row: usize) -> u64
+    requires there { column < length batch.now.columns }
+    requires within { row < batch.now.rows }
+    ensures counted { counted (count_tally 0) (cell_in (row_of batch.now.columns row) column) ≡ count_tally result }
+    ensures one { result ≤ 1 }
+{
+    match batch.columns()[column].value_at(row) {
+        ValueRef::Null => 0,
+        _ => 1,
+    }
+}

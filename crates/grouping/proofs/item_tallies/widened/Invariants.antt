@@ -1,6 +1,0 @@
-use Rattle.std.proofs.Common.{◌≡◌, take}
-use Rattle.grouping.specs.inside.Held.{count_tallies}
-use Rattle.grouping.proofs.item_tallies.widened.Given as goal
-
-abbrev pub invariant-loop-count : goal.invariant-loop-count
-invariant-loop-count l = l.sums.items ≡ count_tallies (take l.count-index l.counts)
