@@ -8,6 +8,7 @@ import socket
 import struct
 import subprocess
 import tempfile
+import time
 
 import wire
 
@@ -55,6 +56,10 @@ class Server:
         """The processor time that it used so far."""
         fields = pathlib.Path(f"/proc/{self.process.pid}/stat").read_text().rpartition(")")[2].split()
         return int(fields[11]) + int(fields[12])
+
+    def seconds_worked(self) -> float:
+        """The same in seconds, by the clock that Linux keeps of a process (its number is worked out as in the C library)."""
+        return time.clock_gettime((~self.process.pid << 3) | 2)
 
     def open_files(self) -> int:
         return len(os.listdir(f"/proc/{self.process.pid}/fd"))

@@ -22,8 +22,8 @@ const MAX_ANSWER_ROWS: usize = 67_108_864;
 // How many morsels may end without a row in one turn. A turn of each of them has patience for as many parts of the rows.
 const MOST_ENDED: usize = 16;
 
-// The stream that its morsels make up: the payload of the schema, and those of the morsels as they are answered, in their
-// order. It counts the rows of all.
+// The stream that its morsels make up: the payload of the schema, unless one has told it before, and those of the morsels as
+// they are answered, in their order. It counts the rows of all.
 #[derive(Drop)]
 pub(crate) struct Joined<'x, 'a, A: Part, P: Answers<A>> {
     pub(crate) morsels: &'x Morsels<'x>,
