@@ -34,10 +34,10 @@ pub enum OwnedStats {
     },
     /// Of both texts the first bytes, at most 16, and whether they are all of it.
     Texts {
-        least: ShortText,
         least_is_whole: bool,
-        greatest: ShortText,
         greatest_is_whole: bool,
+        least: ShortText,
+        greatest: ShortText,
         nulls: usize,
     },
 }
