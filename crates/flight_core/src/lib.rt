@@ -15,7 +15,6 @@ pub use crate::plain::Plain;
 pub use crate::put::{PutReader, read_put};
 pub use fetch_stream::{
     Execution, Executor, FetchStream, OneWorker, Parcel, Payload, Payloads, ReadsPayloads,
-    answer_fetch,
-    read_ticket,
+    answer_fetch, read_ticket,
 };
 pub use flight_info::{Reply, answer_info, answer_schema, answer_tables};
