@@ -65,7 +65,7 @@ one_dictionary values texts is =
     let column = whole (layout.Texts values) in
     let held : values_of column ≡ map Text texts = texts_whole values ∙ is in
     let all : body_length (values_batch values)
-        ≡ with_zeros (length (validity_written column)) + (with_zeros (length (offsets_from 0 (values_of column))) + with_zeros (length (texts_joined (values_of column)))) =
+    ≡ with_zeros (length (validity_written column)) + (with_zeros (length (offsets_from 0 (values_of column))) + with_zeros (length (texts_joined (values_of column)))) =
     three_buffers (validity_written column) (offsets_from 0 (values_of column)) (texts_joined (values_of column)) in
     let none : length (validity_written column) ≡ 0 = ap length (no_validity column texts held) in
     let offsets : length (offsets_from 0 (values_of column)) ≡ 4 * (length texts + 1) =

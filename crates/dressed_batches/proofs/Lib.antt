@@ -1,3 +1,4 @@
 pub mod Dressing
 pub mod Lengths
 pub mod Sent
+pub mod Whole

@@ -6,7 +6,7 @@ pub mod MadeAhead
 pub mod Meaning
 pub mod Padding
 pub mod Parts
-pub pub mod Scanned
+pub mod Scanned
 pub mod Short
 pub mod Sizes
 pub mod Stepping

@@ -127,11 +127,7 @@ fn send_payload<W: Output>(
 }
 
 // Sends the payloads of a parcel, each in a Message.
-fn send_parcel<W: Output>(
-    writer: &mut W,
-    outbox: &mut Outbox,
-    parcel: &Parcel,
-) -> Result<(), Fault>
+fn send_parcel<W: Output>(writer: &mut W, outbox: &mut Outbox, parcel: &Parcel) -> Result<(), Fault>
     requires failures { CanFail (W.failures writer.old) }
     ensures bytes { Sends result (W.contents writer.old) (W.contents writer.new)
         outbox.old outbox.new (flat_map spelling (map Message parcel.now)) }

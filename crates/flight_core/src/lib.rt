@@ -14,7 +14,7 @@ pub use crate::machine::{put_answer, run, step, step_put};
 pub use crate::plain::Plain;
 pub use crate::put::{PutReader, read_put};
 pub use fetch_stream::{
-    Execution, Executor, FetchStream, OneWorker, Payload, Payloads, ReadsPayloads, answer_fetch,
-    read_ticket,
+    Execution, Executor, FetchStream, OneWorker, Parcel, Payload, Payloads, ReadsPayloads,
+    answer_fetch, read_ticket,
 };
 pub use flight_info::{Reply, answer_info, answer_schema, answer_tables};
