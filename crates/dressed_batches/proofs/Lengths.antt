@@ -58,6 +58,9 @@ no_validity column texts is =
 all_three : (a b c d e f : ℕ) → a ≡ d → b ≡ e → c ≡ f → with_zeros a + (with_zeros b + with_zeros c) ≡ with_zeros d + (with_zeros e + with_zeros f)
 all_three a b c d e f first second third = rw (first, second, third) refl
 
+nothing_first : (n : ℕ) → with_zeros 0 + n ≡ n
+nothing_first n = omega arith
+
 -- how long a dictionary's body is
 pub one_dictionary : (values : TextsAt) (texts : List (List ℕ)) → texts_values values ≡ map Text texts → body_length (values_batch values) ≡ texts_length texts
 unfolding values_written
@@ -72,6 +75,7 @@ one_dictionary values texts is =
     length-offsets 0 (values_of column) ∙ ap (λ (vs : List Value). 4 * (length vs + 1)) held ∙ ap (λ (n : ℕ). 4 * (n + 1)) (length-map texts Text) in
     let bytes : length (texts_joined (values_of column)) ≡ bytes_in texts = ap (λ (vs : List Value). length (texts_joined vs)) held in
     all ∙ all_three _ _ _ 0 (4 * (length texts + 1)) (bytes_in texts) none offsets bytes
+    ∙ nothing_first (texts_length texts)
 
 -- ---- a column of indices
 
@@ -122,27 +126,25 @@ pub written_short : (number : ℕ) (fields : List Field) (columns made : List Co
 written_short number [] [] [] [] answered is = omega arith
 written_short number [] [] [] (d ∷ dictionaries) answered is = absurd (omega (arith, ap length is))
 written_short number (field ∷ fields) (column ∷ columns) (m ∷ made) dictionaries answered is =
-    by field.data_type answered.0 is
+    by (λ some are. written_short (number + 1) fields columns made some answered.1 are) field.data_type answered.0 is
   where
     behind : length (body_of (buffers_written (m ∷ made))) ≡ length (body_of (column_written m)) + length (body_of (buffers_written made))
     behind = length_more (m ∷ made) made 0 m refl
 
-    rest : (some : List ColumnDictionary) → map dictionary_seen some ≡ dictionaries_of (number + 1) fields columns →
-        all_written some + length (body_of (buffers_written made)) ≤ dressed_length fields columns
-    rest some are = written_short (number + 1) fields columns made some answered.1 are
-
-    same : (t : DataType) → column_length t column ≡ length (body_of (column_written column)) → m ≡ column → map dictionary_seen dictionaries ≡ dictionaries_of (number + 1) fields columns →
+    same : ((some : List ColumnDictionary) → map dictionary_seen some ≡ dictionaries_of (number + 1) fields columns →
+        all_written some + length (body_of (buffers_written made)) ≤ dressed_length fields columns) → (t : DataType) → column_length t column ≡ length (body_of (column_written column)) → m ≡ column → map dictionary_seen dictionaries ≡ dictionaries_of (number + 1) fields columns →
         all_written dictionaries + length (body_of (buffers_written (m ∷ made))) ≤ column_length t column + dressed_length fields columns
-    same t long e are =
+    same rest t long e are =
         let first : length (body_of (column_written m)) ≡ length (body_of (column_written column)) = ap (λ (c : ColumnAt). length (body_of (column_written c))) e in
         omega (arith, behind, rest dictionaries are, first, long)
 
-    of : (dictionary : DataType) (some : List ColumnDictionary) → (values_of m ≡ values_of column) × LiesOver (firsts (values_of column)) m →
+    of : ((some : List ColumnDictionary) → map dictionary_seen some ≡ dictionaries_of (number + 1) fields columns →
+        all_written some + length (body_of (buffers_written made)) ≤ dressed_length fields columns) → (some : List ColumnDictionary) → (values_of m ≡ values_of column) × LiesOver (firsts (values_of column)) m →
         map dictionary_seen some ≡ (number, map Text (firsts (values_of column))) ∷ dictionaries_of (number + 1) fields columns →
         all_written some + length (body_of (buffers_written (m ∷ made)))
         ≤ texts_length (firsts (values_of column)) + (with_zeros (length (validity_written column)) + with_zeros (4 * column.len)) + dressed_length fields columns
-    of dictionary [] over are = absurd (omega (arith, ap length are))
-    of dictionary (d ∷ some) over are =
+    of rest [] over are = absurd (omega (arith, ap length are))
+    of rest (d ∷ some) over are =
         let texts : texts_values d.texts ≡ map Text (firsts (values_of column)) = ap (λ (all : List (ℕ × List Value)). (head all).1) are in
         let others : map dictionary_seen some ≡ dictionaries_of (number + 1) fields columns = ap tail are in
         omega (
@@ -153,14 +155,15 @@ written_short number (field ∷ fields) (column ∷ columns) (m ∷ made) dictio
           indices_length (firsts (values_of column)) column m over.0 over.1,
         )
 
-    by : (t : DataType) → IsAnswered t column m → map dictionary_seen dictionaries ≡ map (λ values. (number, values)) (column_dictionary t column) ++ dictionaries_of (number + 1) fields columns →
+    by : ((some : List ColumnDictionary) → map dictionary_seen some ≡ dictionaries_of (number + 1) fields columns →
+        all_written some + length (body_of (buffers_written made)) ≤ dressed_length fields columns) → (t : DataType) → IsAnswered t column m → map dictionary_seen dictionaries ≡ map (λ values. (number, values)) (column_dictionary t column) ++ dictionaries_of (number + 1) fields columns →
         all_written dictionaries + length (body_of (buffers_written (m ∷ made))) ≤ column_length t column + dressed_length fields columns
-    by (Integer integer) e are = same (Integer integer) refl e are
-    by Utf8 e are = same Utf8 refl e are
-    by Flags e are = same Flags refl e are
-    by Decimal128 e are = same Decimal128 refl e are
-    by Date e are = same Date refl e are
-    by (Dictionary encoding) over are = of (Dictionary encoding) dictionaries over are
+    by rest (Integer integer) e are = same rest (Integer integer) refl e are
+    by rest Utf8 e are = same rest Utf8 refl e are
+    by rest Flags e are = same rest Flags refl e are
+    by rest Decimal128 e are = same rest Decimal128 refl e are
+    by rest Date e are = same rest Date refl e are
+    by rest (Dictionary encoding) over are = of rest dictionaries over are
 written_short number [] [] (m ∷ made) dictionaries answered is = absurd answered
 written_short number [] (column ∷ columns) made dictionaries answered is = absurd answered
 written_short number (field ∷ fields) [] made dictionaries answered is = absurd answered
