@@ -58,8 +58,8 @@ class Server:
         return int(fields[11]) + int(fields[12])
 
     def seconds_worked(self) -> float:
-        """The same in seconds, by the clock that Linux keeps of a process (its number is worked out as in the C library)."""
-        return time.clock_gettime((~self.process.pid << 3) | 2)
+        """The same in seconds, by the finer clock that Linux keeps of a process. It lags by a few milliseconds at most."""
+        return time.clock_gettime((~self.process.pid << 3) | 2)  # (the number of that clock, as the C library works it out)
 
     def open_files(self) -> int:
         return len(os.listdir(f"/proc/{self.process.pid}/fd"))

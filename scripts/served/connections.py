@@ -268,7 +268,7 @@ def half_closed(run: Run) -> None:
                 Refusal("F10").look(connection.answer())
 
 
-NUMBERED = 8_000  # rows that name one text of 65,536 bytes, each beside its number: such a key is hashed for each row
+NUMBERED = 16_000  # rows that name one text of 65,536 bytes, each beside its number: such a key is hashed for each row
 V = (Column("v", "Int64", True),)
 # a join of one row with the rows of a further place, and the groups of these rows, with how many rows either answer has
 LONG = (("SELECT x.v FROM t AS x JOIN t AS y ON x.s = y.s AND x.v = y.v", 1, 1),

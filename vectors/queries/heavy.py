@@ -16,6 +16,7 @@ from table import BOOL, UTF8, batch, dictionary, encoding, field, integer, numbe
 from trees import placed
 
 LONG, COLUMNS, ROWS, FLAGS, WINDOWS = "b" * 65_536, 63, 5, 600, 64
+FITS = 15  # so many of the columns that two rows of them have less than 2 MB of text, and three have more
 INT32 = integer(32, True)
 # The bits of the windows: each eight rows further on than the one before.
 BITS = [place * place % 7 in (1, 2) or place % 11 == 3 for place in range(FLAGS + 64 * WINDOWS)]
@@ -65,6 +66,7 @@ def puts():
 
 def cases():
     two = ", ".join(names(COLUMNS, "x."))
+    fits = ", ".join(names(FITS, "x."))
     four = ", ".join(names(20, "x.") + names(20, "y.") + names(24, "z."))
     joined = "FROM keys5 AS a JOIN heavy AS x ON a.k = x.k"
     keys, counts = names(40, letter="f"), ", ".join(["COUNT(*)"] * 64)
@@ -72,6 +74,9 @@ def cases():
     yield f"count SELECT {two} {joined}", f"{ROWS} rows"
     yield f"count SELECT {two} {joined} WHERE x.t0 <> 'b'", f"{ROWS} rows"
     yield f"count SELECT {four} {joined} JOIN heavy AS y ON a.k = y.k JOIN heavy AS z ON a.k = z.k", f"{ROWS} rows"
+    yield f"count SELECT {fits} {joined}", f"{ROWS} rows"
+    yield f"count SELECT {fits} FROM entry AS a JOIN entry AS x ON a.k = x.k", f"{ROWS} rows"
+    yield f"count SELECT {', '.join(names(FITS))} FROM entry GROUP BY k, {', '.join(names(FITS))}", f"{ROWS} rows"
     yield f"count SELECT {two} FROM entry AS a JOIN entry AS x ON a.k = x.k", f"{ROWS} rows"
     yield f"count SELECT {', '.join(['t0'] * 64)} FROM entry GROUP BY t0, k", f"{ROWS} rows"
     yield f"count SELECT {', '.join(names(COLUMNS))} FROM entry GROUP BY k, {', '.join(names(COLUMNS))}", f"{ROWS} rows"
