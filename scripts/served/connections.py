@@ -246,6 +246,22 @@ def gone_while_joining(run: Run) -> str:
     return f"at most {longest:.1f} s"
 
 
+SHORT = ("SELECT x.v FROM t AS x JOIN t AS y ON x.k = y.k", "SELECT v FROM t GROUP BY v")
+
+
+@case("clients that end what they send behind a short join, and behind groups: each has its whole answer, and that of the call behind it")
+def half_closed(run: Run) -> None:
+    with run.serving() as server:
+        with Connection(server.port) as connection:
+            ask(connection, put_of("t", KEYS, [(number, number) for number in range(1_000)]), PutCount(1_000))
+        for text in SHORT:
+            with Connection(server.port) as connection:
+                connection.send(fetch_of(1, 0, 1_000, text) + PUT)
+                connection.end_input()
+                rows_of(V, *[(number,) for number in range(1_000)]).look(connection.answer())
+                Refusal("F10").look(connection.answer())
+
+
 NUMBERED = 16_000  # rows that name one text of 65,536 bytes, each beside its number: such a key is hashed for each row
 V = (Column("v", "Int64", True),)
 # a join of one row with the rows of a further place, and the groups of these rows, with how many rows either answer has

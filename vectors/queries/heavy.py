@@ -1,4 +1,4 @@
-"""Cases of answers that are far larger than the put that they come from: batches of few rows, since their texts have 8 MB over
+"""Cases of answers that are far larger than the put that they come from: batches of few rows, since their texts have 2 MB over
 all columns, and of few cells. Of each answer the rows are counted.
 
 Tables, each put as Arrow messages:

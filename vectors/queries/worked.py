@@ -438,6 +438,8 @@ JOINED_OR_GROUPED = [
     ("SELECT s, COUNT(*) FROM words GROUP BY s", [("'b'", 2), (None, 2), ("'a'", 1)]),
     ("SELECT SUM(a), COUNT(s) FROM words WHERE a > 1 GROUP BY s", [(6, 0), (3, 1), (5, 1)]),
     ("SELECT c, COUNT(*) FROM twice GROUP BY c", [("'x'", 2)]),
+    ("SELECT c, c, COUNT(*) FROM twice GROUP BY c, c", [("'x'", "'x'", 2)]),
+    ("SELECT s, COUNT(*), s FROM words GROUP BY s, a, s, a", [("'b'", 1, "'b'"), (None, 1, None), ("'a'", 1, "'a'"), (None, 1, None), ("'b'", 1, "'b'")]),
     # dates
     ("SELECT x.k, y.i FROM days x JOIN history y ON x.d = y.d", [(1, 3)]),
     ("SELECT x.i, y.i FROM history x JOIN history y ON x.d = y.d WHERE y.d > DATE '1994-01-01'", [(4, 4)]),

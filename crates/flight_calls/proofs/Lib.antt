@@ -6,6 +6,7 @@ pub mod Streaming
 pub mod Fetching
 pub mod Reacting
 pub mod Looking
+pub mod Flushing
 pub mod Serving
 pub mod Telling
 pub mod Running

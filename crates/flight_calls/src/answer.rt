@@ -42,7 +42,7 @@ pub enum Answer {
 /// Writes an answer: each payload in a Message, of which a large part is not copied, and then the Status. Where it is
 /// small it is one write. A payload of a stream is sent before the next one is made, and of it no more than an outbox
 /// gathers waits for the next write. Where the second one may come late (`Opening::takes_long`), the first is written at once.
-/// Where 1,048,576 rows were looked at without one that is given, what waits is written. Behind either the other end is looked at.
+/// Where 1,048,576 rows were looked at without one that is given, what waits is written, and the other end is looked at.
 ///
 /// # Errors
 ///
@@ -153,7 +153,8 @@ fn send_fetch<W: Output, X: Executor>(
     }
 }
 
-// Sends the payload of a schema. Where the next one may come late, it is written at once, and the other end is looked at.
+// Sends the payload of a schema. Where the next one may come late, it is written at once. The other end is not looked at: it may
+// have ended what it sends, and still wait for its answer.
 fn send_first<W: Output>(
     writer: &mut W,
     outbox: &mut Outbox,
@@ -168,7 +169,7 @@ fn send_first<W: Output>(
 {
     send_payload(writer, outbox, first)?;
     if late {
-        return outbox.look(writer);
+        return outbox.flush(writer);
     }
     Ok(())
 }

@@ -71,7 +71,7 @@ impl<'h, R: StartsGroupWorkers> Model for GroupWorkers<'h, R> {
 }
 
 impl<'h, R: Threads + Wait + Sync> GroupWorkers<'h, R> {
-    /// So many workers at most, with the thread that calls. This handle starts the threads of the others.
+    /// So many workers at most, beside the thread that calls. This handle starts their threads.
     pub fn new(rt: &'h R, workers: usize) -> GroupWorkers<'h, R> {
         GroupWorkers { rt, workers }
     }

@@ -10,7 +10,8 @@ use std::alloc::Global;
 use std::marker::PhantomData;
 use std::sync::Wait;
 
-// The answers in the order of the morsels. Where the next one is not there, the reader answers a morsel itself.
+// The answers in the order of the morsels. The reader answers a morsel itself where no worker is at work beside it: before their
+// threads run, and where none could be started.
 #[derive(Drop)]
 pub struct Pull<'a, 'h, K: Truth<A>, A, W: Work<Answer = A>, G, R> {
     pub exchange: &'a Exchange<'h, K, A, W, G, R>,
@@ -72,12 +73,17 @@ impl<'a, 'h, K: Truth<A>, A: Drop, W: Work<Answer = A>, G: Gate, R: Wait> Pull<
         }
     }
 
-    // Begins a morsel here, where one is left that may be begun. Whether it did.
+    // Whether the reader leaves all morsels to others. One that it drew is for it alone.
+    fn leaves_all(&self) -> bool {
+        self.drawn.is_none() && self.exchange.window.is_helped(self.exchange.rt)
+    }
+
+    // Begins a morsel here, where one is left that may be begun, and nobody else does. Whether it did.
     fn begin(&mut self) -> bool
         requires { W.ready self.old.exchange.now.work.now }
         ensures same { (self.new.exchange ≡ self.old.exchange) × (self.new.given ≡ self.old.given) }
     {
-        if self.stash.is_some() {
+        if self.stash.is_some() || self.leaves_all() {
             return false;
         }
         let number = self.draw_one();

@@ -49,6 +49,8 @@ struct Slots<K: Truth<A>, A> {
     read: usize,
     // Whether no more are read.
     closed: bool,
+    // How many workers are at work beside the reader.
+    helpers: usize,
     // Whether the reader sleeps.
     sleeps: bool,
     // Whether a turn of the morsel for which the reader asks is over, since the reader last slept or asked for it.
@@ -151,6 +153,7 @@ impl<K: Truth<A>, A: Drop> Window<K, A> {
                 answers,
                 read: 0,
                 closed: false,
+                helpers: 0,
                 sleeps: false,
                 turned: false,
             }),
@@ -234,6 +237,29 @@ impl<K: Truth<A>, A: Drop> Window<K, A> {
             self.tell(number, sleeps);
         }
         goes_on
+    }
+
+    // A worker is at work beside the reader.
+    pub fn join(&self, rt: &impl Wait) {
+        let mut slots = self.slots.lock(rt);
+        slots.helpers = slots.helpers.saturating_add(1);
+    }
+
+    // It is at work no more. The reader, if it sleeps, looks again.
+    pub fn leave(&self, rt: &impl Wait) {
+        let mut slots = self.slots.lock(rt);
+        slots.helpers = slots.helpers.saturating_sub(1);
+        slots.turned = true;
+        let sleeps = slots.sleeps;
+        drop(slots);
+        if sleeps {
+            self.filled.notify_one();
+        }
+    }
+
+    // Whether a worker is at work beside the reader.
+    pub fn is_helped(&self, rt: &impl Wait) -> bool {
+        self.slots.lock(rt).helpers > 0
     }
 
     // The answer of a morsel, if it is there.
