@@ -166,10 +166,11 @@ of_dictionary : whole_meaning by_text
     ≡ (text (codes "x") ∷ int 2 ∷ []) ∷ []
 of_dictionary = refl
 
+-- it is answered by the number of its column, with indices of 32 bits
 dictionary_columns : result_schema (from_t
     (select.List (record { expression = Column a; alias = Some (codes "s") } ∷ [])))
     (t_of (Dictionary (record { id = 0; index = Int8 })) [])
-    ≡ record { fields = field (codes "s") Utf8 ∷ [] }
+    ≡ record { fields = field (codes "s") (Dictionary (record { id = 0; index = Int32 })) ∷ [] }
 dictionary_columns = refl
 
 -- t(a, i) = (1, 10), (1, 20); SELECT x.i, y.i FROM t AS x JOIN t AS y ON x.a = y.a
