@@ -11,7 +11,7 @@ loop-column-preserved c =
     let index = c.loop-column.column-index in
     let front : take (index + 1) columns ≡ take index columns ++ column ∷ [] =
     take_more columns index column c.loop-column-test.true ∙ ap (λ (x : ColumnAt). take index columns ++ x ∷ []) (sym c.column-item.is) in
-    rw front (All-push IsColumn (take index columns) column c.loop-column.invariant c.len-_len.ensures.stands)
+    rw front (All-push IsColumn (take index columns) column c.loop-column.invariant c.len-len.ensures.stands)
 
 pub returns : goal.returns
 returns c = subst (All IsColumn) (take_all c.loop-column.column-index c.args.columns.now (omega (arith, c.loop-column-test.false))) c.loop-column.invariant

@@ -1,4 +1,4 @@
-use Rattle.std.proofs.Common.{◌≡◌, ◌≤◌, ◌^◌, ◌++◌, ◌∷◌, [], ◌∙◌, List, map, take, sym, ap, subst, arith}
+use Rattle.std.proofs.Common.{◌≡◌, ◌≤◌, ◌+◌, ◌^◌, ◌++◌, ◌∷◌, [], ◌∙◌, List, map, take, sym, ap, subst, arith}
 use Rattle.std.specs.List.{AllZip}
 use Rattle.std.proofs.lemmas.List.{map-append, take_all, take_more}
 use Rattle.dictionary_answers.specs.declared.batches.ColumnDictionary.{ColumnDictionary}
@@ -13,7 +13,7 @@ pub returns-in_default-clause-full : goal.returns-in_default-clause-full
 returns-in_default-clause-full c =
     let dictionaries = c.args.dictionaries.now in
     let dictionary = c.dictionary-item.result in
-    let full : 2 ^ 31 ≤ written_length dictionary = rw c.in_default.is at c.in_ok-dictionary_message.ensures.full in
+    let full : 2 ^ 31 ≤ written_length dictionary = rw c.in_default.is at c.in_ok-message.ensures.full in
     let among = written_among dictionaries c.loop-dictionary.dictionary-index dictionary c.loop-dictionary-test.true in
     let same = ap written_length c.dictionary-item.is in
     omega (arith, full, among, same)
@@ -24,7 +24,7 @@ loop-dictionary-preserved c =
     let dictionary = c.dictionary-item.result in
     let made = c.loop-dictionary.made.items in
     let index = c.loop-dictionary.dictionary-index in
-    let is : IsMessageOf dictionary (written_seen c.in-Some.message) = rw c.in-Some.is at c.in_ok-dictionary_message.ensures.message in
+    let is : IsMessageOf dictionary (written_seen c.in-Some.message) = rw c.in-Some.is at c.in_ok-message.ensures.message in
     let front : take (index + 1) dictionaries ≡ take index dictionaries ++ dictionary ∷ [] =
     take_more dictionaries index dictionary c.loop-dictionary-test.true ∙ ap (λ (d : ColumnDictionary). take index dictionaries ++ d ∷ []) (sym c.dictionary-item.is) in
     let sents : map written_seen c.push.new.self.items ≡ map written_seen made ++ written_seen c.in-Some.message ∷ [] =
