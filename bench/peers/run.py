@@ -7,7 +7,8 @@ It makes the tables (tables.py), starts each server on loopback (servers.py), an
 (clients.py). First each answer is read: all peers have to give the same rows, whatever their order. Then each peer is asked in
 turn, N rounds long (7), by one client on one connection, which throws the answer away. A turn asks for a twentieth of a second
 at least, and its figure is the mean. Told are the seconds by the client's clock and the processor seconds of the server; of
-SQLite, which runs in the process that asks, the clock alone. A put is all rows of t as a new table.
+SQLite, which runs in the process that asks, the clock alone. A put is all rows of t as a new table. Two queries are of ours
+alone: of a dictionary, and of an Int32 column of as many rows.
 
 Peers are picked by the beginnings of their names, which end in the threads of a query. The figures go into
 bench/peers/results.json, from which page.py makes the table and the picture of bench/README.md. It installs nothing: where a
