@@ -1,11 +1,11 @@
 #!/usr/bin/env python3
-"""What a few kilobytes of input may make the program hold: six inputs that are small beside the answers that they ask for.
+"""What a few kilobytes of input may make the program hold: eight inputs that are small beside the answers that they ask for.
 
     python3 bench/hostile.py [--program PATH] [--rows N] [CASE..]
 
 Buffers of a put may lie over each other, so that many columns cost the bytes of one; a dictionary has a text once, however
-often it is named; and a group is made of a bit. Each case puts such tables and fetches one answer of them through
-`flightscan pipe`. The program is run on the puts alone too, and what it holds at most then is taken from what it holds with
+often it is named, while an answer has one for each of its batches; and a group is made of a bit. Each case puts such tables
+and fetches one answer of them through `flightscan pipe`. The program is run on the puts alone too, and what it holds at most then is taken from what it holds with
 the fetch. It may hold 64 MB beside what docs/ARCHITECTURE.md states for a fetch: that is a list for each group, of which
 the table says how much it is. Every answer has to end with status 0. It ends with 1 where one does not, or more is held.
 
@@ -35,6 +35,7 @@ from wire import call, chunk, descriptor, packed, query_handle, ticket  # noqa: 
 HELD_MB = 64  # beside what is stated
 LONG = b"x" * 65_536  # the longest text that a table may have
 INT64, INT32, UINT16 = integer(64, True), integer(32, True), integer(16, False)
+VALUES, PIECE_ROWS = 16_016, 1_024  # of a dictionary of many values, and of each batch whose rows name one of them
 STATUS_OK = b"\x04\x00\x00\x00"
 
 # Of each group: where its first row stands, its hash and its entry, and of one item a count, or a count and a sum. Lists grow by doubling.
@@ -115,9 +116,28 @@ def one_word(table, count):
     return put(table, [(head, b""), word, batch(count, (0, b"", bytes(4 * count)), (0, b"", ids))])
 
 
+def one_of_many_words(table, pieces):
+    """A table of so many batches, whose rows all name the one long text of a dictionary of 16,016 values: more than 16 for each of
+    1,000 rows. Of each row the number in its batch stands beside."""
+    head = schema(field("s", UTF8, False, dictionary=encoding(0, UINT16)), field("k", UINT16, False))
+    words = dictionary(0, batch(VALUES, (0, b"", *texts([LONG, *(b"%d" % number for number in range(1, VALUES))]))))
+    piece = batch(PIECE_ROWS, (0, b"", bytes(2 * PIECE_ROWS)), (0, b"", struct.pack(f"<{PIECE_ROWS}H", *range(PIECE_ROWS))))
+    return put(table, [(head, b""), words, *[piece] * pieces])
+
+
+def words_over_one_buffer(table, columns, count):
+    """A table of so many rows of dictionaries of 100 words, whose indices are the same bytes."""
+    head = schema(*(field(name, UTF8, False, dictionary=encoding(id, integer(8, True))) for id, name in enumerate(names(columns))))
+    words = batch(100, (0, b"", *texts([b"%d" % number for number in range(100)])))
+    codes = bytes(row % 100 for row in range(count))
+    indices = placed(count, [(count, 0)] * columns, [(0, 0), (0, count)] * columns, codes)
+    return put(table, [(head, b""), *(dictionary(id, words) for id in range(columns)), indices])
+
+
 def cases(most):
-    """The six inputs, with tables of so many rows at most."""
-    rows = {count: min(count, most) for count in (128, 300, 600, 1_000, 500_000, 2_000_000)}
+    """The eight inputs, with tables of so many rows at most."""
+    rows = {count: min(count, most) for count in (128, 300, 600, 1_000, 102_400, 500_000, 2_000_000)}
+    pieces = max(1, rows[102_400] // PIECE_ROWS)
     four = ", ".join(names(20, "x.") + names(20, "y.") + names(24, "z."))
     two = ", ".join(names(63, "x."))
     joined = "FROM u AS a JOIN w AS x ON a.k = x.k"
@@ -135,6 +155,8 @@ def cases(most):
              GROWN * rows[2_000_000] * (GROUP_BYTES + TALLY_BYTES)),
         Case("one word, many times", [one_word(b"u", rows[128])],
              f"SELECT {', '.join(['s'] * 64)} FROM u GROUP BY s, k".encode(), rows[128]),
+        Case("one word of many, in pieces", [one_of_many_words(b"u", pieces)], b"SELECT s FROM u WHERE k < 1000", pieces * PIECE_ROWS),
+        Case("dictionaries over one buffer", [words_over_one_buffer(b"u", 64, rows[500_000])], b"SELECT * FROM u", rows[500_000]),
     ]
 
 

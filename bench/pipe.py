@@ -4,9 +4,10 @@
     python3 bench/pipe.py [--program PATH]
 
 It makes its own inputs: one put of one column in batches of 65,536 rows, and one fetch of all of them; once of
-Int64, once of texts of which some are null, and once of a dictionary of texts. It runs the built program on each
-between two pipes, and `cat` on the same bytes between the same pipes, and prints the figures of both. Build first:
-`cd crates/flightscan && rt run -- pipe < stdin > /dev/null`.
+Int64, once of texts of which some are null, once of a dictionary of texts, and once of Int32, in as many rows as the
+dictionary. It runs the built program on each between two pipes, and `cat` on the same bytes between the same pipes, and
+prints the figures of both; and at last how many times as long the fetch of the dictionary takes as that of Int32. Build
+first: `cd crates/flightscan && rt run -- pipe < stdin > /dev/null`.
 """
 
 import argparse
@@ -40,7 +41,7 @@ def message(tree, body=b""):
 class Longs:
     """8,000,000 rows of Int64, the row's number in each."""
 
-    name, rows = "Int64", 8_000_000
+    name, rows, query = "Int64", 8_000_000, b"SELECT * FROM t"
 
     def first(self):
         yield message(schema(field("a", integer(64, True))))
@@ -52,7 +53,7 @@ class Longs:
 class Texts:
     """2,000,000 rows of texts of 20 bytes, each eighth of them null."""
 
-    name, rows = "Utf8", 2_000_000
+    name, rows, query = "Utf8", 2_000_000, b"SELECT * FROM t"
 
     def first(self):
         yield message(schema(field("a", UTF8)))
@@ -67,16 +68,29 @@ class Texts:
 class Words:
     """8,000,000 rows of a dictionary of 1,000 texts of 20 bytes, by indices of 32 bits."""
 
-    name, rows = "dictionary", 8_000_000
+    name, rows, query = "dictionary", 8_000_000, b"SELECT e FROM t"
     words = [b"word %015d" % number for number in range(1_000)]
 
     def first(self):
-        yield message(schema(field("a", UTF8, dictionary=encoding(7))))
+        yield message(schema(field("e", UTF8, dictionary=encoding(7))))
         yield message(*dictionary(7, batch(len(self.words), (0, b"", *texts(self.words)))))
 
     def batch(self, first, last):
         indices = [row % len(self.words) for row in range(first, last)]
         return message(*batch(last - first, (0, b"", struct.pack(f"<{last - first}i", *indices))))
+
+
+class Ints:
+    """As many rows of Int32, of 1,000 numbers."""
+
+    name, rows, query = "Int32", 8_000_000, b"SELECT k FROM t"
+
+    def first(self):
+        yield message(schema(field("k", integer(32, True))))
+
+    def batch(self, first, last):
+        numbers = [row % 1_000 for row in range(first, last)]
+        return message(*batch(last - first, (0, b"", struct.pack(f"<{last - first}i", *numbers))))
 
 
 def messages(column):
@@ -97,7 +111,7 @@ def put(column):
 
 
 def fetch(column):
-    return call(b"DoGet", [ticket(query_handle(1, 0, column.rows, b"SELECT * FROM t"))])
+    return call(b"DoGet", [ticket(query_handle(1, 0, column.rows, column.query))])
 
 
 def run(command, source):
@@ -120,6 +134,7 @@ def best(command, source):
 
 
 def measure(program, column, folder):
+    """Prints the figures of a column, and tells the seconds of its fetch alone."""
     put_only, both = os.path.join(folder, "put"), os.path.join(folder, "both")
     with open(put_only, "wb") as out:
         out.writelines(put(column))
@@ -144,6 +159,7 @@ def measure(program, column, folder):
     print(f"fetch alone (the difference): {answer / cat[0]:.2f} times, {whole[1] / answer / 1e6:.0f} MB/s")
     print(f"put and fetch: {whole[0] / cat[0]:.2f} times the time of cat; peak memory "
           f"{whole[2] * 1024 / size:.2f} times the bytes put\n")
+    return answer
 
 
 def main():
@@ -152,8 +168,8 @@ def main():
     words = parser.parse_args()
     path, measured = program(words.program), Measured(words.program)
     with tempfile.TemporaryDirectory() as folder:
-        for column in (Longs(), Texts(), Words()):
-            measure(path, column, folder)
+        seconds = {column.name: measure(path, column, folder) for column in (Longs(), Texts(), Words(), Ints())}
+    print(f"the fetch of a dictionary: {seconds['dictionary'] / seconds['Int32']:.2f} times that of Int32")
     print(measured.line())
 
 

@@ -25,7 +25,8 @@ keep few rows, by ranges, IN, IS NULL and comparisons of which most batches can 
 `pipe` gets the puts, the infos of all queries, of 1 to 3 parts each, and behind them the fetches of all endpoints in any
 order, so also of versions that are no longer the newest. sqlite3 gets the same tables and queries in turn, with an
 ORDER BY of the order that docs/SQL.md states. Compared are each put's count, each info's tickets, the schemas of an
-info and of its streams, and the rows of each endpoint, one by one, in order.
+info and of its streams, and the rows of each endpoint, one by one, in order. Right before each batch of rows, of which there is
+one or more, has to stand a dictionary for each column that is one: of the texts of that batch, by first appearance.
 
 What both define alike, and no more: sqlite3 has its truth values as 1 and 0, and dates as their numbers of days. Names differ by more than their case,
 numbers have 64 bits with a sign, and such columns alone are summed whose sums have no more.
@@ -62,7 +63,7 @@ sys.path += [str(ROOT / "vectors" / folder) for folder in ("arrow", "flight", "q
 import wire  # noqa: E402
 from built import program, worker_counts  # noqa: E402
 from random_calls import joined, large  # noqa: E402
-from random_calls.answers import Difference, PutCount, columns_of, only_message, same  # noqa: E402
+from random_calls.answers import Difference, PutCount, columns_of, only_message, same, stream_of_fetch  # noqa: E402
 from random_calls.batched import Batches, batched_columns, domains_of, stream_in_batches  # noqa: E402
 from random_calls.joined import Joiner, JoinSpeller, Query, Values  # noqa: E402
 from random_calls.joined_model import query_rows  # noqa: E402
@@ -304,17 +305,6 @@ def look_at_info(asked: Asked, answer: wire.Answer) -> list[Column]:
     reader = Reader()
     reader.message(wire.schema_header(parts[0][1]), b"")
     return columns_of(reader)
-
-
-def stream_of_fetch(answer: wire.Answer) -> tuple[list[Column], list[Row]]:
-    """The schema and the rows of a fetch."""
-    same("the status", (0, ""), (answer.code, answer.text))
-    reader = Reader()
-    for message in answer.messages:
-        _, contents = zip(*wire.fields(message))
-        reader.message(contents[0], b"".join(contents[1:]))
-    same("a schema is there", True, reader.fields is not None)
-    return columns_of(reader), [tuple(row) for row in reader.total]
 
 
 def pipe_bytes(path: str, case: Case, workers: int) -> bytes:

@@ -29,6 +29,8 @@ contents = cache(Path.read_bytes)  # of a file of the tables, once for all clien
 ROOM = memoryview(bytearray(1 << 24))
 PIECE = 1 << 20
 NULL = rb"\N"
+DICTIONARY = 2  # the kind of a message
+WORDS = ("", "Utf8", True, None)  # the field of a dictionary's values
 
 
 class Refused(Exception):
@@ -99,13 +101,17 @@ class Ours(Peer):
         return chain.from_iterable(map(self.lines_of_fetch, self.tickets(query)))
 
     def lines_of_fetch(self, ticket: bytes) -> Iterator[bytes]:
-        """The rows of a fetch, whose first message has the schema."""
+        """The rows of a fetch, whose first message has the schema. A dictionary is that of the batch behind it."""
         self.connection.send(call(b"DoGet", [ticket]))
-        first, *batches = map(dict, map(fields, self.messages()))
-        types = [of for _, of, _, _ in read_schema(message_of(first[2]).table(2))]
-        for one in batches:
-            columns = arrow_columns(message_of(one[2]).table(2), one.get(1000, b""), types)
-            yield from map(b"\t".join, zip(*columns))
+        first, *messages = map(dict, map(fields, self.messages()))
+        heads, words = read_schema(message_of(first[2]).table(2)), {}
+        for one in messages:
+            found, body = message_of(one[2]), one.get(1000, b"")
+            if found.scalar(1, 1) == DICTIONARY:
+                head = found.table(2)
+                words[head.scalar(0, 8)] = arrow_columns(head.table(1), body, [WORDS], {})[0]
+            else:
+                yield from map(b"\t".join, zip(*arrow_columns(found.table(2), body, heads, words)))
 
     def tickets(self, query: str) -> list[bytes]:
         command = packed(b"CommandStatementQuery", chunk(1, query.encode()))
@@ -145,19 +151,21 @@ def message_of(head: bytes) -> Table:
     return Table(head, int.from_bytes(head[:4], "little"))
 
 
-def arrow_columns(found: Table, body: bytes, types: list[str]) -> list[list[bytes]]:
-    """The columns of a record batch, each value as it is printed."""
+def arrow_columns(found: Table, body: bytes, heads: list[tuple], words: dict[int, list[bytes]]) -> list[list[bytes]]:
+    """The columns of a record batch, each value as it is printed. The words are those of its dictionaries, by their ids."""
     nodes, places = found.structs(1), iter(found.structs(2))
     columns = []
-    for of, (rows, nulls) in zip(types, nodes):
+    for (_, of, _, id), node in zip(heads, nodes):
         parts = [body[at : at + size] for at, size in (next(places) for _ in range(3 if of == "Utf8" else 2))]
-        columns.append(arrow_column(of, rows, nulls, parts))
+        columns.append(arrow_column(of, node, parts, words.get(id)))
     return columns
 
 
-def arrow_column(of: str, rows: int, nulls: int, parts: list[bytes]) -> list[bytes]:
-    data = parts[-1]
-    if of == "Utf8":
+def arrow_column(of: str, node: tuple[int, int], parts: list[bytes], words: list[bytes] | None) -> list[bytes]:
+    (rows, nulls), data = node, parts[-1]
+    if words is not None:
+        values = [words[index] if words else NULL for index in array("i", data[: 4 * rows])]
+    elif of == "Utf8":
         values = [data[begin:end] for begin, end in pairwise(array("i", parts[1][: 4 * (rows + 1)]))]
     elif of == "Decimal128":
         words = array("q", data[: 16 * rows])

@@ -19,7 +19,7 @@ RESULTS, PICTURE = HERE / "results.json", HERE / "peers.svg"
 BEGIN, END = "<!-- made by bench/peers/page.py -->", "<!-- end -->"
 SHOWN = "![Beside databases](bench/peers/peers.svg)\n"
 NAMES = {"ours": "ours", "clickhouse": "ClickHouse", "sorted": "sorted ClickHouse", "postgresql": "PostgreSQL", "sqlite": "SQLite"}
-SAID = {"Q1": "all rows", "Q2": "1 row in 100", "Q3": "half of the rows", "Q4": "IN of ten numbers", "Q5": "by a text",
+SAID = {"Q1": "all rows", "Q1d": "a dictionary's column", "Q1k": "an Int32 column", "Q2": "1 row in 100", "Q3": "half of the rows", "Q4": "IN of ten numbers", "Q5": "by a text",
         "Q5d": "by a dictionary's text", "Q6": "1,000 groups", "Q7": "10 groups by a text", "Q7d": "10 groups by a dictionary",
         "Q8": "a join", "Q9": "one batch of all", "put": "all rows"}
 COLORS = {"ours": "#0b6e4f", "clickhouse": "#d08c00", "sorted": "#8a5a00", "postgresql": "#31648c", "sqlite": "#7d4f9e"}

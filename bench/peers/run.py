@@ -7,7 +7,8 @@ It makes the tables (tables.py), starts each server on loopback (servers.py), an
 (clients.py). First each answer is read: all peers have to give the same rows, whatever their order. Then each peer is asked in
 turn, N rounds long (7), by one client on one connection, which throws the answer away. A turn asks for a twentieth of a second
 at least, and its figure is the mean. Told are the seconds by the client's clock and the processor seconds of the server; of
-SQLite, which runs in the process that asks, the clock alone. A put is all rows of t as a new table.
+SQLite, which runs in the process that asks, the clock alone. A put is all rows of t as a new table. Two queries are of ours
+alone: of a dictionary, and of an Int32 column of as many rows.
 
 Peers are picked by the beginnings of their names, which end in the threads of a query. The figures go into
 bench/peers/results.json, from which page.py makes the table and the picture of bench/README.md. It installs nothing: where a
@@ -42,6 +43,8 @@ from workers import LARGE  # noqa: E402
 PEERS = ["ours-1", "ours-4", "clickhouse-1", "clickhouse-4", "sorted-1", "postgresql-1", "sqlite-1"]
 QUERIES = {
     "Q1": "SELECT * FROM t",
+    "Q1d": "SELECT e FROM w",
+    "Q1k": "SELECT k FROM w",
     "Q2": LARGE["Q2"],
     "Q3": LARGE["Q3"],
     "Q4": "SELECT a, k FROM t WHERE k IN (3, 77, 141, 222, 314, 450, 555, 678, 811, 999)",
@@ -55,6 +58,7 @@ QUERIES = {
 }
 # ClickHouse of Debian 12 joins by a form of its own. Its keys are all different, so that ANY gives the same rows.
 OF_CLICKHOUSE = {"Q8": "SELECT a, k, v FROM t ANY INNER JOIN u ON j = key"}
+OURS_ALONE = ["Q1d", "Q1k"]  # a column of a dictionary beside one of Int32, which are indices of as many bytes
 PUT_ROUNDS = 3  # our server keeps each version
 TURN_SECONDS, PEER_SECONDS, LEAST_ROUNDS = 0.05, 20, 3
 
@@ -117,8 +121,8 @@ class Bench:
 
 
 def query_for(name, query, peer):
-    """A query in a peer's words, or none where it has no such table."""
-    if " w " in query and not peer.has_dictionaries:
+    """A query in a peer's words, or none where it has no such table, or is not asked it."""
+    if " w " in f"{query} " and not peer.has_dictionaries or name in OURS_ALONE and not isinstance(peer, Ours):
         return None
     return OF_CLICKHOUSE.get(name, query) if isinstance(peer, ClickHouse) else query
 
@@ -168,6 +172,8 @@ def figures(peers, rows, rounds):
     for name, text in QUERIES.items():
         text = text.format(*middle_of_c(rows))
         words = {who: query for who, peer in peers.items() if (query := query_for(name, text, peer))}
+        if not words:
+            continue
         count = compare(name, words, peers)
         tasks = {who: partial(turn_of_query, peers[who], query) for who, query in words.items()}
         yield {"name": name, "query": text, "rows": count, "turns": turns(tasks, rounds)}

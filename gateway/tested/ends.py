@@ -21,7 +21,7 @@ from served.cases import A, appended, fetch_of, put_of, rows_of
 from tested.cases import ask, call_of, case, look_at_status, put_messages
 from tested.client import LONG, Client, ingest
 from tested.running import TOP, Gateway, Run, StubServer
-from tested.streams import large_put, wide_fetch, wide_rows
+from tested.streams import WIDE, WIDE_ROWS, large_put, wide_fetch, wide_rows
 
 UNAVAILABLE, EXHAUSTED, INTERNAL = 14, 8, 13
 GONE = "the server ended the connection in the middle of a call"
@@ -34,11 +34,11 @@ PUTS_CUT = 150
 @case("a fetch that is cancelled in the middle, or not read on: it frees the only seat")
 def cancelled_fetch(run: Run) -> None:
     with run.serving(seats=1, wait=60) as (_, gateway), Client(gateway.port) as client:
-        same("the number of rows put", 4_096, client.put(wide_rows()))
+        same("the number of rows put", WIDE_ROWS, client.put(wide_rows()))
         for _ in range(5):
             wide_fetch(client).cancel()
             ask(client, put_of("t", A, [(1,)]), Refusal("F10"))
-        late = client.call("DoGet", call_of(fetch_of(1, 0, 4_096, "SELECT * FROM t"))[1], seconds=1)
+        late = client.call("DoGet", call_of(fetch_of(1, 0, WIDE_ROWS, WIDE))[1], seconds=1)
         next(late)
         ask(client, put_of("t", A, [(1,)]), Refusal("F10"))  # waits for the end of that second
 
@@ -104,7 +104,7 @@ def beyond_the_seats(run: Run) -> str:
     said = "no seat of the server came free in 1 seconds"
     with run.serving(seats=1, wait=1) as (server, gateway), run.behind(server.port, "--wait", "60") as patient:
         with Client(gateway.port) as client, Client(gateway.port) as other, Client(patient.port) as late:
-            same("the number of rows put", 4_096, client.put(wide_rows()))
+            same("the number of rows put", WIDE_ROWS, client.put(wide_rows()))
             held, began = wide_fetch(client), time.monotonic()
             look_at_status("a call beyond", EXHAUSTED, said, other.answer("DoGet", call_of(fetch_of(1, 0, 1, "x"))[1]))
             waited = time.monotonic() - began
@@ -154,7 +154,7 @@ def seats_of_others(run: Run) -> None:
 @case("no server, and one that goes in the middle of a fetch: UNAVAILABLE; a new one on its port is used")
 def gone_servers(run: Run) -> None:
     with Server(run.path) as server, run.behind(server.port) as gateway, Client(gateway.port) as client:
-        same("the number of rows put", 4_096, client.put(wide_rows()))
+        same("the number of rows put", WIDE_ROWS, client.put(wide_rows()))
         fetch = wide_fetch(client)
         server.process.kill()
         try:
@@ -268,7 +268,7 @@ def command_lines(run: Run) -> None:
 def told_to_end(run: Run) -> None:
     for number in (signal.SIGTERM, signal.SIGINT):
         with Server(run.path) as server, Gateway(server.port) as gateway, Client(gateway.port) as client:
-            same("the number of rows put", 4_096, client.put(wide_rows()))
+            same("the number of rows put", WIDE_ROWS, client.put(wide_rows()))
             fetch = wide_fetch(client)
             gateway.process.send_signal(number)
             same("the exit status, and what it printed", (-number, b""), (gateway.process.wait(20), gateway.said()))

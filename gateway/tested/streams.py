@@ -16,7 +16,7 @@ from random_calls.answers import PutCount, Refusal, same
 from random_calls.plain_model import Column, Row
 from reader import Table
 from served.cases import A, MEGABYTE, appended, fetch_of, info_of, put_of, replaced, rows_of
-from trees import UTF8, batch, dictionary, encoding, field, integer, schema, texts
+from trees import UTF8, batch, field, integer, schema, texts
 
 from tested.cases import ask, case, look_at_status, put_messages, rows_in
 from tested.client import LONGEST_MESSAGE, Client, TableOptions, flight, ingest, query
@@ -25,6 +25,7 @@ from tested.running import Run, StubServer
 BATCH_ROWS = 65_536
 LARGE_BATCHES = 191  # of three columns of 8 bytes: 300 MB
 CLIENTS = 32
+WIDE_ROWS, WIDE = 64, "SELECT x.s FROM t AS x JOIN t AS y ON x.k = y.k"
 
 
 def data_of(tree: dict, body: bytes) -> flight.FlightData:
@@ -71,16 +72,15 @@ def large_streams(run: Run) -> str:
 
 
 def wide_rows() -> Iterator[flight.FlightData]:
-    """A put of one text of 65,536 bytes and 4,096 indices that lead to it: small, with an answer of 268 MB."""
+    """A put of texts of 65,536 bytes, of one key: 4 MB, whose join with itself has 268 MB."""
     yield flight.FlightData(flight_descriptor=ingest("t"))
-    yield data_of(schema(field("s", UTF8, dictionary=encoding(1, integer(8, True)))), b"")
-    yield data_of(*dictionary(1, batch(1, (0, b"", *texts([b"x" * 65_536])))))
-    yield data_of(*batch(4_096, (0, b"", bytes(4_096))))
+    yield data_of(schema(field("s", UTF8), field("k", integer(64, True))), b"")
+    yield data_of(*batch(WIDE_ROWS, (0, b"", *texts([b"x" * 65_536] * WIDE_ROWS)), (0, b"", bytes(8 * WIDE_ROWS))))
 
 
 def wide_fetch(client: Client) -> grpc.Call:
     """A fetch of 268 MB that was begun, of which one message was read."""
-    call = client.call("DoGet", [client.info(query("SELECT * FROM t")).endpoint[0].ticket.SerializeToString()])
+    call = client.call("DoGet", [client.info(query(WIDE)).endpoint[0].ticket.SerializeToString()])
     next(call)
     return call
 
@@ -88,7 +88,7 @@ def wide_fetch(client: Client) -> grpc.Call:
 @case("a client that reads nothing of an answer of 268 MB: server and gateway wait, idle, and hold little more")
 def nothing_read(run: Run) -> str:
     with run.serving() as (server, gateway), Client(gateway.port) as client:
-        same("the number of rows put", 4_096, client.put(wide_rows()))
+        same("the number of rows put", WIDE_ROWS, client.put(wide_rows()))
         before, held = (server.held(), gateway.held()), []
         call, ticks, used = wide_fetch(client), [0, 0], [9, 9]
         for _ in range(60):  # seconds, on a busy machine; they soon have no more to do

@@ -2,7 +2,6 @@
 
 from __future__ import annotations
 
-import json
 from dataclasses import dataclass
 from itertools import zip_longest
 
@@ -55,6 +54,26 @@ def look_at_the_dictionaries(reader: Reader, before: list[tuple[int, bool]], row
     for number, id in coded:
         texts = list(dict.fromkeys(row[number] for row in rows if row[number] is not None))
         same(f"the values of dictionary {id}", texts, reader.dictionaries[id])
+
+
+def stream_of_fetch(answer: wire.Answer) -> tuple[list[Column], list[Row]]:
+    """The schema and the rows of a fetch, whose batches have one row or more, each right behind its dictionaries."""
+    same("the status", (0, ""), (answer.code, answer.text))
+    reader, before = Reader(), []
+    for message in answer.messages:
+        numbers, contents = zip(*wire.fields(message))
+        same("a FlightData of a header, with or without a body", True, numbers in ((2,), (2, 1000)))
+        count = len(reader.total)
+        said = reader.message(contents[0], b"".join(contents[1:]))
+        if said == "dictionary":
+            before.append(dictionary_of(contents[0]))
+        elif said.startswith("rows "):
+            same("a batch has one row or more", True, len(reader.total) > count)
+            look_at_the_dictionaries(reader, before, reader.total[count:])
+            before = []
+    same("the dictionaries behind the last batch", [], before)
+    same("a schema is there", True, reader.fields is not None)
+    return columns_of(reader), [tuple(row) for row in reader.total]
 
 
 def look_at_the_schema(columns: list[Column], data: bytes) -> None:
@@ -128,21 +147,8 @@ class Rows:
     endpoint: int
 
     def look(self, answer: wire.Answer) -> None:
-        same("the status", (0, ""), (answer.code, answer.text))
-        reader, before = Reader(), []
-        for message in answer.messages:
-            numbers, contents = zip(*wire.fields(message))
-            same("a FlightData of a header, with or without a body", True, numbers in ((2,), (2, 1000)))
-            said = reader.message(contents[0], b"".join(contents[1:]))
-            if said == "dictionary":
-                before.append(dictionary_of(contents[0]))
-            elif said.startswith("rows "):
-                look_at_the_dictionaries(reader, before, json.loads(said.removeprefix("rows ")))
-                before = []
-        same("the dictionaries behind the last batch", [], before)
-        same("a schema is there", True, reader.fields is not None)
-        same("the schema", self.columns, columns_of(reader))
-        self.streams[self.endpoint] = [tuple(row) for row in reader.total]
+        columns, self.streams[self.endpoint] = stream_of_fetch(answer)
+        same("the schema", self.columns, columns)
         same("the rows", self.rows, self.streams[self.endpoint])
 
 

@@ -2,17 +2,20 @@
 
 from __future__ import annotations
 
+from collections import Counter
 from random import Random
 
+import trees
 import wire
 from framing import stored_messages
 from interleavings import Interleaving
+from layout import written
 from loopback import Connection, Server
 from random_calls.answers import Difference, FlightInfo, PutCount, Refusal, SchemaResult
 from random_calls.plain_model import TABLE_COLUMNS, Column, Put, Table
 from random_calls.puts import Stream, ingest, messages_of, past_the_text
 from random_calls.refused import INGEST, TABLES, WITH_INFOS
-from reader import Fault
+from reader import INTEGERS, Fault
 from served.cases import (A, A_AND_S, FETCH, MEGABYTE, PUT, PUT_MESSAGES, Run, appended, ask, case, descriptor_of,
                           fetch_of, info_of, put_of, replaced, rows_of)
 from trips import ROWS as TRIPS
@@ -176,6 +179,47 @@ def stored_stream(run: Run) -> None:
         ask(connection, wire.call(b"DoPut", [wire.chunk(1, command), *messages]), PutCount(7))
         ask(connection, fetch_of(1, 0, 7, "SELECT * FROM trips"), rows_of(columns, *TRIPS))
         ask(connection, fetch_of(1, 3, 5, "SELECT * FROM trips"), rows_of(columns, *TRIPS[3:5]))
+
+
+# A dictionary that is new, a delta, and one in its place: of each its values, whether it is a delta, and the indices of the batch behind it.
+DICTIONARIES = [(["x", "x", None], False, [0, 1, 2, None]), (["y", None], True, [3, 0, 4]), (["c"], False, [0, None])]
+LED_TO = ["x", "x", None, None, "y", "x", None, "c", None]
+
+
+def dictionary_put(table: str, bits: int, signed: bool) -> bytes:
+    """The records of a put of these: a column of row numbers, and one of a dictionary with indices of this type."""
+    coded = trees.field("s", trees.UTF8, dictionary=trees.encoding(7, trees.integer(bits, signed)))
+    made = [(trees.schema(trees.field("i", trees.integer(64, True), False), coded), b"")]
+    first, width = 0, bits // 8
+    for words, is_delta, slots in DICTIONARIES:
+        texts = trees.texts([(word or "").encode() for word in words])
+        made.append(trees.dictionary(7, trees.batch(len(words), (words.count(None), trees.validity(words), *texts)), is_delta))
+        numbers = b"".join(number.to_bytes(8, "little") for number in range(first, first + len(slots)))
+        indices = b"".join(b"\xff" * width if slot is None else slot.to_bytes(width, "little") for slot in slots)
+        made.append(trees.batch(len(slots), (0, b"", numbers), (slots.count(None), trees.validity(slots), indices)))
+        first += len(slots)
+    command = wire.descriptor(wire.packed(INGEST, wire.chunk(1, wire.scalar(1, 1)) + wire.chunk(2, table.encode())))
+    messages = [wire.chunk(2, written("Message", tree, "spread")) + wire.chunk(1000, body) for tree, body in made]
+    return wire.call(b"DoPut", [wire.chunk(1, command), *messages])
+
+
+@case("dictionaries of every index type, with a delta and replaced: rows, groups and a join, and the dictionaries of each batch")
+def every_index_type(run: Run) -> None:
+    i, coded = Column("i", "Int64", False), [Column("s", f"Int32 into {id}", True) for id in range(4)]
+    rows = list(enumerate(LED_TO))
+    groups = list(Counter(LED_TO).items())
+    pairs = [(one, other, left, right) for one, left in rows for other, right in rows if left is not None and left == right]
+    with run.serving() as server, Connection(server.port) as connection:
+        for version, (bits, signed) in enumerate(INTEGERS, 1):
+            name = f"t{version}"
+            ask(connection, dictionary_put(name, bits, signed), PutCount(len(rows)))
+            for first, end in ((0, 9), (2, 6)):
+                fetch = fetch_of(version, first, end, f"SELECT * FROM {name}")
+                ask(connection, fetch, rows_of((i, coded[1]), *rows[first:end]))
+            grouped = fetch_of(version, 0, 9, f"SELECT s, COUNT(*) FROM {name} GROUP BY s")
+            ask(connection, grouped, rows_of((coded[0], Column("col2", "Int64", False)), *groups))
+            joined = f"SELECT x.i, y.i, x.s, y.s FROM {name} AS x JOIN {name} AS y ON x.s = y.s"
+            ask(connection, fetch_of(version, 0, 9, joined), rows_of((i, i, *coded[2:]), *pairs))
 
 
 # ---- at random

@@ -157,7 +157,7 @@ LARGE_FETCH = fetch_of(1, 0, 64, "SELECT x.s FROM t AS x JOIN t AS y ON x.k = y.
 
 
 def large_put(rows: int, *more: tuple[dict, tuple]) -> bytes:
-    """A put of one text of 65,536 bytes and so many indices that lead to it, beside more columns: small, with a large answer."""
+    """A put of one text of 65,536 bytes and so many indices that lead to it, beside more columns: small, with many long keys."""
     text = trees.field("s", trees.UTF8, dictionary=trees.encoding(1, trees.integer(8, True)))
     words = trees.dictionary(1, trees.batch(1, (0, b"", *trees.texts([b"x" * 65_536]))))
     fields, columns = zip((text, (0, b"", bytes(rows))), *more)

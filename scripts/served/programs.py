@@ -186,6 +186,32 @@ def csv_records(run: Run) -> None:
         same("one column", (0, lone, b""), query(run, server, "SELECT n FROM t", "--format", "csv"))
 
 
+DATES_AS_TABLE = """\
+| d          | n |
+|------------|---|
+| 1994-01-01 | 1 |
+| -719163    | 2 |
+| NULL       | 3 |
+3 rows
+"""
+
+
+@case("dates, one outside of the years 0001 to 9999 and a null, in each format; and put again as an Arrow IPC stream")
+def printed_dates(run: Run) -> None:
+    columns = (Column("d", "Date", True), Column("n", "Int64", False))
+    lines = printed("d\tn", "DATE '1994-01-01'\t1", "DATE(-719163)\t2", "NULL\t3")
+    with run.serving() as server:
+        same("put", printed("3 rows"), put(run, server, "t", stream(columns, [(8766, 1), (-719_163, 2), (None, 3)])))
+        same("lines", lines, query(run, server, "SELECT * FROM t"))
+        records = b"d,n\r\n1994-01-01,1\r\n-719163,2\r\n,3\r\n"
+        same("csv", (0, records, b""), query(run, server, "SELECT * FROM t", "--format", "csv"))
+        same("table", (0, DATES_AS_TABLE.encode(), b""), query(run, server, "SELECT * FROM t", "--format", "table"))
+        status, data, said = query(run, server, "SELECT * FROM t", "--format", "arrow")
+        same("arrow", (0, b""), (status, said))
+        same("put of the copy", printed("3 rows"), put(run, server, "copy", data))
+        same("lines of the copy", lines, query(run, server, "SELECT * FROM copy"))
+
+
 # ---- streams
 
 

@@ -515,6 +515,11 @@ add("indices_of_UInt8_254", batch(1, (0, "", "FE")), rows(["y"]), "schema_of_UIn
 add("dictionary_0", dictionary(0, values("a", "b")), DONE, "schema_of")
 add("indices_of_default", batch(2, (0, "", "01 00 00 00 00 00 00 00")), rows(["b"], ["a"]), "schema_of", "dictionary_0",
     note="no indexType: 32 bits")
+add("dictionary_0_b_a", dictionary(0, values("b", "a")), DONE, "schema_of")
+case("indices_of_default", rows(["a"], ["b"]), "schema_of", "dictionary_0_b_a")
+add("dictionary_0_none", dictionary(0, batch(0, (0, "", offsets(0), ""))), DONE, "schema_of", note="of no text")
+add("indices_of_default_null", batch(1, (1, "FE", "00 00 00 00")), rows([None]), "schema_of", "dictionary_0_none")
+case("indices_of_default", "F8", "schema_of", "dictionary_0_none")
 add("dictionary_less_1", dictionary(-1, values("m")), DONE, "schema_of_negative")
 add("indices_of_negative", batch(1, (0, "", "00 00 00 00")), rows(["m"]), "schema_of_negative", "dictionary_less_1")
 

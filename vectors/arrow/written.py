@@ -1,6 +1,6 @@
 #!/usr/bin/env python3
 """Lays out, by the words of ipc_batch's and flatbuf's specs, what our writer writes, for `to_cases.py`. Run by itself it
-has flatc read three of the dictionary headers: they say what flatc's own messages of these texts say. That needs flatc."""
+has flatc read five of the dictionary headers: they say what flatc's own messages of these texts say. That needs flatc."""
 import pathlib
 import struct
 import sys
@@ -17,6 +17,9 @@ DICTIONARIES = {
     "written_delta_b": ((1, 1, 1, 0, (0, 8, 1)), LETTER + "62", "0000000001000000 6200000000000000"),
     "written_c": ((1, 0, 1, 0, (0, 8, 1)), LETTER + "63", "0000000001000000 6300000000000000"),
     "written_greatest_id": ((2**64 - 1, 0, 1, 0, (0, 8, 1)), LETTER + "6D", "0000000001000000 6D00000000000000"),
+    # As answers have them: in order of first appearance, and of a batch of nulls alone.
+    "written_b_a": ((0, 0, 2, 0, (0, 12, 2)), "- 000000000100000002000000 6261", "000000000100000002000000 00000000 6261000000000000"),
+    "written_none": ((0, 0, 0, 0, (0, 4, 0)), "- 00000000 -", "0000000000000000"),
     # 'x' and a null, with bits past the length.
     "written_x_null": ((1, 0, 2, 1, (1, 12, 1)), "FD 000000000100000001000000 78",
                        "0100000000000000 000000000100000001000000 00000000 7800000000000000"),
@@ -26,13 +29,16 @@ DICTIONARIES = {
 }
 # What flatc wrote of the same texts.
 COMPARED = {"written_delta_b": "dictionary_delta_b", "written_greatest_id": "dictionary_less_1",
-            "written_x_null": "dictionary_x_null"}
+            "written_x_null": "dictionary_x_null", "written_b_a": "dictionary_0_b_a", "written_none": "dictionary_0_none"}
 # What is then read, by hand.
 CASES = [
     ("schema_of_Int8 written_a written_delta_b indices_1_0", 'rows [["b"], ["a"]]'),
     ("schema_of_Int8 written_a written_delta_b written_c indices_0", 'rows [["c"]]'),
     ("schema_of_Int8 written_x_null indices_0_1_null", 'rows [["x"], [null], [null]]'),
     ("schema_of_negative written_greatest_id indices_of_negative", 'rows [["m"]]'),
+    ("schema_of written_b_a indices_of_default", 'rows [["a"], ["b"]]'),
+    ("schema_of written_none indices_of_default_null", 'rows [[null]]'),
+    ("schema_of written_none indices_of_default", "F8"),
 ]
 # Batches that are written: of each the rows, the null counts and the lengths of the buffers, and the body by hand.
 BATCHES = {

@@ -141,6 +141,10 @@ class Connection:
         answer = Answer(text, self.versions[-1])
         self.calls.append(lines.bodies(query_handle(len(self.versions) - 1, 0, answer.total, text.encode()), *bodies))
 
+    def bytes_of(self, text, *bodies):
+        """The same, of which the bytes stand as digits."""
+        self.bodies(text, *map(bytes.fromhex, bodies))
+
     def end(self, workers=()):
         """The connection with one worker, and the same with each of these numbers of workers."""
         parts = f"--parts {self.parts}" if self.parts > 1 else ""
@@ -196,6 +200,38 @@ def groups():
     words = one_table("s dictionary?", TEXTS[:3], TEXTS[3:])
     words.ask(OF_TEXTS, GROUPED_TEXTS)
     words.end((2, 4, 8))
+
+
+FOUR = [("b",), (None,), ("a",), ("b",)]
+B_AND_A = "00000000 01000000 02000000 00000000 6261000000000000"  # their offsets, and the texts
+FOUR_SLOTS = "0D00000000000000 00000000 00000000 01000000 00000000"  # their validity, and the indices 0, null, 1, 0
+
+
+def dictionaries():
+    lines.note("dictionaries of the texts that a batch holds, by first appearance, right before the batch, byte by byte")
+    four = one_table("s dictionary?", FOUR)
+    four.ask("SELECT * FROM t", FOUR)
+    four.bytes_of("SELECT * FROM t", B_AND_A, FOUR_SLOTS)
+    four.ask("SELECT s, s FROM t", [row * 2 for row in FOUR])
+    four.bytes_of("SELECT s, s FROM t", B_AND_A, B_AND_A, FOUR_SLOTS * 2)
+    four.ask("SELECT s FROM t WHERE s = 'a'", [("a",)])
+    four.bytes_of("SELECT s FROM t WHERE s = 'a'", "00000000 01000000 6100000000000000", "00000000 00000000")
+    joined = "SELECT x.s, y.s FROM t x JOIN t y ON x.s = y.s"
+    four.ask(joined, [("b", "b"), ("b", "b"), ("a", "a"), ("b", "b"), ("b", "b")])
+    four.bytes_of(joined, B_AND_A, B_AND_A, "00000000 00000000 01000000 00000000 00000000 00000000" * 2)
+    four.ask(OF_TEXTS, [("b", 2), (None, 1), ("a", 1)])
+    four.bytes_of(OF_TEXTS, B_AND_A, "0500000000000000 00000000 00000000 01000000 00000000"
+                  "0200000000000000 0100000000000000 0100000000000000")
+    four.end()
+    two = one_table("s dictionary?", FOUR[:2], FOUR[2:], parts=2)
+    two.ask("SELECT * FROM t", FOUR)
+    two.bytes_of("SELECT * FROM t", "00000000 01000000 6200000000000000", "0100000000000000 00000000 00000000",
+                 "00000000 01000000 02000000 00000000 6162000000000000", "00000000 01000000")
+    two.end()
+    nulls = one_table("s dictionary?", [(None,), (None,)])
+    nulls.ask("SELECT * FROM t", [(None,), (None,)])
+    nulls.bytes_of("SELECT * FROM t", "0000000000000000", "0000000000000000 0000000000000000")
+    nulls.end()
 
 
 def joins():
@@ -408,5 +444,5 @@ def older_versions():
 
 
 def connections():
-    for part in (sums, groups, joins, refusals, more_joins, more_groups, many_batches, more_sums, more_refusals, older_versions):
+    for part in (sums, groups, joins, refusals, more_joins, more_groups, many_batches, more_sums, more_refusals, older_versions, dictionaries):
         part()

@@ -43,6 +43,8 @@ OWN = {
     "null_and_text": cases.placed(2, [(2, 1)], [(65560, 1), (0, 12), (16, 65538)], claimed=65568),
     "texts_of_65536": cases.placed(2, [(2, 0)], [(0, 0), (0, 12), (16, 65537)], claimed=65560),
     "long_dictionary": cases.dictionary(1, cases.placed(2, [(2, 0)], TWO_TEXTS, claimed=65560)),
+    "dictionary_of_200": cases.dictionary(5, cases.placed(200, [(200, 0)], [(0, 0), (0, 804), (808, 13107200)], claimed=13108008)),
+    "indices_of_200": cases.batch(200, (0, "", bytes(range(200)))),
 }
 # The cases of arrow/index.txt that are put, by how their names begin.
 CHOSEN = ("schema_", "batch_", "validity_", "buffers_", "body_", "empty_", "indices_", "all_batch_", "bad_compression",
@@ -302,6 +304,8 @@ def long_bodies():
         "texts_of_65536": behind(65560, offsets(0, 1, 65537), "65537*61", "7*."),
         "long_dictionary": behind(65560, offsets(0, 1, 65538), "65538*61", "6*."),
         "long_texts": behind(13108008, offsets(*(65536 * place for place in range(201))), "12800*kilobyte"),
+        "texts_apart": behind(13108008, offsets(*(65536 * place for place in range(201))),
+                              *(piece for place in range(200) for piece in ("63*kilobyte", "1021*78", (b"%03d" % place).hex()))),
         "zeros": behind(560000, "560000*."),
     }
 
@@ -409,6 +413,10 @@ def cuts():
     fetch(ticket(1, 0, 70000), "65536 4464 ", "cut")
     log((200, f"create+schema_Utf8 long_texts+{body['long_texts']}"))
     fetch(ticket(1, 0, 200), "100 100 ", "cut")
+    note("and so have the body of a batch and those of its dictionaries together: 200 texts of 65,536 bytes, and one that stands 200 times")
+    for name, answer in (("texts_apart", "100 100 "), ("long_texts", "200 ")):
+        log((200, f"create+schema_of_UInt8 dictionary_of_200+{body[name]} indices_of_200"))
+        fetch(ticket(1, 0, 200), answer, "cut")
 
 
 # Large columns of 70,000 slots, the first 35,000 alike and the others alike: the type, what is sent, and the answer.

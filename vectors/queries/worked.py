@@ -541,6 +541,14 @@ OPENED = [
     ("WHERE x.a > 5", "2 of 1.0 1.1 0.1"),
     ("WHERE y.a > 5", "2 of 1.1 0.0 0.1"),
 ]
+# The same of one place, by a column of dates: its batches have the days 8000 and 8700, and 8766 and 9000.
+OF_HISTORY = "SELECT d FROM history"
+OPENED_BY_DATES = [
+    ("WHERE d >= DATE '1994-01-01'", "2 of 0.1"),
+    ("WHERE DATE '1994-01-01' > d", "2 of 0.0"),
+    ("WHERE d BETWEEN DATE '1993-10-27' AND DATE '1994-01-01'", "2 of 0.0 0.1"),
+    ("WHERE d BETWEEN DATE '1993-10-28' AND DATE '1993-12-31'", "0 of"),
+]
 
 # The columns of a result: names as they are written, the types of answers, and whether they may be null.
 COLUMNS = [
@@ -630,8 +638,8 @@ def cases():
         yield rows(f"SELECT a FROM t WHERE {predicate}", wanted)
     for first, last, query, wanted, given, opened in RANGES:
         yield f"range {first} {last} {query}", "".join(map(shown, wanted)) + f" {given} of {opened}"
-    for where, wanted in OPENED:
-        yield f"opened 0 4 {JOINED_STEPS} {where}", wanted
+    for query, found in [(JOINED_STEPS, OPENED), (OF_HISTORY, OPENED_BY_DATES)]:
+        yield from ((f"opened 0 4 {query} {where}", wanted) for where, wanted in found)
     for names, predicates in [(SIGNED, OF_SIGNED), (UNSIGNED, OF_UNSIGNED)]:
         for one in names:
             yield from (rows("SELECT k FROM types WHERE " + filled(predicate, one), wanted) for predicate, wanted in predicates)

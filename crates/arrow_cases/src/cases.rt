@@ -133,8 +133,8 @@ impl Heard {
         Ok(heard)
     }
 
-    // What is said of the batch, once it was copied to texts and our own writer wrote it, behind the columns as which the
-    // schema's are answered.
+    // What is said of the batch, once it was copied to texts and our own writer wrote it, behind the schema's columns, of which
+    // each dictionary of texts is one of texts.
     fn texts_again(&self, alloc: Global) -> Result<Heard> {
         let message = self.written_texts(alloc)?;
         let schema = self.reader.schema().context("no schema")?;
