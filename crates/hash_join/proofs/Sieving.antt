@@ -9,7 +9,7 @@ use Rattle.std.specs.declared.cmp.Ordering.TheVariants.{Equal as Same}
 use Rattle.std.proofs.Math.Facts.{yes_ltb, yes_leb}
 use Rattle.std.proofs.lemmas.Int.{ints}
 use Rattle.std.proofs.lemmas.List.{length-map}
-use Rattle.std.proofs.lemmas.Bool.{cases_lt, ltb-false}
+use Rattle.std.proofs.lemmas.Bool.{cases_lt, ltb-false, false≢true}
 use Rattle.std.proofs.lemmas.Nat.{and_le_r}
 use Rattle.scan_base.specs.declared.value.Value.{Value}
 use Rattle.scan_base.specs.declared.comparison.Comparison.TheVariants.{Equal}
@@ -89,6 +89,15 @@ place_tells : (index : ℤ) (count told : ℕ) → index_among index count ≡ t
 place_tells (pos index) count told e less = ap pos (omega (arith, e, less))
 place_tells (negsuc index) count told e less = absurd (omega (arith, e, less))
 
+-- a place whose bit is 1 is that of a number of the span
+own_place : (ranks : Ranks) (place : ℕ) → get_or ranks.keys place false ≡ true → place < ranks.span.count
+own_place ranks place one = elim (cases_lt place ranks.span.count) [
+  | inl within ↦ within
+  | inr past ↦
+      let last : place ≡ ranks.span.count = omega (arith, past, bit_there ranks.keys place one, ranks.all) in
+      absurd (false≢true (sym (ap (λ (at : ℕ). get_or ranks.keys at false) last ∙ ranks.end) ∙ one))
+]
+
 -- so does its own bucket
 own_tells : (ranks : Ranks) (number other : ℤ) (told : ℕ) → own_bucket ranks number ≡ Some told → own_bucket ranks other ≡ Some told → number ≡ other
 own_tells ranks number other told e f =
@@ -96,7 +105,7 @@ own_tells ranks number other told e f =
     let also = own_is ranks other told f in
     let place = place_among ranks.span number in
     let same : place ≡ place_among ranks.span other = rank_tells ranks.keys place (place_among ranks.span other) one.0 also.0 (one.1 ∙ sym also.1) in
-    let within : place < ranks.span.count = omega (arith, bit_there ranks.keys place one.0, ranks.all) in
+    let within : place < ranks.span.count = own_place ranks place one.0 in
     let here = place_tells (number -ℤ ranks.span.least) ranks.span.count place refl within in
     let there = place_tells (other -ℤ ranks.span.least) ranks.span.count place (sym same) within in
     omega (arith, ints, here, there)

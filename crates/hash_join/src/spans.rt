@@ -66,7 +66,7 @@ impl Span {
     pub(crate) fn of(batches: &[Batch], key: &[usize], rows: usize) -> Option<Span>
         requires there { All (λ (batch : BatchAt). IsTrue (list_all (λ column. nat_lt column (length batch.columns)) key.now)) batches.now }
         requires few { rows ≤ most_rows }
-        ensures few { IfSome result (λ span. span.count < 2 ^ 31) }
+        ensures few { IfSome result (λ span. span.count < 2 ^ 30) }
         ensures single { IfSome result (λ span. length key.now ≡ 1) }
     {
         if key.len() != 1 {
