@@ -43,5 +43,5 @@ unmarked bytes count place are there =
     ∙ ap (λ (x : ℕ). x == 1) (bit_at-zero (place % 8))
 
 -- the bit behind the others is one of the list
-pub last_bit : (bytes : List ℕ) (count : ℕ) → bit_of bytes count ≡ false → get_or (bits_of bytes 0 (count + 1)) count false ≡ false
-last_bit bytes count none = get_or-bits_of bytes 0 (count + 1) count false (omega arith) ∙ ap (bit_of bytes) (omega arith) ∙ none
+pub last_bit : (bytes : List ℕ) (len count : ℕ) → count < len → bit_of bytes count ≡ false → get_or (bits_of bytes 0 len) count false ≡ false
+last_bit bytes len count there none = get_or-bits_of bytes 0 len count false there ∙ ap (bit_of bytes) (omega arith) ∙ none

@@ -1,6 +1,6 @@
 //! Numbers of a span, as they are marked.
 
-ghost use Rattle.std.specs.Prelude.{◌≡◌, ◌<◌, ◌+◌, ◌*◌, ◌^◌, IfOk, false, get_or, length};
+ghost use Rattle.std.specs.Prelude.{◌≡◌, ◌<◌, ◌+◌, ◌*◌, ◌/◌, ◌^◌, IfOk, false, get_or, length};
 ghost use Rattle.bitmap.specs.Bits.{bit_of};
 
 use crate::numbers::TakesNumbers;
@@ -9,12 +9,12 @@ use bitmap::Bits;
 use bytes::Bytes;
 use std::alloc::{AllocError, Global};
 
-// A bit for each number of a span, and one more behind them, which is 0.
+// A bit for each number of a span, and more up to a whole word. The one behind the span's is there, and is 0.
 #[derive(Drop)]
 pub(crate) struct Marks {
     pub(crate) span: Span,
     bytes: Vec<u8>,
-    ghost room: { span.count < 8 * length bytes.items },
+    ghost room: { length bytes.items ≡ 8 * (span.count / 64 + 1) },
     ghost few: { span.count < 2 ^ 30 },
     ghost end: { bit_of bytes.items span.count ≡ false },
 }
@@ -25,16 +25,17 @@ impl Marks {
         requires { span.count < 2 ^ 30 }
     {
         let mut bytes = Vec::new(alloc);
-        bytes.resize(span.count / 8 + 1, 0u8)?;
+        bytes.resize(8 * (span.count / 64 + 1), 0u8)?;
         Ok(Marks { span, bytes })
     }
 
-    // The bits, for each number whether it is marked, and the one behind them.
+    // The bits, for each number whether it is marked, and those behind them.
     pub(crate) fn into_bits(self) -> Result<Bits, AllocError>
-        ensures long { IfOk result (λ bits. length bits ≡ self.span.count + 1) }
+        ensures long { IfOk result (λ bits. length bits ≡ 64 * (self.span.count / 64 + 1)) }
         ensures end { IfOk result (λ bits. get_or bits self.span.count false ≡ false) }
     {
-        Ok(Bits::new(Bytes::from_vec(self.bytes)?, 0, self.span.count + 1))
+        let words = self.span.count / 64 + 1;
+        Ok(Bits::new(Bytes::from_vec(self.bytes)?, 0, 64 * words))
     }
 }
 
