@@ -44,7 +44,7 @@ use Rattle.hash_join.proofs.EqualKeys.{standing}
 use Rattle.hash_join.specs.Searches.{first_right, head_of, walk_at, AreKeysOf, HasBucket, IsHead, IsSearch, IsTold, TellsNumbers}
 use Rattle.hash_join.proofs.Cells.{part_at}
 use Rattle.hash_join.proofs.Searching.{can_walk}
-use Rattle.hash_join.proofs.Ranking.{bit_there, rank_tells, rank_within}
+use Rattle.hash_join.proofs.Ranking.{rank_tells, rank_within}
 use Rattle.hash_join.proofs.Walking.{head_leads, none_joins, none_led, past_all}
 
 -- a number that is no place of the machine's is none of so few

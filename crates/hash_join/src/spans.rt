@@ -107,9 +107,7 @@ fn near_place(number: i64, least: i64, count: usize) -> usize
     ensures place { result ≡ index_among (number -ℤ least) count }
     ensures within { result ≤ count }
 {
-    let index = number
-        .cast_unsigned()
-        .wrapping_sub(least.cast_unsigned());
+    let index = number.cast_unsigned().wrapping_sub(least.cast_unsigned());
     (index as usize).min(count)
 }
 

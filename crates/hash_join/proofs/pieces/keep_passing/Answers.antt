@@ -1,6 +1,6 @@
-use Rattle.std.proofs.Common.{◌≡◌, ◌≤◌, ◌<◌, ◌+◌, ◌-◌, ◌^◌, ◌++◌, ℕ, List, All, length, take, sym, ap, subst, ◌∙◌, arith}
+use Rattle.std.proofs.Common.{◌≡◌, ◌<◌, ◌-◌, ◌^◌, ◌++◌, ℕ, List, All, length, sym, ap, subst, ◌∙◌, arith}
 use Rattle.std.specs.List.{filter, range_with_len}
-use Rattle.hash_join.specs.Words.{passing_word, set_bits}
+use Rattle.hash_join.specs.Words.{set_bits}
 use Rattle.hash_join.proofs.Piecing.{kept_below, kept_joined}
 use Rattle.hash_join.proofs.Words.{rows_few, word_rows}
 use Rattle.hash_join.proofs.pieces.keep_passing.Goals as goal

@@ -1,4 +1,4 @@
-use Rattle.std.proofs.Common.{◌≡◌, ◌<◌, ◌+◌, ◌^◌, ◌++◌, ◌∷◌, [], ℕ, List, All, length, take, sym, ap, subst, ◌∙◌, arith, append-nil}
+use Rattle.std.proofs.Common.{◌≡◌, ◌<◌, ◌^◌, ◌++◌, [], ℕ, List, length, take, sym, ap, ◌∙◌, arith, append-nil}
 use Rattle.std.proofs.lemmas.List.{length-set}
 use Rattle.hash_join.specs.Words.{set_bits}
 use Rattle.hash_join.proofs.Words.{first_fits, next_row, no_bits, others_fit, row_kept}

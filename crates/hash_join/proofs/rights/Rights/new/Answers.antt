@@ -1,4 +1,4 @@
-use Rattle.std.proofs.Common.{◌≡◌, ◌<◌, ◌≤◌, ◌^◌, ℕ, List, length, ap, subst, sym, ◌∙◌, arith}
+use Rattle.std.proofs.Common.{◌≡◌, ◌<◌, ◌≤◌, ◌^◌, length, ap, subst, sym, ◌∙◌, arith}
 use Rattle.scan_base.specs.Limits.{most_rows}
 use Rattle.hash_join.specs.Pairs.{places}
 use Rattle.hash_join.specs.Hashes.{last_of}
