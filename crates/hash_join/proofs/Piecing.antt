@@ -1,10 +1,9 @@
 -- Rows of a piece that pass, with the heads of their chains, have all of its pairs.
-use Rattle.std.proofs.Common.{◌≡◌, ◌≤◌, ◌<◌, ◌+◌, ◌-◌, ℕ, zero, suc, Bool, true, false, List, [], ◌∷◌, ◌++◌, All, length, map, take, drop, get_or, cond, inl, inr, refl, sym, ap, subst, ◌∙◌, arith, append-nil}
-use mir.Val.{bool_byte}
+use Rattle.std.proofs.Common.{◌≡◌, ◌≤◌, ◌<◌, ◌+◌, ◌-◌, ℕ, zero, suc, Bool, true, false, List, [], ◌∷◌, ◌++◌, All, length, map, drop, get_or, cond, inl, inr, refl, sym, ap, subst, ◌∙◌, arith}
 use Rattle.std.specs.List.{filter, range_with_len}
-use Rattle.std.proofs.Math.ListN.{set}
 use Rattle.std.proofs.lemmas.Bool.{cases_lt}
-use Rattle.std.proofs.lemmas.List.{drop_more, take-set, take_more_set}
+use Rattle.std.proofs.lemmas.List.{drop_more}
+use Rattle.bitmap.proofs.Masks.{range-append}
 use Rattle.std.proofs.lemmas.List.Elements.{filter-append, All-nil, All-cons, All-filter}
 use Rattle.hash_join.specs.declared.build.Probe.{Probe}
 use Rattle.hash_join.specs.declared.pair.Pair.{Pair}
@@ -15,45 +14,15 @@ use Rattle.hash_join.specs.Searches.{ahead_of, first_left, probe_at, start_at, w
 use Rattle.hash_join.proofs.Searching.{can_walk, passed, skipped, stopped}
 use Rattle.hash_join.proofs.Walking.{lead_same}
 
-range_more : (a n j : ℕ) → a + n ≡ j → range_with_len a (n + 1) ≡ range_with_len a n ++ j ∷ []
-range_more a zero j e = let same : a ≡ j = omega (arith, e) in ap (λ number. number ∷ []) same
-range_more a (suc n) j e =
-    let later : suc n + 1 ≡ suc (n + 1) = omega arith in
-    rw later (ap (λ rest. a ∷ rest) (range_more (a + 1) n j (omega (arith, e))))
-
--- a row counts as one at most
-pub one_at_most : (b : Bool) → bool_byte b ≤ 1
-one_at_most true = omega arith
-one_at_most false = omega arith
-
 module _ (passes : ℕ → Bool) where
-  kept_next : (from row : ℕ) → from ≤ row →
-      filter passes (range_with_len from (row + 1 - from)) ≡ filter passes (range_with_len from (row - from)) ++ filter passes (row ∷ [])
-  kept_next from row le =
-      let e : row + 1 - from ≡ row - from + 1 = omega (arith, le) in
-      ap (λ (n : ℕ). filter passes (range_with_len from n)) e
-      ∙ ap (filter passes) (range_more from (row - from) row (omega (arith, le)))
-      ∙ filter-append passes (range_with_len from (row - from)) (row ∷ [])
-
-  -- one row more is kept, where it passes
-  pub kept_more : (kept : List ℕ) (from row count : ℕ) → from ≤ row → count < length kept → take count kept ≡ filter passes (range_with_len from (row - from)) →
-      take (count + bool_byte (passes row)) (set kept count row) ≡ filter passes (range_with_len from (row + 1 - from))
-  kept_more kept from row count le lt had = by (passes row) refl ∙ sym (kept_next from row le)
-    where
-      front : List ℕ
-      front = filter passes (range_with_len from (row - from))
-
-      by : (b : Bool) → passes row ≡ b → take (count + bool_byte (passes row)) (set kept count row) ≡ front ++ filter passes (row ∷ [])
-      by true e =
-          let one : bool_byte (passes row) ≡ 1 = ap bool_byte e in
-          let more : count + bool_byte (passes row) ≡ count + 1 = omega (arith, one) in
-          ap (λ (n : ℕ). take n (set kept count row)) more ∙ take_more_set kept count row lt ∙ ap (λ (rows : List ℕ). rows ++ row ∷ []) had
-          ∙ sym (ap (λ (b : Bool). front ++ cond b (row ∷ []) []) e)
-      by false e =
-          let none : bool_byte (passes row) ≡ 0 = ap bool_byte e in
-          let same : count + bool_byte (passes row) ≡ count = omega (arith, none) in
-          ap (λ (n : ℕ). take n (set kept count row)) same ∙ take-set kept count row ∙ had
-          ∙ sym (ap (λ (b : Bool). front ++ cond b (row ∷ []) []) e ∙ append-nil front)
+  -- the rows of two parts that pass, one part behind the other
+  pub kept_joined : (from at n : ℕ) → from ≤ at → filter passes (range_with_len from (at + n - from)) ≡ filter passes (range_with_len from (at - from)) ++ filter passes (range_with_len at n)
+  kept_joined from at n le =
+      let e : at + n - from ≡ at - from + n = omega (arith, le) in
+      let f : from + (at - from) ≡ at = omega (arith, le) in
+      ap (λ (k : ℕ). filter passes (range_with_len from k)) e
+      ∙ ap (filter passes) (range-append from (at - from) n ∙ ap (λ (b : ℕ). range_with_len from (at - from) ++ range_with_len b n) f)
+      ∙ filter-append passes (range_with_len from (at - from)) (range_with_len at n)
 
   all_below : (first n end : ℕ) → first + n ≤ end → All (λ (row : ℕ). row < end) (range_with_len first n)
   all_below first zero end h = All-nil (λ (row : ℕ). row < end)

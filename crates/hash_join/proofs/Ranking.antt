@@ -1,10 +1,17 @@
 -- Of bits that are 1, each is told by how many before it are 1.
-use Rattle.std.proofs.Common.{◌≡◌, ◌≤◌, ◌<◌, ◌+◌, ◌-◌, ◌*◌, ◌/◌, ◌%◌, ℕ, Bool, true, false, cond, List, [], ◌∷◌, ◌++◌, length, get_or, take, drop, inl, inr, sym, ap, ◌∙◌, arith}
+use Rattle.std.proofs.Common.{◌≡◌, ◌≤◌, ◌<◌, ◌+◌, ◌-◌, ◌*◌, ◌/◌, ◌%◌, ◌^◌, ℕ, zero, suc, Bool, true, false, cond, List, [], ◌∷◌, ◌++◌, length, get_or, take, drop, inl, inr, refl, sym, ap, ◌∙◌, arith, length-drop}
 use Rattle.std.specs.List.{count_by}
+use Rattle.std.specs.Int.Bits.{bit_and}
+use Rattle.std.specs.Int.RustNames.{count_ones}
+use Rattle.std.specs.Simd.Lanes.{mask_l}
+use Rattle.std.proofs.Math.Nat.{add-mul-mod_self_left, mul_assoc, pow-le-pow_right}
+use Rattle.std.proofs.lemmas.Nat.{and_mask}
+use Rattle.std.proofs.lemmas.Simd.{mask_l-mod}
+use Rattle.bitmap.proofs.Masks.{ones_of}
 use Rattle.std.proofs.Math.ListN.{get_or-eq_default}
 use Rattle.std.proofs.Math.Seq.{take-add}
 use Rattle.std.proofs.lemmas.Bool.{cases_lt, false≢true}
-use Rattle.std.proofs.lemmas.List.{get_or_append_left, get_or_push}
+use Rattle.std.proofs.lemmas.List.{get_or_append_left, get_or_push, length-take, take-append-drop}
 use Rattle.std.proofs.lemmas.List.Sums.{sum_by-append, sum_by-take-le, count_by_more_yes, count_by-le-length}
 use Rattle.hash_join.specs.Ranks.{rank_at}
 
@@ -64,3 +71,42 @@ counts_more bits before word ones long had is w low = elim (cases_lt w word) [
   | inl lt ↦ let there : w < length before = omega (arith, lt, long) in get_or_append_left before (ones ∷ []) 0 w there ∙ had w lt
   | inr ge ↦ let e : w ≡ word = omega (arith, ge, low) in rw e (get_or_push before ones 0 word long ∙ is)
 ]
+
+-- ---- the bits of a word before a place
+
+joined : (ones others : List Bool) → mask_l (ones ++ others) ≡ mask_l ones + 2 ^ length ones * mask_l others
+joined [] others = omega arith
+joined (one ∷ ones) others =
+    let power : 2 ^ suc (length ones) ≡ 2 * 2 ^ length ones = omega arith in
+    let twice : 2 ^ suc (length ones) * mask_l others ≡ 2 * (2 ^ length ones * mask_l others) = ap (λ x. x * mask_l others) power ∙ mul_assoc 2 (2 ^ length ones) (mask_l others) in
+    omega (arith, joined ones others, twice)
+
+low_mask : (bits : List Bool) (count : ℕ) → count ≤ length bits → mask_l bits % 2 ^ count ≡ mask_l (take count bits)
+low_mask bits count le =
+    let long : length (take count bits) ≡ count = omega (arith, length-take count bits, le) in
+    let parts : mask_l bits ≡ mask_l (take count bits) + 2 ^ count * mask_l (drop count bits) =
+    ap mask_l (sym (take-append-drop count bits)) ∙ joined (take count bits) (drop count bits)
+    ∙ ap (λ (n : ℕ). mask_l (take count bits) + 2 ^ n * mask_l (drop count bits)) long in
+    ap (λ (n : ℕ). n % 2 ^ count) parts ∙ add-mul-mod_self_left (mask_l (take count bits)) (2 ^ count) (mask_l (drop count bits))
+    ∙ mask_l-mod (take count bits) count (omega (arith, long))
+
+take_less : (bits : List Bool) (few more : ℕ) → few ≤ more → take few (take more bits) ≡ take few bits
+take_less bits zero more le = refl
+take_less [] (suc few) zero le = refl
+take_less [] (suc few) (suc more) le = refl
+take_less (bit ∷ bits) (suc few) zero le = absurd (omega (arith, le))
+take_less (bit ∷ bits) (suc few) (suc more) le = ap (λ (rest : List Bool). bit ∷ rest) (take_less bits few more (omega (arith, le)))
+
+-- the bits of a word that are 1 before a place in it
+pub ones_below : (bits : List Bool) (from place word : ℕ) → place < 64 → from + 64 ≤ length bits → word ≡ mask_l (take 64 (drop from bits)) →
+    count_ones (bit_and word (1 * 2 ^ place % 2 ^ 64 - 1)) ≡ count_by (λ bit. bit) (take place (drop from bits))
+ones_below bits from place word less there is =
+    let few : place ≤ 63 = omega (arith, less) in
+    let below : 2 ^ place ≤ 2 ^ 63 = pow-le-pow_right (omega arith) few in
+    let one : 1 * 2 ^ place % 2 ^ 64 ≡ 2 ^ place = omega (arith, below) in
+    let part : List Bool = take 64 (drop from bits) in
+    let long : place ≤ length part = omega (arith, length-take 64 (drop from bits), length-drop from bits, there, less) in
+    ap (λ (n : ℕ). count_ones (bit_and word (n - 1))) one
+    ∙ ap (λ (n : ℕ). count_ones n) (and_mask word place ∙ ap (λ (n : ℕ). n % 2 ^ place) is ∙ low_mask part place long)
+    ∙ ones_of (take place part)
+    ∙ ap (count_by (λ bit. bit)) (take_less (drop from bits) place 64 (omega (arith, few)))

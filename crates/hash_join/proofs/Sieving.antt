@@ -1,5 +1,5 @@
 -- Left rows whose number is no right key join nothing; the others join each row of their chain.
-use Rattle.std.proofs.Common.{◌≡◌, ◌≤◌, ◌<◌, ◌+◌, ◌-ℤ◌, ◌^◌, ◌&&◌, ℕ, ℤ, pos, negsuc, FitsSigned, Bool, true, false, if◌then◌else◌, List, [], ◌∷◌, length, get_or, unwrap_or, Option, Some, None, refl, sym, ap, ◌∙◌, arith, inl, inr, subst, nat_lt, bit_and, ◌/◌}
+use Rattle.std.proofs.Common.{◌≡◌, ◌≤◌, ◌<◌, ◌+◌, ◌-ℤ◌, ◌^◌, ◌&&◌, ℕ, ℤ, pos, negsuc, FitsSigned, Bool, true, false, if◌then◌else◌, List, [], ◌∷◌, length, get_or, unwrap_or, Option, Some, None, refl, sym, ap, ◌∙◌, arith, inl, inr, subst, nat_lt, bit_and, ◌/◌, ◌%◌, ◌-◌, ◌+ℤ◌, ◌≤ℤ◌, suc, min}
 use Rattle.std.specs.Int.{w64, w128, cast_unsigned, FitsUnsigned}
 use Rattle.std.specs.List.{list_any}
 use Rattle.std.specs.Option.{option_map}
@@ -9,7 +9,7 @@ use Rattle.std.specs.declared.cmp.Ordering.TheVariants.{Equal as Same}
 use Rattle.std.proofs.Math.Facts.{yes_ltb, yes_leb}
 use Rattle.std.proofs.lemmas.Int.{ints}
 use Rattle.std.proofs.lemmas.List.{length-map}
-use Rattle.std.proofs.lemmas.Bool.{cases_lt, ltb-false}
+use Rattle.std.proofs.lemmas.Bool.{cases_lt, ltb-false, false≢true}
 use Rattle.std.proofs.lemmas.Nat.{and_le_r}
 use Rattle.scan_base.specs.declared.value.Value.{Value}
 use Rattle.scan_base.specs.declared.comparison.Comparison.TheVariants.{Equal}
@@ -34,7 +34,8 @@ use Rattle.hash_join.specs.declared.product.Product.{Product}
 use Rattle.hash_join.specs.Looks.{ranks_told}
 use Rattle.hash_join.specs.Pairs.{keys_join}
 use Rattle.hash_join.specs.Ranks.{rank_at}
-use Rattle.hash_join.specs.Hashes.{hash_of, number_of, place_among, is_key, own_bucket, bucket_among, ranked_bucket, bucket_of, last_of, index_among, product_at, product_of, product_bucket, product_sum}
+use Rattle.hash_join.specs.Hashes.{hash_of, number_of, place_among, is_key, own_bucket, bucket_among, ranked_bucket, bucket_of, last_of, product_at, product_of, product_bucket, product_sum}
+use Rattle.hash_join.specs.Indices.{index_among}
 use Rattle.hash_join.specs.KeyRows.{key_of}
 use Rattle.hash_join.specs.Chains.{stands, Leads}
 use Rattle.hash_join.specs.Walks.{in_chain, pairs_past, bucket_left}
@@ -43,7 +44,7 @@ use Rattle.hash_join.proofs.EqualKeys.{standing}
 use Rattle.hash_join.specs.Searches.{first_right, head_of, walk_at, AreKeysOf, HasBucket, IsHead, IsSearch, IsTold, TellsNumbers}
 use Rattle.hash_join.proofs.Cells.{part_at}
 use Rattle.hash_join.proofs.Searching.{can_walk}
-use Rattle.hash_join.proofs.Ranking.{bit_there, rank_tells, rank_within}
+use Rattle.hash_join.proofs.Ranking.{rank_tells, rank_within}
 use Rattle.hash_join.proofs.Walking.{head_leads, none_joins, none_led, past_all}
 
 -- a number that is no place of the machine's is none of so few
@@ -53,6 +54,31 @@ no_index (pos index) count small wide = elim (cases_lt index (2 ^ 64)) [
   | inr high ↦ omega (arith, high, small)
 ]
 no_index (negsuc index) count small wide = refl
+
+-- a number of 64 bits, the least, and what is between them as bits
+pub near_index : (number least : ℤ) (count : ℕ) → FitsSigned w64 number → FitsSigned w64 least → (least +ℤ pos count) ≤ℤ pos (2 ^ 63) →
+    min ((cast_unsigned w64 number + (2 ^ 64 - cast_unsigned w64 least)) % 2 ^ 64) count ≡ index_among (number -ℤ least) count
+near_index number least count fits low near = by (number -ℤ least) refl
+  where
+    at_place : (number least : ℤ) (index : ℕ) → FitsSigned w64 number → FitsSigned w64 least → number ≡ (least +ℤ pos index) →
+        (cast_unsigned w64 number + (2 ^ 64 - cast_unsigned w64 least)) % 2 ^ 64 ≡ index
+    at_place (pos n) (pos m) index fits low e = omega (arith, ints, e, fits.sfits, low.sfits)
+    at_place (pos n) (negsuc m) index fits low e = omega (arith, ints, e, fits.sfits, low.sfits)
+    at_place (negsuc n) (pos m) index fits low e = omega (arith, ints, e, fits.sfits, low.sfits)
+    at_place (negsuc n) (negsuc m) index fits low e = omega (arith, ints, e, fits.sfits, low.sfits)
+
+    below : (number least : ℤ) (index : ℕ) → FitsSigned w64 number → FitsSigned w64 least → (least +ℤ pos count) ≤ℤ pos (2 ^ 63) → (number +ℤ pos (suc index)) ≡ least →
+        count ≤ (cast_unsigned w64 number + (2 ^ 64 - cast_unsigned w64 least)) % 2 ^ 64
+    below (pos n) (pos m) index fits low near e = omega (arith, ints, e, fits.sfits, low.sfits, near)
+    below (pos n) (negsuc m) index fits low near e = omega (arith, ints, e, fits.sfits, low.sfits, near)
+    below (negsuc n) (pos m) index fits low near e = omega (arith, ints, e, fits.sfits, low.sfits, near)
+    below (negsuc n) (negsuc m) index fits low near e = omega (arith, ints, e, fits.sfits, low.sfits, near)
+
+    by : (index : ℤ) → number -ℤ least ≡ index → min ((cast_unsigned w64 number + (2 ^ 64 - cast_unsigned w64 least)) % 2 ^ 64) count ≡ index_among index count
+    by (pos index) e = ap (λ (place : ℕ). min place count) (at_place number least index fits low (omega (arith, ints, e)))
+    by (negsuc index) e =
+        let past = below number least index fits low near (omega (arith, ints, e)) in
+        omega (arith, past)
 
 -- nor is one that is none of 128 bits
 pub no_difference : (index : ℤ) (count : ℕ) → count < 2 ^ 64 → (FitsSigned w128 index → ⊥) → count ≡ index_among index count
@@ -89,6 +115,20 @@ place_tells : (index : ℤ) (count told : ℕ) → index_among index count ≡ t
 place_tells (pos index) count told e less = ap pos (omega (arith, e, less))
 place_tells (negsuc index) count told e less = absurd (omega (arith, e, less))
 
+-- no place is behind the one behind the span's
+index_few : (index : ℤ) (count : ℕ) → index_among index count ≤ count
+index_few (pos index) count = omega arith
+index_few (negsuc index) count = omega arith
+
+-- a place whose bit is 1 is that of a number of the span
+own_place : (ranks : Ranks) (place : ℕ) → place ≤ ranks.span.count → get_or ranks.keys place false ≡ true → place < ranks.span.count
+own_place ranks place few one = elim (cases_lt place ranks.span.count) [
+  | inl within ↦ within
+  | inr past ↦
+      let last : place ≡ ranks.span.count = omega (arith, past, few) in
+      absurd (false≢true (sym (ap (λ (at : ℕ). get_or ranks.keys at false) last ∙ ranks.end) ∙ one))
+]
+
 -- so does its own bucket
 own_tells : (ranks : Ranks) (number other : ℤ) (told : ℕ) → own_bucket ranks number ≡ Some told → own_bucket ranks other ≡ Some told → number ≡ other
 own_tells ranks number other told e f =
@@ -96,7 +136,7 @@ own_tells ranks number other told e f =
     let also = own_is ranks other told f in
     let place = place_among ranks.span number in
     let same : place ≡ place_among ranks.span other = rank_tells ranks.keys place (place_among ranks.span other) one.0 also.0 (one.1 ∙ sym also.1) in
-    let within : place < ranks.span.count = omega (arith, bit_there ranks.keys place one.0, ranks.all) in
+    let within : place < ranks.span.count = own_place ranks place (index_few (number -ℤ ranks.span.least) ranks.span.count) one.0 in
     let here = place_tells (number -ℤ ranks.span.least) ranks.span.count place refl within in
     let there = place_tells (other -ℤ ranks.span.least) ranks.span.count place (sym same) within in
     omega (arith, ints, here, there)

@@ -1,5 +1,5 @@
 -- Inside: the bucket of a key. It is a function of the key's values, so that equal keys have one; nothing else matters of it.
-use Rattle.std.specs.Prelude.{◌+◌, ◌-ℤ◌, ◌*◌, ◌/◌, ◌%◌, ◌^◌, ℕ, ℤ, pos, negsuc, Bool, false, List, [], ◌∷◌, Option, Some, None, unwrap_or, get_or, if◌then◌else◌, bit_and, min}
+use Rattle.std.specs.Prelude.{◌+◌, ◌-ℤ◌, ◌*◌, ◌/◌, ◌%◌, ◌^◌, ℕ, ℤ, Bool, false, List, [], ◌∷◌, Option, Some, None, unwrap_or, get_or, if◌then◌else◌, bit_and}
 use Rattle.std.specs.Int.{w128, cast_unsigned}
 use Rattle.std.specs.List.{fold, list_any}
 use Rattle.std.specs.Option.{option_map}
@@ -15,6 +15,7 @@ use Rattle.hash_join.specs.declared.spans.Span.{Span}
 use Rattle.hash_join.specs.declared.ranks.Ranks.{Ranks}
 use Rattle.hash_join.specs.declared.buckets.Buckets.{Buckets}
 use Rattle.hash_join.specs.declared.buckets.Buckets.TheVariants as parted
+use Rattle.hash_join.specs.Indices.{index_among}
 use Rattle.hash_join.specs.Ranks.{rank_at}
 
 -- a hasher that was fed a value
@@ -54,11 +55,6 @@ product_of product None = 0
 -- the bucket of a key by the product of its number; none where a part of it is null
 abbrev pub product_bucket : Product → List Value → Option ℕ
 product_bucket product key = if list_any is_null key then None else Some (product_of product (number_of key))
-
--- the place of a number, counted from the first of so many; behind the last of them where it is none of them
-abbrev pub index_among : ℤ → ℕ → ℕ
-index_among (pos index) count = min index count
-index_among (negsuc index) count = count
 
 -- the place of a number among those of a span; behind the last of them where it is none of them
 abbrev pub place_among : Span → ℤ → ℕ

@@ -73,6 +73,14 @@ impl<'a> Sieve for AllRows<'a> {
         true
     }
 
+    fn word(&self, _from: usize, rows: usize) -> u64 {
+        if rows == 64 {
+            u64::MAX
+        } else {
+            (1 << rows) - 1
+        }
+    }
+
     fn tell(&self, _row: usize) -> Told {
         Told::Nothing
     }

@@ -1,11 +1,13 @@
 //! Packed numbers that are keys, read by their type.
 
-ghost use Rattle.std.specs.Prelude.{◌≡◌, ◌≤◌, ◌<◌, ◌+◌, ◌*◌, ℕ, length};
+ghost use Rattle.std.specs.Prelude.{◌≡◌, ◌≤◌, ◌<◌, ◌+◌, ◌*◌, ℕ, false, get_or, length};
 ghost use Rattle.arrow_schema.specs.declared.data_type.IntegerType.{IntegerType};
 ghost use Rattle.arrow_schema.specs.declared.data_type.IntegerType.TheVariants as integer;
 ghost use Rattle.arrays.specs.Number.{byte_width, integer_at};
 ghost use Rattle.arrays.specs.Validity.{is_valid, IsLong};
+ghost use Rattle.hash_join.specs.Words.{passing_word};
 
+use crate::look::Look;
 use arrays::Element;
 use arrow_schema::IntegerType;
 use bitmap::Bits;
@@ -93,6 +95,39 @@ pub(crate) fn is_known(validity: &Option<Bits>, place: usize) -> bool
         None => true,
         Some(bits) => bits.get(place),
     }
+}
+
+/// A bit for each of up to 64 slots from one on, the first lowest: 1 where the slot is valid.
+pub(crate) fn known_word(validity: &Bits, from: usize, count: usize) -> u64
+    requires within { from + count ≤ length validity.now }
+    requires few { count ≤ 64 }
+    ensures { result ≡ passing_word (λ place. get_or validity.now place false) from count }
+{
+    if count == 64 {
+        validity.word(from)
+    } else {
+        validity.short_word(from, count)
+    }
+}
+
+/// A bit for each of up to 64 packed numbers from one on, the first lowest: 1 where the number may be a right key. It writes
+/// nothing to memory, so what never changes is read once.
+pub(crate) fn number_word<E: KeyElement, L: Look>(
+    look: &L,
+    values: &[u8],
+    from: usize,
+    count: usize,
+) -> u64
+    requires within { byte_width E.kind * (from + count) ≤ length values.now }
+    requires few { count ≤ 64 }
+    ensures { result ≡ passing_word (λ place. L.passes look.now (integer_at E.kind values.now place)) from count }
+{
+    let mut word = 0u64;
+    for taken in 0..count {
+        let place = from + (count - 1 - taken);
+        word = 2 * word + look.passes(E::number_at(values, place)) as u64;
+    }
+    word
 }
 
 /// Number `place` of packed ones of a type, counted from 0.

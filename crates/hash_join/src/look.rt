@@ -1,6 +1,6 @@
 //! What one look at the right side tells of a number.
 
-ghost use Rattle.std.specs.Prelude.{◌≡◌, ◌+◌, ℕ, ℤ, Bool, get_or, length, nat_lt};
+ghost use Rattle.std.specs.Prelude.{◌≡◌, ◌+◌, ℕ, ℤ, Bool, get_or, length, nat_lt, true};
 ghost use Rattle.hash_join.specs.declared.look.Told.{Told as ToldOf};
 
 use crate::product::Product;
@@ -34,8 +34,9 @@ pub(crate) trait Look {
     fn tell(&self, number: i128) -> Told
         ensures { result ≡ told self.now number };
 
-    // The first row of its bucket's chain.
+    // The first row of its bucket's chain, where it passes.
     fn head(&self, number: i128) -> u32
+        requires { passes self.now number ≡ true }
         ensures { result ≡ head self.now number };
 
     // Whether the right rows of a bucket all have the number, where it passes.
@@ -52,7 +53,7 @@ pub(crate) struct RankHeads<'a> {
 }
 
 impl<'a> Look for RankHeads<'a> {
-    ghost use Rattle.std.specs.Prelude.{Some, true};
+    ghost use Rattle.std.specs.Prelude.{Some};
     ghost use Rattle.hash_join.specs.Hashes.{bucket_among, is_key};
     ghost use Rattle.hash_join.specs.Looks.{ranks_told};
 
@@ -76,7 +77,7 @@ impl<'a> Look for RankHeads<'a> {
     }
 
     fn head(&self, number: i128) -> u32 {
-        self.heads[self.ranks.bucket_among(number)]
+        self.heads[self.ranks.key_bucket(number)]
     }
 
     fn is_own(&self) -> bool {
@@ -107,7 +108,7 @@ impl<'a> Look for ProductHeads<'a> {
     ghost own = { λ _. false };
 
     fn passes(&self, number: i128) -> bool {
-        (self.head(number) as usize) < self.count
+        (self.heads[self.product.at(number)] as usize) < self.count
     }
 
     fn tell(&self, number: i128) -> Told {

@@ -1,6 +1,7 @@
 //! Numbers of a span, as they are marked.
 
-ghost use Rattle.std.specs.Prelude.{◌≡◌, ◌≤◌, ◌<◌, ◌*◌, ◌^◌, IfOk, length};
+ghost use Rattle.std.specs.Prelude.{◌≡◌, ◌<◌, ◌+◌, ◌*◌, ◌/◌, ◌^◌, IfOk, false, get_or, length};
+ghost use Rattle.bitmap.specs.Bits.{bit_of};
 
 use crate::numbers::TakesNumbers;
 use crate::spans::Span;
@@ -8,30 +9,33 @@ use bitmap::Bits;
 use bytes::Bytes;
 use std::alloc::{AllocError, Global};
 
-// A bit for each number of a span.
+// A bit for each number of a span, and more up to a whole word. The one behind the span's is there, and is 0.
 #[derive(Drop)]
 pub(crate) struct Marks {
     pub(crate) span: Span,
     bytes: Vec<u8>,
-    ghost room: { span.count ≤ 8 * length bytes.items },
-    ghost few: { span.count < 2 ^ 31 },
+    ghost room: { length bytes.items ≡ 8 * (span.count / 64 + 1) },
+    ghost few: { span.count < 2 ^ 30 },
+    ghost end: { bit_of bytes.items span.count ≡ false },
 }
 
 impl Marks {
     // Those of no number.
     pub(crate) fn new(alloc: Global, span: Span) -> Result<Marks, AllocError>
-        requires { span.count < 2 ^ 31 }
+        requires { span.count < 2 ^ 30 }
     {
         let mut bytes = Vec::new(alloc);
-        bytes.resize(span.count.div_ceil(8), 0u8)?;
+        bytes.resize(8 * (span.count / 64 + 1), 0u8)?;
         Ok(Marks { span, bytes })
     }
 
-    // The bits, for each number whether it is marked.
+    // The bits, for each number whether it is marked, and those behind them.
     pub(crate) fn into_bits(self) -> Result<Bits, AllocError>
-        ensures { IfOk result (λ bits. length bits ≡ self.span.count) }
+        ensures long { IfOk result (λ bits. length bits ≡ 64 * (self.span.count / 64 + 1)) }
+        ensures end { IfOk result (λ bits. get_or bits self.span.count false ≡ false) }
     {
-        Ok(Bits::new(Bytes::from_vec(self.bytes)?, 0, self.span.count))
+        let words = self.span.count / 64 + 1;
+        Ok(Bits::new(Bytes::from_vec(self.bytes)?, 0, 64 * words))
     }
 }
 

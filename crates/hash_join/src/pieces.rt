@@ -1,9 +1,10 @@
 //! Left rows that look for their partners, piece by piece.
 
-ghost use Rattle.std.specs.Prelude.{◌≡◌, ◌≤◌, ◌<◌, ◌+◌, ◌-◌, ◌++◌, ◌^◌, [], ℕ, Bool, All, IfOk, OnOk, length, map, take};
+ghost use Rattle.std.specs.Prelude.{◌≡◌, ◌≤◌, ◌<◌, ◌+◌, ◌-◌, ◌++◌, ◌^◌, [], All, IfOk, OnOk, length, map, take, true};
 ghost use Rattle.std.specs.List.{filter, range_with_len};
 ghost use Rattle.hash_join.specs.Searches.{ahead_of, probe_at, start_at, first_left, AreHeads, AreStarts, IsSearch, Passes};
 ghost use Rattle.hash_join.specs.Seen.{AreSeen};
+ghost use Rattle.hash_join.specs.Words.{set_bits};
 
 use crate::build::Probe;
 use crate::key_row::KeyRow;
@@ -37,36 +38,24 @@ pub(crate) struct Piece<'a> {
     pub(crate) to: usize,
 }
 
-// So many rows are looked at before those that pass are written. What tells of a row is read faster with no write in between.
+// So many rows are looked at with no write in between: a word has a bit for each of them.
 const LOOKED_ROWS: usize = 64;
 
-// Whether each of some rows, from one on, passes.
-fn look_at<S: Sieve>(sieve: &S, from: usize, told: &mut [bool])
-    requires within { from + length told.old ≤ S.count sieve.now }
-    requires small { from + length told.old ≤ 2 ^ 32 }
-    ensures long { length told.new ≡ length told.old }
-    ensures told { told.new ≡ map (S.passes sieve.now) (range_with_len from (length told.old)) }
-{
-    for index in 0..told.len() {
-        told[index] = sieve.passes(from + index);
-    }
-}
-
-// Writes those rows from one on of which it is told that they pass, behind so many others, and gives how many they are with
-// these. It takes no branch by what is told.
-fn keep_told(from: usize, told: &[bool], kept: &mut [u32], count: usize) -> usize
-    requires small { from + length told.now ≤ 2 ^ 32 }
-    requires room { count + length told.now ≤ length kept.old }
-    ensures few { result ≤ count + length told.now }
+// Writes the rows whose bits in a word are 1, counted from one on, behind so many others, and gives how many they are with
+// these.
+fn keep_rows(from: usize, word: u64, kept: &mut [u32], count: usize) -> usize
+    requires small { All (λ row. row < 2 ^ 32) (set_bits 64 from word) }
+    requires room { count + length (set_bits 64 from word) ≤ length kept.old }
+    ensures count { result ≡ count + length (set_bits 64 from word) }
     ensures long { length kept.new ≡ length kept.old }
-    ensures kept { (passes : ℕ → Bool) (first : ℕ) → first ≤ from → told.now ≡ map passes (range_with_len from (length told.now))
-        → take count kept.old ≡ filter passes (range_with_len first (from - first))
-        → take result kept.new ≡ filter passes (range_with_len first (from + length told.now - first)) }
+    ensures kept { take result kept.new ≡ take count kept.old ++ set_bits 64 from word }
 {
     let mut next = count;
-    for index in 0..told.len() {
-        kept[next] = (from + index) as u32;
-        next += told[index] as usize;
+    let mut left = word;
+    'bits: while left != 0 {
+        kept[next] = (from + left.trailing_zeros() as usize) as u32;
+        next += 1;
+        left = left & (left - 1);
     }
     next
 }
@@ -81,12 +70,10 @@ fn keep_passing<S: Sieve>(sieve: &S, from: usize, to: usize, kept: &mut [u32]) -
     ensures long { length kept.new ≡ length kept.old }
     ensures kept { take result kept.new ≡ filter (S.passes sieve.now) (range_with_len from (to - from)) }
 {
-    let mut told = [false; LOOKED_ROWS];
     let (mut count, mut at) = (0, from);
     'looks: while at < to {
         let rows = LOOKED_ROWS.min(to - at);
-        look_at(sieve, at, &mut told[..rows]);
-        count = keep_told(at, &told[..rows], kept, count);
+        count = keep_rows(at, sieve.word(at, rows), kept, count);
         at += rows;
     }
     count
@@ -100,6 +87,7 @@ fn find_heads<S: Sieve>(
     starts: &mut Vec<Start>,
 ) -> Result<(), AllocError>
     requires rows { All (λ row. row < S.count sieve.now) rows.now }
+    requires passes { All (λ row. S.passes sieve.now row ≡ true) rows.now }
     requires seen { AreSeen (S.bucket sieve.now) (S.last sieve.now) (S.count sieve.now) seen.old.rows.items }
     ensures starts { OnOk result (starts.new.items ≡ map (start_at (S.head sieve.now)) rows.now) }
     ensures seen { AreSeen (S.bucket sieve.now) (S.last sieve.now) (S.count sieve.now) seen.new.rows.items }

@@ -1,6 +1,6 @@
 //! Buckets by the number that is the key.
 
-ghost use Rattle.std.specs.Prelude.{◌≡◌, ◌≤◌, ◌<◌, ◌^◌, All, IfOk, IfSome, IsTrue, Some, count_by, length, nat_lt};
+ghost use Rattle.std.specs.Prelude.{◌≡◌, ◌≤◌, ◌<◌, ◌+◌, ◌*◌, ◌/◌, ◌^◌, All, IfOk, IfSome, IsTrue, Some, count_by, false, get_or, length, nat_lt, true};
 ghost use Rattle.hash_join.specs.Ranks.{rank_at, AreCounts};
 
 use crate::key_row::KeyRow;
@@ -12,14 +12,16 @@ use bitmap::Bits;
 use std::alloc::{AllocError, Global};
 
 // Which numbers of a span are right keys, and for each 64 of them how many right keys are before them. Each right key has a
-// bucket by how many are before it; all other keys share the last.
+// bucket by how many are before it; all other keys share the last. The bit behind the span's is 0: it is that of all other
+// numbers. There are bits up to a whole word.
 #[derive(Drop)]
 pub(crate) struct Ranks {
     pub(crate) span: Span,
     pub(crate) keys: Bits,
     pub(crate) before: Vec<u32>,
     pub(crate) last: usize,
-    ghost all: { length keys ≡ span.count },
+    ghost all: { length keys ≡ 64 * (span.count / 64 + 1) },
+    ghost end: { get_or keys span.count false ≡ false },
     ghost counts: { AreCounts keys before.items },
     ghost some: { last ≡ count_by (λ bit. bit) keys },
 }
@@ -39,7 +41,7 @@ impl Ranks {
     ) -> Result<Ranks, AllocError>
         requires there { All (λ (batch : BatchAt). IsTrue (list_all (λ column. nat_lt column (length batch.columns)) key.now)) batches.now }
         requires single { length key.now ≡ 1 }
-        requires few { span.count < 2 ^ 31 }
+        requires few { span.count < 2 ^ 30 }
         ensures { IfOk result (λ ranks. ranks.last < 2 ^ 31) }
     {
         let mut marks = Marks::new(alloc, span)?;
@@ -87,8 +89,16 @@ impl Ranks {
     pub(crate) fn is_key(&self, number: i128) -> bool
         ensures { result ≡ is_key self.now number }
     {
-        let place = self.span.place(number);
-        place < self.span.count && self.keys.get(place)
+        self.keys.get(self.span.place(number))
+    }
+
+    // The bucket of a number that is a right key.
+    pub(crate) fn key_bucket(&self, number: i128) -> usize
+        requires { is_key self.now number ≡ true }
+        ensures bucket { result ≡ bucket_among self.now (Some number) }
+        ensures within { result ≤ self.now.last }
+    {
+        self.rank(self.span.place(number))
     }
 
     // The bucket of a number, where no other key has it.
@@ -105,11 +115,12 @@ impl Ranks {
 
     // How many right keys are before a place.
     fn rank(&self, place: usize) -> usize
-        requires { place < length self.now.keys }
+        requires { place ≤ self.now.span.count }
         ensures { result ≡ rank_at self.now.keys place }
     {
         let word = place / 64;
-        self.before[word] as usize + self.keys.count_range(64 * word, place % 64)
+        let below = self.keys.word(64 * word) & ((1 << (place % 64)) - 1);
+        self.before[word] as usize + below.count_ones() as usize
     }
 }
 

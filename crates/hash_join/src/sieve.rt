@@ -1,14 +1,15 @@
 //! Left rows, of which those that join nothing are mostly told by one look.
 
-ghost use Rattle.std.specs.Prelude.{◌≡◌, ◌≤◌, ◌<◌, ◌+◌, ◌&&◌, ℕ, Bool, IfOk, None, Option, if◌then◌else◌};
+ghost use Rattle.std.specs.Prelude.{◌≡◌, ◌≤◌, ◌<◌, ◌+◌, ◌&&◌, ℕ, Bool, IfOk, None, Option, if◌then◌else◌, true};
 ghost use Rattle.arrays.specs.Integers.{AreIntegers};
 ghost use Rattle.arrays.specs.Number.{integer_at};
 ghost use Rattle.arrays.specs.Validity.{is_valid};
 ghost use Rattle.hash_join.specs.declared.look.Told.{Told as ToldOf};
 ghost use Rattle.hash_join.specs.declared.look.Told.TheVariants as known;
 ghost use Rattle.hash_join.specs.Seen.{AreSeen};
+ghost use Rattle.hash_join.specs.Words.{passing_word};
 
-use crate::key_element::{KeyElement, is_known};
+use crate::key_element::{KeyElement, is_known, known_word, number_word};
 use crate::look::{Look, Told};
 use crate::seen::SeenRows;
 use arrays::Integers;
@@ -36,6 +37,12 @@ pub(crate) trait Sieve {
         requires { row < count self.now }
         ensures { result ≡ passes self.now row };
 
+    // A bit for each of up to 64 rows from one on, the first lowest: 1 where the row may join a right row.
+    fn word(&self, from: usize, rows: usize) -> u64
+        requires within { from + rows ≤ count self.now }
+        requires few { rows ≤ 64 }
+        ensures { result ≡ passing_word (passes self.now) from rows };
+
     // What is known of the bucket of a row.
     fn tell(&self, row: usize) -> Told
         requires { row < count self.now }
@@ -48,6 +55,7 @@ pub(crate) trait Sieve {
     // The first right row of the chain of a row that passes; the number of right rows where it has none.
     fn head(&self, row: usize, seen: &mut SeenRows) -> u32
         requires row { row < count self.now }
+        requires passes { passes self.now row ≡ true }
         requires seen { AreSeen (bucket self.now) (last self.now) (count self.now) seen.old.rows.items }
         ensures head { result ≡ head self.now row }
         ensures seen { AreSeen (bucket self.now) (last self.now) (count self.now) seen.new.rows.items };
@@ -93,6 +101,16 @@ impl<'a, E: KeyElement, L: Look> Sieve for NumberRows<'a, E, L> {
             return false;
         }
         self.look.passes(E::number_at(self.cells.values(), place))
+    }
+
+    fn word(&self, from: usize, rows: usize) -> u64 {
+        let _count = self.cells.len();
+        let place = self.first + from;
+        let word = number_word::<E, L>(self.look, self.cells.values(), place, rows);
+        match self.cells.validity() {
+            None => word,
+            Some(bits) => known_word(bits, place, rows) & word,
+        }
     }
 
     fn tell(&self, row: usize) -> Told {

@@ -1,10 +1,10 @@
 //! Numbers that lie close together.
 
-ghost use Rattle.std.specs.Prelude.{◌≡◌, ◌≤◌, ◌<◌, ◌-ℤ◌, ◌^◌, All, IfSome, IsTrue, length, nat_lt};
+ghost use Rattle.std.specs.Prelude.{◌≡◌, ◌≤◌, ◌<◌, ◌+ℤ◌, ◌-ℤ◌, ◌≤ℤ◌, ◌^◌, pos, All, IfSome, IsTrue, length, nat_lt};
 ghost use Rattle.std.specs.List.{list_all};
 ghost use Rattle.scan_base.specs.Limits.{most_rows};
 ghost use Rattle.arrays.specs.Batch.{BatchAt};
-ghost use Rattle.hash_join.specs.Hashes.{index_among, place_among};
+ghost use Rattle.hash_join.specs.Indices.{index_among};
 
 use crate::numbers::{TakesNumbers, take_numbers};
 use arrays::Batch;
@@ -14,11 +14,12 @@ const MOST_NUMBERS_A_ROW: usize = 16;
 
 const MORE_NUMBERS: usize = 1_024;
 
-// So many numbers, from the least on.
+// So many numbers, from the least on. All have 64 bits with a sign.
 #[derive(Clone, Copy, Drop)]
 pub(crate) struct Span {
     pub(crate) least: i64,
     pub(crate) count: usize,
+    ghost near: { (least +ℤ pos count) ≤ℤ pos (2 ^ 63) },
 }
 
 // The least and the greatest of some numbers.
@@ -37,15 +38,19 @@ impl Ends {
         }
     }
 
-    // From the least to the greatest, where these are no more than so many numbers.
+    // From the least to the greatest, where 64 bits with a sign hold both, and they are no more than so many numbers.
     fn span(self, most: usize) -> Option<Span>
         ensures { IfSome result (λ span. span.count ≤ most) }
     {
-        let last = usize::try_from(self.most.checked_sub(self.least)?).ok()?;
+        let least = i64::try_from(self.least).ok()?;
+        let greatest = i64::try_from(self.most).ok()?;
+        if greatest < least {
+            return None;
+        }
+        let last = greatest.abs_diff(least) as usize;
         if last >= most {
             return None;
         }
-        let least = i64::try_from(self.least).ok()?;
         Some(Span {
             least,
             count: last + 1,
@@ -61,12 +66,14 @@ impl TakesNumbers for Ends {
 }
 
 impl Span {
+    ghost use Rattle.hash_join.specs.Hashes.{place_among};
+
     // The span of the keys of these batches, which have so many rows: none where these are no integers of one column, or lie
     // far apart.
     pub(crate) fn of(batches: &[Batch], key: &[usize], rows: usize) -> Option<Span>
         requires there { All (λ (batch : BatchAt). IsTrue (list_all (λ column. nat_lt column (length batch.columns)) key.now)) batches.now }
         requires few { rows ≤ most_rows }
-        ensures few { IfSome result (λ span. span.count < 2 ^ 31) }
+        ensures few { IfSome result (λ span. span.count < 2 ^ 30) }
         ensures single { IfSome result (λ span. length key.now ≡ 1) }
     {
         if key.len() != 1 {
@@ -94,15 +101,14 @@ impl Span {
 }
 
 // The place of a number of 64 bits among so many from the least on; behind the last of them where it is none of them. It
-// takes no step in 128 bits.
+// takes no step in 128 bits, and no branch: below the least the difference wraps past all places.
 fn near_place(number: i64, least: i64, count: usize) -> usize
+    requires { (least +ℤ pos count) ≤ℤ pos (2 ^ 63) }
     ensures place { result ≡ index_among (number -ℤ least) count }
     ensures within { result ≤ count }
 {
-    if number < least {
-        return count;
-    }
-    (number.abs_diff(least) as usize).min(count)
+    let index = number.cast_unsigned().wrapping_sub(least.cast_unsigned());
+    (index as usize).min(count)
 }
 
 // The place of a number among so many from the least on; behind the last of them where it is none of them.

@@ -91,7 +91,8 @@ impl<'a> Walk<'a> {
     }
 
     // Adds the pairs with the rows of the chain from one of them on, until there are `most`. Where the left row has its own
-    // bucket, it joins each of them.
+    // bucket, it joins each of them. Only a copy of the walk is lent where keys are compared, so that this one need not lie in
+    // memory.
     pub(crate) fn push_from(
         &self,
         own: bool,
@@ -110,7 +111,8 @@ impl<'a> Walk<'a> {
         if own {
             self.take_chain(first, most, pairs)
         } else {
-            self.follow(first, most, pairs)
+            let walk = *self;
+            walk.follow(first, most, pairs)
         }
     }
 

@@ -7,7 +7,6 @@ invariant-looks g l = record {
   low : l.fn.from ≤ l.at;
   high : l.at ≤ l.to;
   few : l.count ≤ l.at - l.from;
-  room : length l.told ≡ 64;
   long : length l.kept ≡ length l.fn.kept;
   kept : take l.count l.kept ≡ filter (g.S.Sieve.passes l.sieve) (range_with_len l.from (l.at - l.from));
 }

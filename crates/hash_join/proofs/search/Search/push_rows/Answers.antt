@@ -1,6 +1,7 @@
-use Rattle.std.proofs.Common.{◌≡◌, ◌≤◌, ◌<◌, ◌-◌, ◌++◌, ℕ, Bool, List, All, length, map, take, drop, sym, ap, subst, ◌∙◌, arith}
+use Rattle.std.proofs.Common.{◌≡◌, ◌≤◌, ◌<◌, ◌-◌, ◌++◌, ℕ, Bool, true, List, All, length, map, take, drop, sym, ap, subst, ◌∙◌, arith}
 use Rattle.std.specs.List.{filter, range_with_len}
 use Rattle.std.proofs.lemmas.List.{take_at}
+use Rattle.std.proofs.lemmas.List.Elements.{filter_passes}
 use Rattle.hash_join.specs.declared.build.Probe.{Probe}
 use Rattle.hash_join.specs.Searches.{ahead_of, probe_at, start_at, AreStarts}
 use Rattle.hash_join.proofs.Piecing.{kept_below, piece_begins, went_on}
@@ -24,6 +25,19 @@ find_heads-requires-clause-rows g c =
     let kept : take count new ≡ filter passes (range_with_len left (to - left)) = c.keep_passing-count.ensures.kept in
     subst (λ (rows_kept : List ℕ). All (λ (row : ℕ). row < rows) rows_kept) (sym (ap (take count) value ∙ kept))
     (kept_below passes left (to - left) rows (omega (arith, low, within, all)))
+
+pub find_heads-requires-clause-passes : goal.find_heads-requires-clause-passes
+find_heads-requires-clause-passes g c =
+    let passes = g.S.Sieve.passes c.args.sieve.now in
+    let left = c.pieces.at.left in
+    let to = c.min-to.result in
+    let count = c.keep_passing-count.result in
+    let new = c.keep_passing-count.new.kept in
+    let same : length new ≡ length c.deref_mut.result.now = c.keep_passing-count.ensures.long in
+    let long : length new ≡ c.pieces.kept.len = omega (arith, same, c.deref_mut.ensures.len) in
+    let value : c.deref.result.now ≡ new = c.deref.ensures.value ∙ take_at new (drop (length new) c.pieces.kept.items) c.pieces.kept.len long in
+    let kept : take count new ≡ filter passes (range_with_len left (to - left)) = c.keep_passing-count.ensures.kept in
+    subst (All (λ (row : ℕ). passes row ≡ true)) (sym (ap (take count) value ∙ kept)) (filter_passes passes (range_with_len left (to - left)))
 
 pub push_piece-requires-clause-starts : goal.push_piece-requires-clause-starts
 push_piece-requires-clause-starts g c =
