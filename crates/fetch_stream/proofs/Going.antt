@@ -1,6 +1,5 @@
 -- What a call of a stream gives, by what the parts of the stream give.
 use Rattle.std.proofs.Common.{◌≡◌, ◌≤◌, ◌<◌, ◌+◌, ℕ, Bool, true, false, List, [], ◌∷◌, ◌++◌, length, Option, None, Result, Ok, refl, sym, ap, subst, ◌∙◌, append-nil, arith}
-use Rattle.std.proofs.lemmas.List.Elements.{All-nil, All-cons}
 use Rattle.scan_base.specs.declared.fault.Fault.{Fault}
 use Rattle.scan_base.specs.Limits.{most_answer_rows, most_message_bytes}
 use Rattle.arrow_schema.specs.declared.schema.Schema.{Schema}
@@ -11,13 +10,13 @@ use Rattle.table_versions.specs.Table.{Row, Table}
 use Rattle.flight_info.specs.Payloads.{Payload, FitMessages}
 use Rattle.flight_info.proofs.Fitting.{none_fit, one_fits}
 use Rattle.fetch_stream.specs.Fetches.{SayDressed}
-use Rattle.fetch_stream.specs.Streams.{StreamAt, Parcel, HasShortBody, GivesParcel, GivesTurn, opened}
+use Rattle.fetch_stream.specs.Streams.{StreamAt, Parcel, GivesParcel, GivesTurn, opened}
 use Rattle.fetch_stream.specs.declared.cutter.Cutter.{Cutter}
 use Rattle.fetch_stream.specs.declared.source.Source.{Source}
 use Rattle.fetch_stream.specs.inside.Ahead.{IsGoing, schema_behind, rows_cut}
 use Rattle.fetch_stream.specs.inside.Steps.{GivesFirst, GivesRows, rows_left}
 use Rattle.fetch_stream.specs.inside.Written.{SaysRows, SaysSchema}
-use Rattle.fetch_stream.proofs.Streaming.{say_first, say_more, carried_short, each_short}
+use Rattle.fetch_stream.proofs.Streaming.{say_first, say_more, together_short}
 
 abbrev pub stream_of : Schema → Bool → List Row → ℕ → StreamAt
 stream_of schema begun left count = record { schema = schema; begun = begun; left = left; given = count; refused = None }
@@ -52,7 +51,7 @@ gives_schema schema false left count payload first within s fits = record {
   within = within;
   some = λ e. absurd cc;
   few = omega arith;
-  short = All-cons HasShortBody payload [] (carried_short payload s.message s.carries s.short) (All-nil HasShortBody);
+  short = together_short (payload ∷ []) (s.message ∷ []) (s.carries, tt) (omega (arith, s.short));
   fits = one_fits [] payload none_fit fits;
   schema = refl;
   begun = refl;
@@ -66,13 +65,13 @@ pub gives_rows : (schema new : Schema) (begun : Bool) (left rest rows : List Row
 gives_rows schema new false left rest rows count more parcel on same s join counted within some few fits = absurd cc
 gives_rows schema new true left rest rows count more parcel on same s join counted within some few fits = record {
   rows = rows;
-  said = λ payloads given so. subst (λ (sch : Schema). SayDressed (payloads ++ parcel) sch (given ++ rows)) (sym same) (say_more payloads parcel schema given rows s so);
+  said = λ payloads given so. subst (λ (sch : Schema). SayDressed (payloads ++ parcel) sch (given ++ rows)) (sym same) (say_more payloads parcel schema given rows s some so);
   left = join;
   counted = counted;
   within = within;
   some = λ e. some;
   few = few;
-  short = each_short parcel (s.dictionaries ++ s.batch ∷ []) s.carry s.short;
+  short = together_short parcel (s.dictionaries ++ s.batch ∷ []) s.carry s.short;
   fits = fits;
   schema = same;
   begun = refl;

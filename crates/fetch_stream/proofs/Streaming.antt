@@ -2,7 +2,7 @@
 use Rattle.std.proofs.Common.{◌≡◌, ◌≤◌, ◌<◌, ◌^◌, ◌+◌, ℕ, zero, suc, All, List, [], ◌∷◌, ◌++◌, length, map, get_or, Some, None, Result, Ok, refl, sym, ap, subst, ◌∙◌, append_assoc, append-nil, arith}
 use Rattle.std.specs.List.{flat_map, AllZip}
 use Rattle.std.proofs.lemmas.List.{map-append}
-use Rattle.std.proofs.lemmas.List.Elements.{All-nil, All-cons, All-push}
+use Rattle.std.proofs.lemmas.List.Elements.{All-nil, All-push}
 use Rattle.std.proofs.lemmas.Grind.{flat_map-append}
 use Rattle.scan_base.specs.declared.fault.Fault.{Fault}
 use Rattle.scan_base.specs.Limits.{most_columns}
@@ -37,10 +37,11 @@ use Rattle.dressed_batches.specs.declared.dressed.DressedBatch.{DressedBatch}
 use Rattle.dressed_batches.specs.Dress.{IsDressable, AreDressable, IsDressedBatch}
 use Rattle.dressed_batches.specs.Lengths.{bodies_length}
 use Rattle.flight_info.specs.Payloads.{Payload, message_in, PayloadsSay}
-use Rattle.fetch_stream.specs.Fetches.{SayDressed}
-use Rattle.fetch_stream.specs.Streams.{Parcel, HasShortBody, most_body_bytes}
+use Rattle.flight_info.proofs.Forms.{schema_plain}
+use Rattle.fetch_stream.specs.Fetches.{HasRow, SayDressed}
+use Rattle.fetch_stream.specs.Streams.{Parcel, HaveShortBodies, most_body_bytes}
 use Rattle.fetch_stream.specs.inside.Ahead.{AnsweredAs}
-use Rattle.fetch_stream.specs.inside.Written.{Carries, CarryDressed, HasShort, IsShort, SaysRows, SaysSchema, SaysWritten}
+use Rattle.fetch_stream.specs.inside.Written.{Carries, CarryDressed, IsShort, SaysRows, SaysSchema, SaysWritten}
 
 -- ---- one payload
 
@@ -67,6 +68,7 @@ schema_said payload schema is e short =
       message = record { header = bytes; body = [] };
       carries = carried_back payload bytes [] e (omega arith) (omega arith);
       short = omega arith;
+      plain = schema_plain schema is;
       said = rw (m.found, m.kind_again, told, m.body_length_again) refl;
     }
 
@@ -162,7 +164,7 @@ more_dressed schema messages rows d are is =
 
 -- a schema alone says no rows
 pub say_first : (payload : Payload) (schema : Schema) → SaysSchema payload schema → SayDressed (payload ∷ []) schema []
-unfolding say_carried
+unfolding say_carried none_dressed
 say_first payload schema s =
     let known : Known = record { schema = schema; dictionaries = [] } in
     let news : News = record { state = Some known; batch = None } in
@@ -172,14 +174,16 @@ say_first payload schema s =
       first = s.message;
       behind = [];
       messages = carry.same;
+      plain = s.plain;
       dressed = none_dressed schema;
+      some = All-nil HasRow;
     }
 
 -- rows more, in a batch behind its dictionaries
-pub say_more : (payloads : List Payload) (parcel : Parcel) (schema : Schema) (rows more : Rows) → SaysRows parcel schema more
+pub say_more : (payloads : List Payload) (parcel : Parcel) (schema : Schema) (rows more : Rows) → SaysRows parcel schema more → 0 < length more
     → SayDressed payloads schema rows → SayDressed (payloads ++ parcel) schema (rows ++ more)
-unfolding say_carried
-say_more payloads parcel schema rows more s so =
+unfolding say_carried more_dressed
+say_more payloads parcel schema rows more s some so =
     let said = so.said in
     let sent = map message_in said.0 in
     let known = said.2.0 in
@@ -194,22 +198,16 @@ say_more payloads parcel schema rows more s so =
       first = so.first;
       behind = so.behind ++ messages;
       messages = carry.same ∙ ap (λ (l : List Sent). l ++ messages) so.messages;
+      plain = so.plain;
       dressed = more_dressed schema so.behind rows d so.dressed s.dressed;
+      some = All-push HasRow so.dressed.dressings d so.some some;
     }
 
--- what a payload carries is no longer than its message
-pub carried_short : (payload : Payload) (message : Sent) → Carries payload message → length message.body ≤ most_body_bytes → HasShortBody payload
-carried_short payload message c short =
-    let same : c.carried.data_body ≡ message.body = ap (λ (sent : Sent). sent.body) c.same in
-    rw c.read (rw same short)
-
-pub each_short : (payloads : List Payload) (messages : List Sent) → AllZip Carries payloads messages → All HasShort messages → All HasShortBody payloads
-each_short [] [] all short = All-nil HasShortBody
-each_short (payload ∷ payloads) (message ∷ messages) all short =
-    All-cons HasShortBody payload payloads (carried_short payload message all.0 (short 0 message (omega arith)))
-    (each_short payloads messages all.1 (λ k d low. short (suc k) d (omega (arith, low))))
-each_short [] (message ∷ messages) all short = absurd all
-each_short (payload ∷ payloads) [] all short = absurd all
+-- the bodies of payloads are those of the messages that they carry
+pub together_short : (payloads : List Payload) (messages : List Sent) → AllZip Carries payloads messages → bodies_length messages ≤ most_body_bytes → HaveShortBodies payloads
+together_short payloads messages all short =
+    let c = carry_each payloads messages all in
+    (c.all, c.read, subst (λ (sent : List Sent). bodies_length sent ≤ most_body_bytes) (sym c.same) short)
 
 -- ---- columns that are answered
 
@@ -257,7 +255,7 @@ dressed_rows parcel schema batch made is carry = record {
 }
 
 -- the bodies of messages that together are short
-pub short_each : (messages : List Sent) (most : ℕ) → bodies_length messages ≤ most → (k : ℕ) (d : Sent) → k < length messages → length (get_or messages k d).body ≤ most
+short_each : (messages : List Sent) (most : ℕ) → bodies_length messages ≤ most → (k : ℕ) (d : Sent) → k < length messages → length (get_or messages k d).body ≤ most
 short_each [] most short k d low = absurd (omega (arith, low))
 short_each (message ∷ messages) most short zero d low = omega (arith, short)
 short_each (message ∷ messages) most short (suc k) d low = short_each messages most (omega (arith, short)) k d (omega (arith, low))
@@ -270,13 +268,17 @@ zip_more (p ∷ payloads) (m ∷ messages) payload message all is = (all.0, zip_
 zip_more [] (m ∷ messages) payload message all is = absurd all
 zip_more (p ∷ payloads) [] payload message all is = absurd all
 
+bodies-push : (messages : List Sent) (message : Sent) → bodies_length (messages ++ message ∷ []) ≡ bodies_length messages + length message.body
+bodies-push [] message = omega arith
+bodies-push (first ∷ messages) message = omega (arith, bodies-push messages message)
+
 pub carry_last : (payloads : List Payload) (parcel : Parcel) (last : Payload) (dictionaries : List Sent) (batch : BatchAt) (room : ℕ) → parcel ≡ payloads ++ last ∷ []
     → AllZip Carries payloads dictionaries → SaysWritten last batch → bodies_length dictionaries + room ≡ most_body_bytes → body_length batch ≤ room → CarryDressed parcel dictionaries batch
 carry_last payloads parcel last dictionaries batch room is all s sum short = record {
   message = s.message;
   carry = subst (λ (p : Parcel). AllZip Carries p (dictionaries ++ s.message ∷ [])) (sym is) (zip_more payloads dictionaries last s.message all s.carries);
   said = s.said;
-  short = All-push HasShort dictionaries s.message (λ k d low. short_each dictionaries most_body_bytes (omega (arith, sum)) k d low) (omega (arith, s.sized, sum, short));
+  short = omega (arith, bodies-push dictionaries s.message, s.sized, sum, short);
 }
 
 -- messages with short headers, that together have short bodies

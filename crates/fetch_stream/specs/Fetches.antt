@@ -1,5 +1,5 @@
 -- What a fetch shows, and what its handle answers.
-use Rattle.std.specs.Prelude.{◌≡◌, ◌≤◌, ◌<◌, ◌⊎◌, ◌&&◌, ℕ, Bool, true, nat_le, List, [], ◌∷◌, length, map, take, Option, Some, None, Result, Ok}
+use Rattle.std.specs.Prelude.{◌≡◌, ◌≤◌, ◌<◌, ◌⊎◌, ◌&&◌, ℕ, Bool, true, nat_le, All, List, [], ◌∷◌, length, map, take, Option, Some, None, Result, Ok}
 use Rattle.scan_base.specs.declared.fault.Fault.{Fault}
 use Rattle.scan_base.specs.declared.fault.Fault.TheVariants.{BadTicket, VersionUnknown, ResultTooLarge, OutOfMemory}
 use Rattle.scan_base.specs.Reading.{◌>>=◌, demand}
@@ -7,9 +7,10 @@ use Rattle.scan_base.specs.Limits.{most_query_bytes, most_answer_rows}
 use Rattle.arrow_schema.specs.declared.schema.Schema.{Schema}
 use Rattle.endpoint_split.specs.Handle.{HandleAt, Query, Tables}
 use Rattle.ipc_batch.specs.Said.{Sent}
-use Rattle.ipc_batch.specs.Dressed.{AreDressed}
+use Rattle.ipc_batch.specs.Dressed.{Dressing, AreDressed}
 use Rattle.table_versions.specs.Table.{Row, Table}
 use Rattle.table_versions.specs.Database.{Database}
+use Rattle.flight_info.specs.Forms.{IsPlain}
 use Rattle.flight_info.specs.Infos.{handle_asked}
 use Rattle.flight_info.specs.Meant.{Meant}
 use Rattle.flight_info.specs.Payloads.{Payload, message_in, PayloadsSay}
@@ -52,14 +53,21 @@ HandleMeans database (Tables number) answer = answer ≡ tables_listed database
 abbrev pub MeansNothing : Database → HandleAt → Type 0
 MeansNothing database handle = (answer : Table) → HandleMeans database handle answer → ⊥
 
--- Payloads say a schema and rows. Behind the schema's message come record batches, and right before each of them a dictionary
--- for each column that is one, in the columns' order: its id is the column's number, and its values the texts of that batch.
+-- a batch has one row or more
+abbrev pub HasRow : Dressing → Type 0
+HasRow dressing = 0 < length dressing.rows
+
+-- Payloads say a schema and rows. The schema's message says no more than it has to. Behind it come record batches of one row or
+-- more, and right before each of them a dictionary for each column that is one, in the columns' order: its id is the column's
+-- number, and its values the texts of that batch.
 pub record SayDressed (payloads : List Payload) (schema : Schema) (rows : List Row) : Type 0 where
   pub said : PayloadsSay payloads schema rows
   pub first : Sent
   pub behind : List Sent
   pub messages : map message_in said.0 ≡ first ∷ behind
+  pub plain : IsPlain first.header
   pub dressed : AreDressed schema behind rows
+  pub some : All HasRow dressed.dressings
 
 -- payloads say a beginning of an answer, or all of it, but no more rows than an answer may have
 abbrev pub SayBeginning : List Payload → Table → Type 0

@@ -1,9 +1,10 @@
 -- A stream of an answer's payloads: what is still to come, and what its calls give. Each call gives a parcel: the payload of
 -- the schema, or those of the dictionaries of some rows, and behind them that of these rows.
-use Rattle.std.specs.Prelude.{◌≡◌, ◌≢◌, ◌≤◌, ◌<◌, ◌⊎◌, ℕ, ◌+◌, Bool, true, false, All, List, [], ◌++◌, length, Option, Some, None, Result, Ok, Err, IfOk}
+use Rattle.std.specs.Prelude.{◌≡◌, ◌≢◌, ◌≤◌, ◌<◌, ◌⊎◌, ℕ, ◌+◌, Bool, true, false, List, [], ◌++◌, length, map, Option, Some, None, Result, Ok, Err}
 use Rattle.scan_base.specs.declared.fault.Fault.{Fault}
 use Rattle.scan_base.specs.declared.fault.Fault.TheVariants.{BadTicket, ResultTooLarge, OutOfMemory}
 use Rattle.scan_base.specs.Limits.{most_answer_rows}
+use Rattle.scan_base.specs.Lists.{each}
 use Rattle.arrow_schema.specs.declared.schema.Schema.{Schema}
 use Rattle.row_sources.specs.declared.turn.Patience.{Patience}
 use Rattle.row_sources.specs.declared.turn.Patience.TheVariants.{Endless}
@@ -12,15 +13,16 @@ use Rattle.row_sources.specs.declared.turn.Turn.TheVariants.{Given, Working, End
 use Rattle.table_versions.specs.Table.{Row, Table}
 use Rattle.table_versions.specs.Database.{Database}
 use Rattle.endpoint_split.specs.Handle.{HandleAt}
-use Rattle.flight_proto.specs.FlightData.{data_of}
-use Rattle.flight_info.specs.Payloads.{Payload, FitMessages}
+use Rattle.flight_proto.specs.FlightData.{DataSaid, data_of}
+use Rattle.dressed_batches.specs.Lengths.{bodies_length}
+use Rattle.flight_info.specs.Payloads.{Payload, message_in, FitMessages}
 use Rattle.fetch_stream.specs.Fetches.{HandleMeans, MeansNothing, SayDressed, FetchAt}
 
 -- as many rows as a message of an answer has
 abbrev pub most_message_rows : ℕ
 most_message_rows = 65536
 
--- as many bytes as a body has
+-- as many bytes as the bodies of a parcel have together
 abbrev pub most_body_bytes : ℕ
 most_body_bytes = 8388608
 
@@ -57,12 +59,14 @@ SaySoFar stream payloads rows = so_far stream.begun
     so_far true = SayDressed payloads stream.schema rows
     so_far false = (payloads ≡ []) × (rows ≡ [])
 
--- the body of a payload has no more bytes than it may
-abbrev pub HasShortBody : Payload → Type 0
-HasShortBody payload = IfOk (data_of payload) (λ carried. length carried.data_body ≤ most_body_bytes)
+-- each payload carries a message, whose bodies have no more bytes together than they may
+abbrev pub HaveShortBodies : List Payload → Type 0
+HaveShortBodies payloads = (all : List DataSaid) × (each data_of payloads ≡ Ok all)
+    × (bodies_length (map message_in all) ≤ most_body_bytes)
 
 -- The next parcel: the schema's payload, and then one row or more behind their dictionaries. With those before it, it says them
--- behind theirs. A message has no more rows and bytes than it may have, and an answer no more rows.
+-- behind theirs. A message has no more rows and bytes than it may have, nor have its body and those of its dictionaries
+-- together; and an answer has no more rows.
 pub record GivesParcel (before : StreamAt) (parcel : Parcel) (after : StreamAt) : Type 0 where
   pub rows : List Row
   pub said : (payloads : List Payload) (given : List Row) → SaySoFar before payloads given →
@@ -72,7 +76,7 @@ pub record GivesParcel (before : StreamAt) (parcel : Parcel) (after : StreamAt) 
   pub within : after.given ≤ most_answer_rows
   pub some : before.begun ≡ true → 0 < length rows
   pub few : length rows ≤ most_message_rows
-  pub short : All HasShortBody parcel
+  pub short : HaveShortBodies parcel
   pub fits : FitMessages parcel
   pub schema : after.schema ≡ before.schema
   pub begun : after.begun ≡ true

@@ -157,7 +157,7 @@ schema_ends schema is bytes place stands =
     }
 
 -- a schema's message is plain
-schema_plain : (schema : Schema) → IsSchema schema → IsPlain (schema_bytes schema)
+pub schema_plain : (schema : Schema) → IsSchema schema → IsPlain (schema_bytes schema)
 unfolding message_part table_wanted
 schema_plain schema is =
     let part = schema_part schema in

@@ -1,5 +1,5 @@
 -- Inside: what payloads say that are written.
-use Rattle.std.specs.Prelude.{◌≡◌, ◌≤◌, All, List, [], ◌∷◌, ◌++◌, length, Some, None, Ok}
+use Rattle.std.specs.Prelude.{◌≡◌, ◌≤◌, List, [], ◌∷◌, ◌++◌, length, Some, None, Ok}
 use Rattle.std.specs.List.{AllZip}
 use Rattle.arrow_schema.specs.declared.schema.Schema.{Schema}
 use Rattle.arrays.specs.Batch.{BatchAt}
@@ -7,6 +7,8 @@ use Rattle.flight_proto.specs.FlightData.{DataSaid, data_of}
 use Rattle.ipc_batch.specs.Said.{Sent, Rows, news_of}
 use Rattle.ipc_batch.specs.Written.{body_length, most_header_bytes, SaysBatch}
 use Rattle.ipc_batch.specs.Dressed.{IsDressed}
+use Rattle.dressed_batches.specs.Lengths.{bodies_length}
+use Rattle.flight_info.specs.Forms.{IsPlain}
 use Rattle.flight_info.specs.Payloads.{Payload, message_in}
 use Rattle.fetch_stream.specs.Streams.{Parcel, most_body_bytes}
 
@@ -16,11 +18,12 @@ pub record Carries (payload : Payload) (message : Sent) : Type 0 where
   pub read : data_of payload ≡ Ok carried
   pub same : message_in carried ≡ message
 
--- a payload says a schema, as the first of payloads
+-- a payload says a schema and no more than it has to, as the first of payloads
 pub record SaysSchema (payload : Payload) (schema : Schema) : Type 0 where
   pub message : Sent
   pub carries : Carries payload message
   pub short : length message.body ≤ most_body_bytes
+  pub plain : IsPlain message.header
   pub said : news_of None message
       ≡ Ok (record { state = Some (record { schema = schema; dictionaries = [] }); batch = None })
 
@@ -36,21 +39,17 @@ pub record IsShort (message : Sent) : Type 0 where
   pub header : length message.header ≤ most_header_bytes
   pub body : length message.body ≤ most_body_bytes
 
--- a body that is not too long
-abbrev pub HasShort : Sent → Type 0
-HasShort message = length message.body ≤ most_body_bytes
-
--- payloads carry the messages of dictionaries, and behind them one that says a batch, in bodies that are not too long
+-- payloads carry the messages of dictionaries, and behind them one that says a batch, in bodies that together are not too long
 pub record CarryDressed (parcel : Parcel) (dictionaries : List Sent) (batch : BatchAt) : Type 0 where
   pub message : Sent
   pub carry : AllZip Carries parcel (dictionaries ++ message ∷ [])
   pub said : SaysBatch message batch
-  pub short : All HasShort (dictionaries ++ message ∷ [])
+  pub short : bodies_length (dictionaries ++ message ∷ []) ≤ most_body_bytes
 
--- behind a schema payloads say rows, in one batch that is right behind its dictionaries, in bodies that are not too long
+-- behind a schema payloads say rows, in one batch that is right behind its dictionaries, in bodies that together are not too long
 pub record SaysRows (parcel : Parcel) (schema : Schema) (rows : Rows) : Type 0 where
   pub dictionaries : List Sent
   pub batch : Sent
   pub carry : AllZip Carries parcel (dictionaries ++ batch ∷ [])
   pub dressed : IsDressed schema (record { dictionaries = dictionaries; batch = batch; rows = rows })
-  pub short : All HasShort (dictionaries ++ batch ∷ [])
+  pub short : bodies_length (dictionaries ++ batch ∷ []) ≤ most_body_bytes

@@ -11,7 +11,7 @@ use Rattle.fetch_stream.proofs.opening.open_tables.Goals as goal
 pub of-stream-requires-clause-columns : goal.of-stream-requires-clause-columns
 of-stream-requires-clause-columns c some =
     subst (λ (schema : Schema). AnsweredAs schema c.in_ok-batch.batch.columns) (sym c.in_ok-schema.ensures.schema) (record {
-      numbered = (tt, tt, tt, tt, tt);
+      numbered = (tt, (tt, (tt, (tt, tt))));
       dressable = typed_dressable tables_schema.fields c.in_ok-batch.batch.columns c.in_ok-batch.ensures.typed;
     })
 

@@ -36,7 +36,7 @@ loop-slice-preserved c =
     let self = c.loop-slice.self in
     let schema = c.args.schema.now in
     let over : most_body_bytes < dressed_length schema.fields (cut_batch self.batch self.at (self.at + c.loop-slice.rows)).columns =
-    subst (λ (b : BatchAt). most_body_bytes < dressed_length schema.fields b.columns) c.in_ok-slice.ensures (c.in_ok-batch_parcel.ensures.long c.in_default.is) in
+    subst (λ (b : BatchAt). most_body_bytes < dressed_length schema.fields b.columns) c.in_ok-slice.ensures (c.in_ok-parcel.ensures.long c.in_default.is) in
     let fits = one_fits c.batch_slices_keep_rows.ensures schema self c.args.self.now before.same c.requires.placed c.requires.few c.loop-slice.rows before.within in
     record {
       some = more_than_one c.loop-slice.rows before.some (λ one. omega (arith, over, fits one));
