@@ -174,6 +174,35 @@ def copied_table(run: Run) -> None:
         same("no stream", answered("F14 UnknownName"), query(run, server, "SELECT b FROM many", "--format", "arrow"))
 
 
+def coded(words: list[bytes], codes: bytes) -> bytes:
+    """An IPC stream of one batch: a column of a dictionary of these texts, with an index of a byte for each row."""
+    text = trees.field("s", trees.UTF8, dictionary=trees.encoding(1, trees.integer(8, True)))
+    known = trees.dictionary(1, trees.batch(len(words), (0, b"", *trees.texts(words))))
+    messages = [(trees.schema(text), b""), known, trees.batch(len(codes), (0, b"", codes))]
+    return framing.stream_of((written("Message", tree, "spread"), body) for tree, body in messages) + END
+
+
+@case("a dictionary whose texts are 29 MB once they are copied: an answer as a stream of short bodies, which is put again")
+def copied_dictionary(run: Run) -> str:
+    words = [b"x" * 300, b"y" * 40_000, b"z"]
+    codes = bytes(1 if row % 7_000 == 6_999 else 2 if row % 5 == 0 else 0 for row in range(70_000))
+    codes += bytes([1]) * 300  # longer than a body one beside another
+    wanted = [[words[code].decode()] for code in codes]
+    count = f"{len(codes)} rows"
+    with run.serving("--parts", "3") as server:
+        same("put", printed(count), put(run, server, "t", coded(words, codes)))
+        for options in ((), ("--streams", "3")):
+            status, data, said = query(run, server, "SELECT * FROM t", "--format", "arrow", *options)
+            same("its end", (0, END, b""), (status, data[-len(END) :], said))
+            longest = max(len(body) for _, body in framing.stored_messages(data))
+            same(f"a body of {longest} bytes is short", True, longest <= 8_388_608)
+            same("each row", True, rows_in(data) == wanted)
+            same("put of the copy", printed(count), put(run, server, "copy", data, "replace"))
+            _, again, _ = query(run, server, "SELECT * FROM copy", "--format", "arrow")
+            same("each row of the copy", True, rows_in(again) == wanted)
+    return f"the longest body has {longest / 1e6:.1f} MB"
+
+
 @case("an answer as CSV: texts in quotes where they need them, and nulls")
 def csv_records(run: Run) -> None:
     columns = (Column("t, of all", "Utf8", True), Column("n", "Int64", True), Column("b", "Bool", True))

@@ -1,13 +1,13 @@
 -- Why a stream was not written.
-use Rattle.std.proofs.Common.{◌≡◌, ◌<◌, ◌^◌, ℕ, List, [], ◌∷◌, length, get_or, All, Result, Ok, Err, sym, subst, arith}
+use Rattle.std.proofs.Common.{◌≡◌, ◌≤◌, ◌<◌, ◌^◌, ℕ, ◌+◌, List, [], ◌∷◌, length, get_or, All, Result, Ok, Err, sym, subst, arith}
 use Rattle.std.specs.Prelude.{MatchResult}
 use Rattle.std.proofs.lemmas.List.Elements.{All-nil, All-cons}
 use Rattle.scan_base.specs.declared.fault.Fault.{Fault}
 use Rattle.scan_base.specs.declared.fault.Fault.TheVariants.{LimitReached, OutOfMemory, Transport}
-use Rattle.arrays.specs.Batch.{BatchAt}
+use Rattle.arrays.specs.Batch.{BatchAt, cut_batch}
 use Rattle.grpc_frame.specs.Ends.{CountsFailure, FailsByTransport}
 use Rattle.plain_batches.specs.Plain.{plain_length}
-use Rattle.row_stream.specs.Stream.{CountsTransport, IsCause}
+use Rattle.row_stream.specs.Stream.{CountsTransport, HasShortRows, IsCause}
 
 -- a failed transport is counted
 pub counts : {A : Type 0} (result : Result A Fault) (old new : ℕ) → CountsFailure result old new → FailsByTransport result → CountsTransport result old new
@@ -21,12 +21,8 @@ by_transport batches fault e = subst (IsCause batches) (sym e) tt
 pub by_memory : (batches : List BatchAt) (fault : Fault) → fault ≡ OutOfMemory → IsCause batches fault
 by_memory batches fault e = subst (IsCause batches) (sym e) tt
 
--- the body of a batch is not too long
-abbrev IsShort : BatchAt → Type 0
-IsShort batch = plain_length batch < 2 ^ 31
-
 -- the cause of some batches is one of all
-cause_of : (some all : List BatchAt) (fault : Fault) → (All (λ batch. plain_length batch < 2 ^ 31) all → All (λ batch. plain_length batch < 2 ^ 31) some) → IsCause some fault → IsCause all fault
+cause_of : (some all : List BatchAt) (fault : Fault) → (All HasShortRows all → All HasShortRows some) → IsCause some fault → IsCause all fault
 cause_of some all Transport less cause = tt
 cause_of some all OutOfMemory less cause = tt
 cause_of some all LimitReached less cause = λ each. cause (less each)
@@ -39,7 +35,13 @@ cause_of_none batches fault cause = cause_of [] batches fault (λ each k d insid
 -- of one
 pub cause_of_one : (batches : List BatchAt) (i : ℕ) (batch : BatchAt) (fault : Fault) → i < length batches → batch ≡ get_or batches i batch → IsCause (batch ∷ []) fault → IsCause batches fault
 cause_of_one batches i batch fault inside is cause =
-    cause_of (batch ∷ []) batches fault (λ each. All-cons IsShort batch [] (subst IsShort (sym is) (each i batch inside)) (All-nil IsShort)) cause
+    cause_of (batch ∷ []) batches fault (λ each. All-cons HasShortRows batch [] (subst HasShortRows (sym is) (each i batch inside)) (All-nil HasShortRows)) cause
+
+-- a row that has too long a body
+pub by_row : (batch : BatchAt) (row : ℕ) → row < batch.rows → 2 ^ 31 ≤ plain_length (cut_batch batch row (row + 1)) → IsCause (batch ∷ []) LimitReached
+by_row batch row inside long each =
+    let short : HasShortRows batch = each 0 batch (omega arith) in
+    omega (arith, long, short row inside)
 
 -- ---- a result
 

@@ -3,3 +3,4 @@ pub mod Messages
 pub mod Plain
 pub mod Causes
 pub mod SoFar
+pub mod Cuts

@@ -1,6 +1,8 @@
 -- Written messages may stand in a stream, and what they say.
-use Rattle.std.proofs.Common.{◌≡◌, ◌==◌, ◌<◌, ◌≤◌, ◌^◌, ℕ, List, [], ◌∷◌, ◌++◌, length, map, None, Some, Ok, refl, sym, ap, subst, ◌∙◌, append-nil, arith}
-use Rattle.std.proofs.lemmas.List.{map-append}
+use Rattle.std.proofs.Common.{◌≡◌, ◌⊎◌, inl, inr, ◌==◌, ◌<◌, ◌≤◌, ◌^◌, ℕ, List, [], ◌∷◌, ◌++◌, length, map, None, Some, Ok, refl, sym, ap, subst, ◌∙◌, append-nil, arith}
+use Rattle.std.specs.List.{range_with_len}
+use Rattle.std.proofs.lemmas.List.{map-append, length-map}
+use Rattle.std.proofs.lemmas.List.FromFn.{length-range_with_len}
 use Rattle.scan_base.specs.Reading.{◌>>=◌, demand}
 use Rattle.scan_base.specs.declared.fault.Fault.TheVariants.{UnsupportedArrow}
 use Rattle.flatbuf.specs.Layout.{TableAt}
@@ -15,7 +17,7 @@ use Rattle.arrow_schema.specs.Written.{schema_part, schema_bytes}
 use Rattle.arrow_schema.proofs.Messages.{messages_read}
 use Rattle.arrow_schema.proofs.Again.{whole_schema, short_schema, schemas_read}
 use Rattle.arrays.specs.Column.{ColumnAt}
-use Rattle.arrays.specs.Batch.{BatchAt, rows_of}
+use Rattle.arrays.specs.Batch.{BatchAt, row_of, rows_of}
 use Rattle.arrays.specs.Typed.{AreOfTypes}
 use Rattle.ipc_batch.specs.State.{Known}
 use Rattle.ipc_batch.specs.Parts.{body_claimed}
@@ -26,7 +28,8 @@ use Rattle.ipc_batch.proofs.Lengths.{fine, both}
 use Rattle.ipc_batch.proofs.Messages.{joined}
 use Rattle.ipc_stream.specs.declared.message.IpcMessage.{IpcMessage}
 use Rattle.ipc_stream.specs.Stream.{announced, frame, IsMessage}
-use Rattle.row_stream.specs.Stream.{sent_in}
+use Rattle.row_stream.specs.Stream.{sent_in, most_body_bytes, HasShortBody}
+use Rattle.row_stream.specs.inside.Cuts.{SaysShort}
 use Rattle.row_stream.specs.inside.Frames.{SaysSchema}
 
 -- the table of a message is the root of its buffer
@@ -69,7 +72,7 @@ schema_says schema header is e =
     let m = messages_read kinds.Schema (schema_part schema) 0 (whole_schema schema) (omega arith) (omega arith) in
     let again = schemas_read schema is in
     let told : schema_in m.message ≡ Ok schema = rw (m.found, m.kind_again) at again in
-    rw (e, m.found, m.kind_again, told, m.body_length_again) refl
+    record { alone = refl; said = rw (e, m.found, m.kind_again, told, m.body_length_again) refl }
 
 -- the message of a batch, by what its header says
 pub batch_fits : (header body : List ℕ) (parts : WrittenParts) → SaysParts (record { header = header; body = body }) parts → length header ≤ most_header_bytes → length body < 2 ^ 31
@@ -90,7 +93,7 @@ pub first_said : (message : IpcMessage) (schema : Schema) → SaysSchema schema 
 first_said message schema tells =
     let known : Known = record { schema = schema; dictionaries = [] } in
     let news : News = record { state = Some known; batch = None } in
-    (known, refl, (news, [], tells, refl, (refl, refl)))
+    (known, refl, (news, [], tells.said, refl, (refl, refl)))
 
 types_answered : (fields : List Field) → map (λ (field : Field). field.data_type) (plain_schema (record { fields = fields })).fields ≡ map (λ (field : Field). copied_type field.data_type) fields
 types_answered [] = refl
@@ -110,6 +113,29 @@ more_said messages message schema rows batch tells typed said =
     let all : Follows None (sent ++ sent_in message ∷ []) (Some known) (rows ++ rows_of read.0) = joined None sent (sent_in message ∷ []) (Some known) (Some known) rows (rows_of read.0) said.2 one in
     subst (λ (l : List Sent). Says l (plain_schema schema) (rows ++ rows_of batch)) (sym (map-append sent_in messages (message ∷ [])))
     (known, said.1, subst (λ (more : Rows). Follows None (sent ++ sent_in message ∷ []) (Some known) (rows ++ more)) read.2 all)
+
+-- ---- how long bodies are
+
+-- that of a schema has no byte
+pub schema_short : (message : IpcMessage) (schema : Schema) → SaysSchema schema (sent_in message) → HasShortBody schema message
+schema_short message schema tells = inl (omega (arith, ap (λ (l : List ℕ). length l) tells.alone))
+
+pub length-rows_of : (batch : BatchAt) → length (rows_of batch) ≡ batch.rows
+length-rows_of batch = length-map (range_with_len 0 batch.rows) (row_of batch.columns) ∙ length-range_with_len 0 batch.rows
+
+-- that of a batch has few, or says one row
+pub batch_short : (message : IpcMessage) (schema : Schema) (batch : BatchAt) → SaysShort batch (sent_in message) → AreOfTypes schema.fields batch.columns → HasShortBody (plain_schema schema) message
+batch_short message schema batch tells typed = by tells.short
+  where
+    by : (length message.body ≤ most_body_bytes) ⊎ (batch.rows ≡ 1) → HasShortBody (plain_schema schema) message
+    by (inl few) = inl few
+    by (inr one) = inr (λ known same.
+        let types : map (λ (field : Field). field.data_type) known.schema.fields ≡ map (λ (field : Field). copied_type field.data_type) schema.fields =
+        rw same (types_answered schema.fields) in
+        let read = tells.says known schema.fields typed types in
+        let news : News = record { state = Some known; batch = Some read.0 } in
+        let long : length (rows_of read.0) ≡ 1 = ap (λ (rows : Rows). length rows) read.2 ∙ length-rows_of batch ∙ one in
+        (news, read.1, long))
 
 -- ---- a frame
 

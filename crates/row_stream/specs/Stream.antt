@@ -1,11 +1,12 @@
 -- What is written of rows as an Arrow IPC stream.
-use Rattle.std.specs.Prelude.{◌≡◌, ◌⊎◌, ◌<◌, ◌^◌, ℕ, ◌+◌, List, [], ◌++◌, All, map, Option, Result, Ok, Err}
+use Rattle.std.specs.Prelude.{◌≡◌, ◌⊎◌, ◌≤◌, ◌<◌, ◌^◌, ℕ, ◌+◌, List, [], ◌++◌, All, length, map, Option, Some, Result, Ok, Err}
 use Rattle.std.specs.Io.KnownBytes.{Appends}
 use Rattle.scan_base.specs.declared.fault.Fault.{Fault}
 use Rattle.scan_base.specs.declared.fault.Fault.TheVariants.{LimitReached, OutOfMemory, Transport}
 use Rattle.arrow_schema.specs.declared.schema.Schema.{Schema}
-use Rattle.arrays.specs.Batch.{BatchAt}
-use Rattle.ipc_batch.specs.Said.{Sent, Rows, Says}
+use Rattle.arrays.specs.Batch.{BatchAt, cut_batch}
+use Rattle.ipc_batch.specs.State.{Known}
+use Rattle.ipc_batch.specs.Said.{Sent, News, Rows, Says, news_of, rows_in}
 use Rattle.plain_batches.specs.Plain.{plain_length}
 use Rattle.ipc_stream.specs.declared.message.IpcMessage.{IpcMessage}
 use Rattle.ipc_stream.specs.Stream.{Framed, end_marker}
@@ -15,11 +16,25 @@ use Rattle.grpc_frame.specs.Ends.{AppendsBeginning}
 abbrev pub sent_in : IpcMessage → Sent
 sent_in message = record { header = message.header; body = message.body }
 
+-- as many bytes as the body of a message of two rows or more has
+abbrev pub most_body_bytes : ℕ
+most_body_bytes = 8388608
+
+-- behind a schema, a message says one row
+abbrev pub SaysOneRow : Schema → Sent → Type 0
+SaysOneRow schema sent = (known : Known) → known.schema ≡ schema →
+    (news : News) × (news_of (Some known) sent ≡ Ok news) × (length (rows_in news.batch) ≡ 1)
+
+-- the body of a message behind a schema is not too long, or it is that of one row
+abbrev pub HasShortBody : Schema → IpcMessage → Type 0
+HasShortBody schema message = (length message.body ≤ most_body_bytes) ⊎ SaysOneRow schema (sent_in message)
+
 -- the bytes are an Arrow IPC stream, which this rest ends, and its messages say this schema and these rows
 pub record StreamSays (stream rest : List ℕ) (schema : Schema) (rows : Rows) : Type 0 where
   pub messages : List IpcMessage
   pub framed : Framed stream messages rest
   pub said : Says (map sent_in messages) schema rows
+  pub short : All (HasShortBody schema) messages
 
 -- the whole stream of these rows, with its end marker
 abbrev pub IsWhole : Schema → Rows → List ℕ → Type 0
@@ -45,9 +60,13 @@ CountsTransport (Ok done) old new = new ≡ old
 CountsTransport (Err Transport) old new = new ≡ old + 1
 CountsTransport (Err fault) old new = new ≡ old
 
--- Why a stream was not written: a write failed, memory was refused, or a batch has a body of 2 to the 31 bytes or more.
+-- each row of a batch alone has a body of fewer than 2 to the 31 bytes
+abbrev pub HasShortRows : BatchAt → Type 0
+HasShortRows batch = (row : ℕ) → row < batch.rows → plain_length (cut_batch batch row (row + 1)) < 2 ^ 31
+
+-- Why a stream was not written: a write failed, memory was refused, or one row has a body of 2 to the 31 bytes or more.
 abbrev pub IsCause : List BatchAt → Fault → Type 0
 IsCause batches Transport = Unit {0}
 IsCause batches OutOfMemory = Unit {0}
-IsCause batches LimitReached = ¬ All (λ batch. plain_length batch < 2 ^ 31) batches
+IsCause batches LimitReached = ¬ All HasShortRows batches
 IsCause batches _ = ⊥

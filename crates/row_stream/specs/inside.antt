@@ -1,2 +1,3 @@
 -- Inside: what only the contracts of private functions cite.
 pub mod Frames
+pub mod Cuts

@@ -3,6 +3,7 @@
 //! `specs/Stream.antt` says what is written.
 #![tactic(auto)]
 
+mod cutting;
 mod message;
 mod sending;
 mod writing;

@@ -17,9 +17,6 @@ use plain_batches::plain_batch;
 use std::alloc::{AllocError, Global};
 use std::marker::Model;
 
-// The most bytes of a message's body.
-const MOST_BODY_BYTES: usize = (1 << 31) - 1;
-
 /// A message of a stream: its header, and the buffers of its body, of which no copy is made. A contract sees the message.
 #[derive(Drop)]
 pub(crate) struct Ready {
@@ -48,34 +45,40 @@ pub(crate) fn schema_message(alloc: Global, schema: &Schema) -> Result<Ready, Al
     })
 }
 
-/// The message of a batch, or nothing where its body would have 2 to the 31 bytes or more. Columns of dictionaries are
-/// copied to their texts, since the schema says that these come.
-pub(crate) fn batch_message(alloc: Global, batch: &Batch) -> Result<Option<Ready>, AllocError>
-    requires { length batch.now.columns ≤ most_columns }
-    ensures found { IfOk result (λ found. IsSome found ↔ (plain_length batch.now < 2 ^ 31)) }
+/// The message of a batch, or nothing where its body would have more bytes than there is room for. Columns of dictionaries
+/// are copied to their texts, since the schema says that these come.
+pub(crate) fn batch_message(
+    alloc: Global,
+    batch: Batch,
+    room: usize,
+) -> Result<Option<Ready>, AllocError>
+    requires few { length batch.columns ≤ most_columns }
+    requires room { room < 2 ^ 31 }
+    ensures found { IfOk result (λ found. IsSome found ↔ (plain_length batch ≤ room)) }
     ensures fits { IfOk result (λ found. IfSome found IsMessage) }
-    ensures says { IfOk result (λ found. IfSome found (λ message. SaysAnswered (sent_in message) batch.now)) }
+    ensures says { IfOk result (λ found. IfSome found (λ message. SaysAnswered (sent_in message) batch)) }
+    ensures short { IfOk result (λ found. IfSome found (λ message. length message.body ≤ room)) }
 {
-    let _columns = batch.columns();
-    let whole = batch.slice(alloc, 0, batch.rows())?;
-    match plain_batch(alloc, whole, MOST_BODY_BYTES)? {
-        Some(plain) => written_message(alloc, &plain),
+    match plain_batch(alloc, batch, room)? {
+        Some(plain) => written_message(alloc, &plain, room),
         None => Ok(None),
     }
 }
 
-// The message of a batch that has no dictionary.
-fn written_message(alloc: Global, batch: &Batch) -> Result<Option<Ready>, AllocError>
-    requires { length batch.now.columns ≤ most_columns }
-    ensures found { IfOk result (λ found. IsSome found ↔ (body_length batch.now < 2 ^ 31)) }
+// The message of a batch that has no dictionary, or nothing where its body would have more bytes than there is room for.
+fn written_message(alloc: Global, batch: &Batch, room: usize) -> Result<Option<Ready>, AllocError>
+    requires few { length batch.now.columns ≤ most_columns }
+    requires room { room < 2 ^ 31 }
+    ensures found { IfOk result (λ found. IsSome found ↔ (body_length batch.now ≤ room)) }
     ensures fits { IfOk result (λ found. IfSome found IsMessage) }
     ensures says { IfOk result (λ found. IfSome found (λ message. SaysBatch (sent_in message) batch.now)) }
+    ensures short { IfOk result (λ found. IfSome found (λ message. length message.body ≤ room)) }
 {
-    let Some(sized) = SizedBatch::new(alloc, batch)? else {
-        return Ok(None);
-    };
-    Ok(Some(Ready {
-        header: sized.write_header(alloc)?,
-        buffers: sized.buffers(alloc)?,
-    }))
+    match SizedBatch::new(alloc, batch)? {
+        Some(sized) if sized.body_length() <= room => Ok(Some(Ready {
+            header: sized.write_header(alloc)?,
+            buffers: sized.buffers(alloc)?,
+        })),
+        _ => Ok(None),
+    }
 }

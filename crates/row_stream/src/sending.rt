@@ -5,20 +5,24 @@ ghost use Rattle.flatbuf.specs.Block.{padded};
 ghost use Rattle.arrow_schema.specs.Schema.{IsSchema};
 ghost use Rattle.scan_base.specs.Limits.{most_columns};
 ghost use Rattle.ipc_batch.specs.Written.{body_of};
-ghost use Rattle.plain_batches.specs.Plain.{SaysAnswered};
 ghost use Rattle.ipc_stream.specs.Stream.{announced, frame};
 ghost use Rattle.grpc_frame.specs.Ends.{CanFail, CountsFailure, FailsByTransport};
 ghost use Rattle.grpc_frame.specs.Sending.{Sends};
 ghost use Rattle.row_stream.specs.Stream.{CountsTransport, IsCause};
+ghost use Rattle.row_stream.specs.inside.Cuts.{SendsBatch};
 ghost use Rattle.row_stream.specs.inside.Frames.{SaysSchema, SendsMessage};
 
-use crate::message::{Ready, batch_message, schema_message};
+use crate::cutting::next_cut;
+use crate::message::{Ready, schema_message};
 use arrays::Batch;
 use arrow_schema::Schema;
 use bytes::Bytes;
 use grpc_frame::{Outbox, Output};
 use scan_base::Fault;
 use std::alloc::Global;
+
+// The most rows of a message. After one of few rows, the next one may have twice as many.
+const MOST_ROWS: usize = 65_536;
 
 // Sends what stands in front of a header of so many bytes.
 fn send_announcement<W: Output>(writer: &mut W, outbox: &mut Outbox, len: u32) -> Result<(), Fault>
@@ -93,12 +97,13 @@ pub(crate) fn send_schema<W: Output>(
     send_frame(writer, outbox, &message)
 }
 
-/// Sends the message of a batch.
+/// Sends the messages of a batch: each one says the next rows, as many as it may. A body of more than 8,388,608 bytes is that
+/// of one row.
 ///
 /// # Errors
 ///
 /// `Fault::Transport` where a write failed. It is counted. `Fault::OutOfMemory` where memory is refused, and
-/// `Fault::LimitReached` where the body would have 2 to the 31 bytes or more.
+/// `Fault::LimitReached` where the body of one row would have 2 to the 31 bytes or more.
 pub(crate) fn send_batch<W: Output>(
     alloc: Global,
     writer: &mut W,
@@ -107,13 +112,21 @@ pub(crate) fn send_batch<W: Output>(
 ) -> Result<(), Fault>
     requires failures { CanFail (W.failures writer.old) }
     requires few { length batch.now.columns ≤ most_columns }
-    ensures bytes { SendsMessage (λ sent. SaysAnswered sent batch.now) result
+    ensures bytes { SendsBatch result batch.now
         (W.contents writer.old) (W.contents writer.new) outbox.old outbox.new }
     ensures counted { CountsTransport result (W.failures writer.old) (W.failures writer.new) }
     ensures cause { MatchResult result (λ _. Unit {0}) (IsCause (batch.now ∷ [])) }
 {
-    let Some(message) = batch_message(alloc, batch)? else {
-        return Err(Fault::LimitReached);
-    };
-    send_frame(writer, outbox, &message)
+    let rows = batch.rows();
+    let mut at = 0;
+    let mut most = MOST_ROWS;
+    while at < rows {
+        let Some(cut) = next_cut(alloc, batch, at, most)? else {
+            return Err(Fault::LimitReached);
+        };
+        send_frame(writer, outbox, &cut.message)?;
+        most = ((cut.end - at) * 2).min(MOST_ROWS);
+        at = cut.end;
+    }
+    Ok(())
 }

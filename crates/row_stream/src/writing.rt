@@ -19,16 +19,17 @@ use std::alloc::Global;
 // A header of no byte is announced.
 const END_MARKER: [u8; 8] = [0xff, 0xff, 0xff, 0xff, 0, 0, 0, 0];
 
-/// Writes an Arrow IPC stream: the schema of answers whose columns are these, a record batch for each batch, and the end
-/// marker. At most 16,384 bytes wait for the next write, and longer buffers are written as they lie: values are
-/// copied only where they do not lie as they are written.
+/// Writes an Arrow IPC stream: the schema of answers whose columns are these, the record batches of each batch, and the end
+/// marker. A batch is cut where its rows would make a body of more than 8,388,608 bytes, as columns of dictionaries may, which
+/// are copied to their texts. At most 16,384 bytes wait for the next write, and longer buffers are written as they lie:
+/// other values are copied only where they do not lie as they are written.
 ///
 /// # Errors
 ///
 /// A beginning of a stream is written then, which says some of the rows.
 /// - `Fault::Transport` (F22) where a write failed. It is counted.
 /// - `Fault::OutOfMemory` (F21) where memory is refused.
-/// - `Fault::LimitReached` (F12) where a batch would have a body of 2 to the 31 bytes or more.
+/// - `Fault::LimitReached` (F12) where one row of a batch would have a body of 2 to the 31 bytes or more.
 pub fn write_stream<W: Output>(
     alloc: Global,
     schema: &Schema,

@@ -7,10 +7,11 @@ use Rattle.ipc_stream.specs.Stream.{frame, IsMessage}
 use Rattle.grpc_frame.specs.Sending.{Sent as Outgone, NotSent}
 use Rattle.row_stream.specs.Stream.{sent_in}
 
--- the first message of a stream says a schema
-abbrev pub SaysSchema : Schema → Sent → Type 0
-SaysSchema schema sent =
-    news_of None sent ≡ Ok (record { state = Some (record { schema = schema; dictionaries = [] }); batch = None })
+-- the first message of a stream says a schema, and has no body
+pub record SaysSchema (schema : Schema) (sent : Sent) : Type 0 where
+  pub alone : sent.body ≡ []
+  pub said : news_of None sent
+      ≡ Ok (record { state = Some (record { schema = schema; dictionaries = [] }); batch = None })
 
 -- a message of which this is told was sent in its frame
 pub record FrameSent (Tells : Sent → Type 0) (old new : Option (List ℕ)) (before after : List ℕ) : Type 0 where

@@ -1,4 +1,4 @@
-use Rattle.std.proofs.Common.{◌+◌, [], take, drop, Err, sym, subst, rules, ◌∙◌, append_assoc, take_all, arith}
+use Rattle.std.proofs.Common.{◌+◌, [], ◌++◌, take, drop, Err, sym, subst, rules, ◌∙◌, append_assoc, take_all, arith}
 use Rattle.std.specs.List.{flat_map}
 use Rattle.std.proofs.lemmas.Result.{err_from_is_err_and}
 use Rattle.arrow_schema.specs.declared.schema.Schema.{Schema}
@@ -9,7 +9,8 @@ use Rattle.ipc_batch.specs.Said.{Rows}
 use Rattle.row_stream.proofs.Causes.{counts, by_transport, causes_by_transport, cause_of_none, cause_of_one}
 use Rattle.row_stream.proofs.Messages.{columns_many}
 use Rattle.row_stream.proofs.Parts.{items_more, items_split}
-use Rattle.row_stream.proofs.SoFar.{SoFar, Stopped, begun, not_begun, went_on, stopped, not_ended, flushed_whole}
+use Rattle.row_stream.specs.inside.Cuts.{SoFar, Stopped}
+use Rattle.row_stream.proofs.SoFar.{begun, not_begun, stopped_before, not_ended, flushed_whole}
 use Rattle.row_stream.proofs.writing.write_stream.Goals as goal
 
 pub returns-in_err-send_schema-clause-bytes : goal.returns-in_err-send_schema-clause-bytes
@@ -19,7 +20,7 @@ returns-in_err-send_schema-clause-bytes g c =
     let a = g.W.Output.contents c.args.output.now in
     let b = g.W.Output.contents c.send_schema.new.writer in
     let stopped = not_begun c.in_ok-answer.answer rows a b c.new-outbox.result c.send_schema.new.outbox c.in_err-send_schema.field-0.0 c.new-outbox.ensures c.in_err-send_schema.ensures.bytes in
-    rw p.1 (subst (λ (schema : Schema). Stopped schema rows a b) c.in_ok-answer.ensures.answer stopped)
+    rw p.1 (subst (λ (schema : Schema). Stopped schema rows a b) c.in_ok-answer.ensures.plain stopped)
 
 pub returns-in_err-send_schema-clause-cause : goal.returns-in_err-send_schema-clause-cause
 returns-in_err-send_schema-clause-cause g c =
@@ -32,7 +33,7 @@ loop-batch-init g c =
     let b = g.W.Output.contents c.send_schema.new.writer in
     let so = begun c.in_ok-answer.answer a b c.new-outbox.result c.send_schema.new.outbox c.new-outbox.ensures c.in_ok-send_schema.ensures.bytes in
     record {
-      so = subst (λ (schema : Schema). SoFar schema [] a b c.send_schema.new.outbox) c.in_ok-answer.ensures.answer so;
+      so = subst (λ (schema : Schema). SoFar schema [] a b c.send_schema.new.outbox) c.in_ok-answer.ensures.plain so;
       count = c.in_ok-send_schema.ensures.counted;
     }
 
@@ -52,9 +53,8 @@ loop-batch-preserved g c =
     let schema = c.args.schema.now in
     let typed = subst (λ (b : BatchAt). AreOfTypes schema.fields b.columns) (sym c.batch-item.is) (c.requires.typed i batch c.loop-batch-test.true) in
     let a = g.W.Output.contents c.args.output.now in
-    let b = g.W.Output.contents c.loop-batch.output in
     let d = g.W.Output.contents c.send_batch.new.writer in
-    let so = went_on schema (flat_map rows_of (take i batches)) batch a b d c.loop-batch.outbox c.send_batch.new.outbox c.loop-batch.invariant.so typed c.in_ok-send_batch.ensures.bytes in
+    let so = c.in_ok-send_batch.ensures.bytes schema (flat_map rows_of (take i batches)) a typed c.loop-batch.invariant.so in
     record {
       so = subst (λ (rows : Rows). SoFar (plain_schema schema) rows a d c.send_batch.new.outbox) (sym (items_more rows_of batches i batch c.loop-batch-test.true c.batch-item.is)) so;
       count = c.in_ok-send_batch.ensures.counted ∙ c.loop-batch.invariant.count;
@@ -69,12 +69,11 @@ returns-in_err-send_batch-clause-bytes g c =
     let schema = c.args.schema.now in
     let typed = subst (λ (b : BatchAt). AreOfTypes schema.fields b.columns) (sym c.batch-item.is) (c.requires.typed i batch c.loop-batch-test.true) in
     let a = g.W.Output.contents c.args.output.now in
-    let b = g.W.Output.contents c.loop-batch.output in
     let d = g.W.Output.contents c.send_batch.new.writer in
     let some = flat_map rows_of (take i batches) in
     let others = flat_map rows_of (drop (i + 1) batches) in
     let splits = items_split rows_of batches i batch c.loop-batch-test.true c.batch-item.is ∙ sym (append_assoc some (rows_of batch) others) in
-    rw p.1 (stopped schema (flat_map rows_of batches) some others batch a b d c.loop-batch.outbox c.send_batch.new.outbox c.in_err-send_batch.field-0.0 splits c.loop-batch.invariant.so typed c.in_err-send_batch.ensures.bytes)
+    rw p.1 (stopped_before (plain_schema schema) (flat_map rows_of batches) (some ++ rows_of batch) others a d splits (c.in_err-send_batch.ensures.bytes schema some a typed c.loop-batch.invariant.so))
 
 pub returns-in_err-send_batch-clause-counted : goal.returns-in_err-send_batch-clause-counted
 returns-in_err-send_batch-clause-counted g c =

@@ -2,7 +2,7 @@ use Rattle.std.proofs.Common.{◌≡◌, take}
 use Rattle.std.specs.List.{flat_map}
 use Rattle.arrow_schema.specs.Answer.{plain_schema}
 use Rattle.arrays.specs.Batch.{rows_of}
-use Rattle.row_stream.proofs.SoFar.{SoFar}
+use Rattle.row_stream.specs.inside.Cuts.{SoFar}
 use Rattle.row_stream.proofs.writing.write_stream.Given as goal
 
 abbrev pub invariant-loop-batch : goal.invariant-loop-batch
