@@ -1,8 +1,10 @@
 pub mod Places
 pub mod Adding
 pub mod Tables
+pub mod Indexed
 pub mod Slots
 pub mod IndicesMade
+pub mod Marks
 pub mod Parts
 pub mod Answered
 pub mod AnsweredSoFar

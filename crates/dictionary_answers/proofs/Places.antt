@@ -13,8 +13,8 @@ use Rattle.scan_base.specs.declared.value.Value.{Value}
 use Rattle.scan_base.specs.declared.value.Value.TheVariants.{Null, Bool as Flag, Int, Text}
 use Rattle.arrays.specs.Written.{text_bytes}
 use Rattle.dictionary_answers.specs.Firsts.{text_in, with_text, firsts, firsts_behind, bytes_in, Leads, AreLed}
-use Rattle.dictionary_answers.specs.Coded.{CodedAt, AreCoded}
-use Rattle.dictionary_answers.specs.inside.Coding.{Adds}
+use Rattle.dictionary_answers.specs.Coded.{AreCoded, held}
+use Rattle.dictionary_answers.specs.inside.Coding.{FoundAt, Finds, coded_at}
 
 pub any_map : {A : Type 0} (f : A → List ℕ) (p : List ℕ → Bool) (xs : List A) → list_any p (map f xs) ≡ list_any (λ x. p (f x)) xs
 any_map f p [] = refl
@@ -101,13 +101,20 @@ led_behind texts Null places values led = led
 led_behind texts (Flag flag) places values led = led
 led_behind texts (Int number) places values led = led
 
+pub leads_behind : (texts : List (List ℕ)) (value : Value) (place : Option ℕ) (other : Value) → Leads texts place other → Leads (firsts_behind texts (value ∷ [])) place other
+leads_behind texts (Text bytes) place other leads = leads_with texts bytes place other leads
+leads_behind texts Null place other leads = leads
+leads_behind texts (Flag flag) place other leads = leads
+leads_behind texts (Int number) place other leads = leads
+
 -- a slot more is coded
-pub coded_more : (values : List Value) (room : ℕ) (old new : CodedAt) (value : Value) → AreCoded values room old → Adds old new value → AreCoded (values ++ value ∷ []) room new
-coded_more values room old new value are adds = record {
-  texts = adds.texts ∙ ap (λ (t : List (List ℕ)). firsts_behind t (value ∷ [])) are.texts ∙ sym (firsts_more values value);
-  places = rw adds.places
-      (AllZip-push (Leads new.texts) old.places values adds.place value (rw adds.texts (led_behind old.texts value old.places values are.places)) adds.leads);
-  bytes = adds.bytes ∙ are.bytes;
+pub coded_more : (values : List Value) (room : ℕ) (old new : FoundAt) (places : List ℕ) (place : ℕ) (value : Value) → AreCoded values room (coded_at old places) → Finds old new place value →
+    AreCoded (values ++ value ∷ []) room (coded_at new (places ++ place ∷ []))
+coded_more values room old new places place value are finds = record {
+  texts = finds.texts ∙ ap (λ (t : List (List ℕ)). firsts_behind t (value ∷ [])) are.texts ∙ sym (firsts_more values value);
+  places = rw (map-append held places (place ∷ []))
+      (AllZip-push (Leads new.texts) (map held places) values (held place) value (rw finds.texts (led_behind old.texts value (map held places) values are.places)) finds.leads);
+  bytes = finds.bytes ∙ are.bytes;
 }
 
 -- more texts have the bytes of both
@@ -128,7 +135,7 @@ bytes_with texts text = by (list_any (bytes_eq text) texts) refl
     by true e = rw e (omega arith)
     by false e = rw e (omega (arith, bytes_more texts (text ∷ [])))
 
-few_with : (texts : List (List ℕ)) (text : List ℕ) → length (with_text texts text) ≤ length texts + 1
+pub few_with : (texts : List (List ℕ)) (text : List ℕ) → length (with_text texts text) ≤ length texts + 1
 few_with texts text = by (list_any (bytes_eq text) texts) refl
   where
     by : (t : Bool) → list_any (bytes_eq text) texts ≡ t → length (with_text texts text) ≤ length texts + 1

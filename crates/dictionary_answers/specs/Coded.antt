@@ -1,7 +1,15 @@
 -- A column of texts that is coded.
-use Rattle.std.specs.Prelude.{◌≡◌, ℕ, ◌+◌, List, Option}
+use Rattle.std.specs.Prelude.{◌≡◌, ℕ, ◌+◌, List, Option, None, Some, nat_eq, if◌then◌else◌}
 use Rattle.scan_base.specs.declared.value.Value.{Value}
 use Rattle.dictionary_answers.specs.Firsts.{firsts, bytes_in, AreLed}
+
+-- what stands in the list of places for a slot that has none
+abbrev pub no_place : ℕ
+no_place = 4294967295
+
+-- the place that a number in that list is
+abbrev pub held : ℕ → Option ℕ
+held number = if nat_eq number no_place then None else Some number
 
 -- texts, which of them each slot holds, and how many bytes more texts may have
 pub record CodedAt : Type 0 where

@@ -9,7 +9,7 @@ ghost use Rattle.dictionary_answers.specs.declared.coding.Stop.TheVariants.{OutO
 ghost use Rattle.dictionary_answers.specs.Answer.{AreAnswered, AreCodable, IsAnswered, IsCodable};
 ghost use Rattle.dictionary_answers.specs.Answer.{coded_bytes, column_bytes, column_dictionary, dictionaries_of, dictionary_seen};
 
-use crate::built::column_of_indices;
+use crate::built::{column_over, column_validity};
 use crate::coding::Stop;
 use crate::columns::code_column;
 use arrays::{Batch, Cells, Column, Texts};
@@ -137,7 +137,9 @@ fn answer_column(
     match data_type {
         DataType::Dictionary(_) => {
             let coded = code_column(alloc, seed, column, room)?;
-            let (made, texts) = column_of_indices(alloc, coded.places(), coded.texts())?;
+            let places = coded.places();
+            let validity = column_validity(alloc, column, places)?;
+            let (made, texts) = column_over(alloc, validity, places, coded.texts())?;
             Ok((made, Some(texts), coded.left()))
         }
         _ => Ok((column.slice(0, column.len())?, None, room)),

@@ -1,6 +1,8 @@
 //! Columns of indices that are built of places among texts.
 
-ghost use Rattle.std.specs.Prelude.{◌≡◌, ◌≤◌, ◌<◌, ◌^◌, List, IfOk, length, map};
+ghost use Rattle.std.specs.Prelude.{◌≡◌, ◌≤◌, ◌<◌, ◌^◌, ℕ, List, IfOk, length, map};
+ghost use Rattle.std.specs.List.{flat_map};
+ghost use Rattle.byteorder.specs.Endian.{little_bytes};
 ghost use Rattle.arrow_schema.specs.declared.data_type.IntegerType.TheVariants.{Int32};
 ghost use Rattle.scan_base.specs.Limits.{most_values};
 ghost use Rattle.scan_base.specs.declared.value.Value.{Value};
@@ -10,68 +12,137 @@ ghost use Rattle.arrays.specs.Texts.{texts_values};
 ghost use Rattle.arrays.specs.Written.{offsets_from, texts_joined};
 ghost use Rattle.dictionary_answers.specs.Firsts.{bytes_in, AreLed};
 ghost use Rattle.dictionary_answers.specs.Answer.{LiesOver};
-ghost use Rattle.dictionary_answers.specs.inside.Packed.{packed_places, AreValidWhereSome};
+ghost use Rattle.dictionary_answers.specs.Coded.{held};
+ghost use Rattle.dictionary_answers.specs.inside.Packed.{packed_places, shown, AreValidWhereSome};
 
-use arrays::{Column, Dictionary, Slots, Texts, Values};
+use crate::coding::NO_PLACE;
+use arrays::{Cells, Column, Dictionary, Nulls, Slots, Texts, Values};
 use arrow_schema::IntegerType;
 use bitmap::{Bits, BitsBuilder};
+use byteorder::{ByteOrder, LittleEndian};
 use bytes::Bytes;
 use std::alloc::{AllocError, Global};
 use std::sync::Arc;
 
 /// A column of indices of 32 bits into a dictionary of these texts, and the one part in which they stand there. Each slot has
-/// the index that is its place, and is null where it has none.
+/// the index that is its place, and is null where `NO_PLACE` stands in its stead.
 ///
 /// # Errors
 ///
 /// `AllocError` where memory is refused.
 pub fn column_of_indices(
     alloc: Global,
-    places: &[Option<u32>],
+    places: &[u32],
     texts: &[&str],
 ) -> Result<(Column, Texts), AllocError>
-    requires led { (values : List Value) × AreLed (map (λ text. text.now) texts.now) places.now values }
+    requires led { (values : List Value) × AreLed (map (λ text. text.now) texts.now) (map held places.now) values }
     requires few { length texts.now ≤ most_values }
     requires short { bytes_in (map (λ text. text.now) texts.now) < 2 ^ 31 }
-    ensures values { IfOk result (λ made. AreLed (map (λ text. text.now) texts.now) places.now (values_of made.0)) }
+    ensures values { IfOk result (λ made. AreLed (map (λ text. text.now) texts.now) (map held places.now) (values_of made.0)) }
+    ensures over { IfOk result (λ made. LiesOver (map (λ text. text.now) texts.now) made.0) }
+    ensures long { IfOk result (λ made. made.0.len ≡ length places.now) }
+    ensures part { IfOk result (λ made. texts_values made.1 ≡ map Text (map (λ text. text.now) texts.now)) }
+{
+    let validity = places_validity(alloc, places)?;
+    column_over(alloc, validity, places, texts)
+}
+
+/// The same, where the validity bits are made already.
+pub(crate) fn column_over(
+    alloc: Global,
+    validity: Option<Bits>,
+    places: &[u32],
+    texts: &[&str],
+) -> Result<(Column, Texts), AllocError>
+    requires valid { AreValidWhereSome validity (map held places.now) }
+    requires led { (values : List Value) × AreLed (map (λ text. text.now) texts.now) (map held places.now) values }
+    requires few { length texts.now ≤ most_values }
+    requires short { bytes_in (map (λ text. text.now) texts.now) < 2 ^ 31 }
+    ensures values { IfOk result (λ made. AreLed (map (λ text. text.now) texts.now) (map held places.now) (values_of made.0)) }
     ensures over { IfOk result (λ made. LiesOver (map (λ text. text.now) texts.now) made.0) }
     ensures long { IfOk result (λ made. made.0.len ≡ length places.now) }
     ensures part { IfOk result (λ made. texts_values made.1 ≡ map Text (map (λ text. text.now) texts.now)) }
 {
     let part = part_of(alloc, texts)?;
     let dictionary = dictionary_of(alloc, part.share()?)?;
-    let validity = places_validity(alloc, places)?;
-    let packed = Bytes::from_vec(pack_places(alloc, places)?)?;
+    let packed = Bytes::from_vec(pack_places(alloc, &validity, places)?)?;
     let _values = dictionary.len();
     let indices = Values::Indices(IntegerType::Int32, packed, Arc::new(alloc, dictionary)?);
     let column = Column::new(Slots::from_parts(validity, places.len(), indices));
     Ok((column, part))
 }
 
-// The validity bits of slots that are null where they have no place, and none where each has one.
-fn places_validity(alloc: Global, places: &[Option<u32>]) -> Result<Option<Bits>, AllocError>
-    ensures { IfOk result (λ validity. AreValidWhereSome validity places.now) }
+/// The validity bits of slots that lie at places of a column's values: the column's own, where these tell each null.
+///
+/// # Errors
+///
+/// `AllocError` where memory is refused.
+pub(crate) fn column_validity(
+    alloc: Global,
+    column: &Column,
+    places: &[u32],
+) -> Result<Option<Bits>, AllocError>
+    requires led { (texts : List (List ℕ)) × AreLed texts (map held places.now) (values_of column.now) }
+    ensures { IfOk result (λ validity. AreValidWhereSome validity (map held places.now)) }
 {
-    let mut bits = BitsBuilder::with_capacity(alloc, places.len())?;
-    let mut nulls = false;
-    for place in places {
-        nulls = nulls || place.is_none();
-        bits.push(place.is_some())?;
-    }
-    if !nulls {
+    if column.null_count() == 0 {
         return Ok(None);
+    }
+    let (first, len) = (column.first(), column.len());
+    match column.slots().nulls() {
+        Nulls::AtZeros(bits) => Ok(Some(bits.slice(first, first + len)?)),
+        _ => places_validity(alloc, places),
+    }
+}
+
+// The validity bits of slots that are null where they have no place, and none where each has one.
+fn places_validity(alloc: Global, places: &[u32]) -> Result<Option<Bits>, AllocError>
+    ensures { IfOk result (λ validity. AreValidWhereSome validity (map held places.now)) }
+{
+    if !places.contains(&NO_PLACE) {
+        return Ok(None);
+    }
+    let mut bits = BitsBuilder::with_capacity(alloc, places.len())?;
+    for place in places {
+        bits.push(*place != NO_PLACE)?;
     }
     Ok(Some(bits.into_bits()?))
 }
 
 // The places, four bytes each, and 0 where there is none.
-fn pack_places(alloc: Global, places: &[Option<u32>]) -> Result<Vec<u8>, AllocError>
-    ensures { IfOk result (λ packed. packed.items ≡ packed_places places.now) }
+fn pack_places(
+    alloc: Global,
+    validity: &Option<Bits>,
+    places: &[u32],
+) -> Result<Vec<u8>, AllocError>
+    requires { AreValidWhereSome validity.now (map held places.now) }
+    ensures { IfOk result (λ packed. packed.items ≡ packed_places (map held places.now)) }
 {
-    let mut packed = Vec::with_capacity(alloc, places.len().saturating_mul(4))?;
-    for place in places {
-        packed.extend_from_slice(&place.unwrap_or(0).to_le_bytes())?;
+    match validity {
+        None => pack_numbers(alloc, places),
+        Some(_) => pack_numbers(alloc, without_marks(alloc, places)?.as_slice()),
     }
+}
+
+// The places, and 0 where there is none.
+fn without_marks(alloc: Global, places: &[u32]) -> Result<Vec<u32>, AllocError>
+    ensures { IfOk result (λ made. made.items ≡ map shown places.now) }
+{
+    places
+        .iter()
+        .map(|place| if *place == NO_PLACE { 0 } else { *place })
+        .collect(alloc)
+}
+
+// Numbers, four bytes each, the lowest first.
+fn pack_numbers(alloc: Global, numbers: &[u32]) -> Result<Vec<u8>, AllocError>
+    ensures { IfOk result (λ packed. packed.items ≡ flat_map (little_bytes 4) numbers.now) }
+{
+    let Some(room) = numbers.len().checked_mul(4) else {
+        return Err(AllocError);
+    };
+    let mut packed = vec![in alloc; 0; room]?;
+    LittleEndian::write_u32_into(numbers, &mut packed);
     Ok(packed)
 }
 

@@ -1,16 +1,26 @@
 //! Coding columns slot by slot.
 
-ghost use Rattle.std.specs.Prelude.{◌≡◌, ◌<◌, ◌^◌, [], All, IfErr, IfOk, OnOk};
+ghost use Rattle.std.specs.Prelude.{◌≡◌, ◌<◌, ◌+◌, ◌^◌, ◌∷◌, [], All, IfErr, IfOk, OnOk, length, nat_eq};
+ghost use Rattle.indexmap.specs.IndexMap.{get};
 ghost use Rattle.scan_base.specs.Value.{IsTextOrNull};
 ghost use Rattle.arrays.specs.Column.{values_of};
+ghost use Rattle.arrays.specs.Layout.{layout_slot};
+ghost use Rattle.arrays.specs.Nulls.{null_count};
+ghost use Rattle.arrays.specs.Number.{byte_width};
 ghost use Rattle.arrays.specs.declared.layout.Layout.TheVariants as layout;
 ghost use Rattle.dictionary_answers.specs.declared.coding.Stop.TheVariants.{OutOfRoom};
-ghost use Rattle.dictionary_answers.specs.Firsts.{bytes_in, firsts};
+ghost use Rattle.dictionary_answers.specs.Firsts.{bytes_in, firsts, firsts_behind};
 ghost use Rattle.dictionary_answers.specs.Coded.{AreCoded};
+ghost use Rattle.dictionary_answers.specs.inside.Coding.{coded_at, Finds};
+ghost use Rattle.dictionary_answers.specs.inside.Table.{AreMet, IsTable};
 
-use crate::coding::{Coded, NOT_MET, Stop};
+use crate::coding::{Coded, NO_PLACE, Stop};
+use crate::found::Found;
+use crate::indices::{IndexColumn, IndexElement, is_valid, valid_index};
 use arrays::{Cells, Column, Indices, Layout};
+use arrow_schema::IntegerType;
 use hash_seed::HashSeed;
+use indexmap::IndexMap;
 use std::alloc::Global;
 
 // For each slot of a column, its dictionary may have so many values for a table of them to be made: so what a table takes
@@ -18,8 +28,7 @@ use std::alloc::Global;
 const VALUES_FOR_EACH_SLOT: usize = 16;
 
 /// The texts of a column, each once, and which of them each slot holds. No text is copied. Where slots are indices, one
-/// text is looked up for each index that is met; but each slot's text, where the dictionary has far more values than the
-/// column has slots.
+/// text is looked up for each index that is met.
 ///
 /// # Errors
 ///
@@ -36,24 +45,78 @@ pub fn code_column<'t>(
     ensures coded { IfOk result (AreCoded (values_of column.now) room) }
     ensures full { IfErr result (λ stop. stop ≡ OutOfRoom → room < bytes_in (firsts (values_of column.now))) }
 {
-    let mut coded = Coded::new(alloc, seed, column.len(), room)?;
-    code_slots(alloc, &mut coded, column)?;
-    Ok(coded)
+    let mut found = Found::new(alloc, seed, room);
+    let mut places = vec![in alloc; NO_PLACE; column.len()]?;
+    code_slots(alloc, seed, &mut found, column, &mut places)?;
+    Ok(Coded::new(found, places))
 }
 
 // Codes each slot.
-fn code_slots<'t>(alloc: Global, coded: &mut Coded<'t>, column: &'t Column) -> Result<(), Stop>
+fn code_slots<'t>(
+    alloc: Global,
+    seed: HashSeed,
+    found: &mut Found<'t>,
+    column: &'t Column,
+    places: &mut [u32],
+) -> Result<(), Stop>
     requires small { column.now.len < 2 ^ 31 }
     requires texts { All IsTextOrNull (values_of column.now) }
-    requires none { AreCoded [] (coded.old).left coded.old }
-    ensures coded { OnOk result (AreCoded (values_of column.now) (coded.old).left coded.new) }
-    ensures full { IfErr result (λ stop. stop ≡ OutOfRoom → (coded.old).left < bytes_in (firsts (values_of column.now))) }
+    requires long { length places.old ≡ column.now.len }
+    requires none { AreCoded [] (found.old).left (coded_at found.old []) }
+    ensures coded { OnOk result (AreCoded (values_of column.now) (found.old).left (coded_at found.new places.new)) }
+    ensures full { IfErr result (λ stop. stop ≡ OutOfRoom → (found.old).left < bytes_in (firsts (values_of column.now))) }
 {
     match column.layout() {
-        Layout::Indices(cells) if is_worth_a_table(&cells, column.len()) => {
-            code_indices(alloc, coded, column, &cells)
+        Layout::Indices(cells) => {
+            let of = IndexColumn { column, cells };
+            code_indices(alloc, seed, found, &of, places)
         }
-        _ => code_values(coded, column),
+        _ => code_values(found, column, places),
+    }
+}
+
+// Codes each slot by its value.
+fn code_values<'t>(
+    found: &mut Found<'t>,
+    column: &'t Column,
+    places: &mut [u32],
+) -> Result<(), Stop>
+    requires small { column.now.len < 2 ^ 31 }
+    requires texts { All IsTextOrNull (values_of column.now) }
+    requires long { length places.old ≡ column.now.len }
+    requires none { AreCoded [] (found.old).left (coded_at found.old []) }
+    ensures coded { OnOk result (AreCoded (values_of column.now) (found.old).left (coded_at found.new places.new)) }
+    ensures full { IfErr result (λ stop. stop ≡ OutOfRoom → (found.old).left < bytes_in (firsts (values_of column.now))) }
+{
+    let _count = column.len();
+    for place in 0..places.len() {
+        places[place] = found.place_of_value(column.value_at(place))?;
+    }
+    Ok(())
+}
+
+// Codes each slot by its index: with a table of the dictionary's values, or with a map of the indices that are met, where
+// the dictionary has too many.
+fn code_indices<'t>(
+    alloc: Global,
+    seed: HashSeed,
+    found: &mut Found<'t>,
+    of: &IndexColumn<'t>,
+    places: &mut [u32],
+) -> Result<(), Stop>
+    requires small { (of.now).column.now.len < 2 ^ 31 }
+    requires cells { (of.now).column.now.layout ≡ layout.Indices (of.now).cells }
+    requires long { length places.old ≡ (of.now).column.now.len }
+    requires none { AreCoded [] (found.old).left (coded_at found.old []) }
+    ensures coded { OnOk result (AreCoded (values_of (of.now).column.now) (found.old).left (coded_at found.new places.new)) }
+    ensures full { IfErr result (λ stop. stop ≡ OutOfRoom → (found.old).left < bytes_in (firsts (values_of (of.now).column.now))) }
+{
+    if is_worth_a_table(&of.cells, places.len()) {
+        let mut table = vec![in alloc; NO_PLACE; of.cells.dictionary().len()]?;
+        code_near(found, &mut table, of, places)
+    } else {
+        let mut met = IndexMap::with_hasher(alloc, seed);
+        code_far(found, &mut met, of, places)
     }
 }
 
@@ -62,36 +125,164 @@ fn is_worth_a_table(cells: &Indices<'_>, slots: usize) -> bool {
     cells.dictionary().len() / VALUES_FOR_EACH_SLOT <= slots
 }
 
-// Codes each slot by its value.
-fn code_values<'t>(coded: &mut Coded<'t>, column: &'t Column) -> Result<(), Stop>
-    requires small { column.now.len < 2 ^ 31 }
-    requires texts { All IsTextOrNull (values_of column.now) }
-    requires none { AreCoded [] (coded.old).left coded.old }
-    ensures coded { OnOk result (AreCoded (values_of column.now) (coded.old).left coded.new) }
-    ensures full { IfErr result (λ stop. stop ≡ OutOfRoom → (coded.old).left < bytes_in (firsts (values_of column.now))) }
+// Codes each slot with a map of the indices that are met.
+fn code_far<'t>(
+    found: &mut Found<'t>,
+    met: &mut IndexMap<usize, u32, HashSeed>,
+    of: &IndexColumn<'t>,
+    places: &mut [u32],
+) -> Result<(), Stop>
+    requires small { (of.now).column.now.len < 2 ^ 31 }
+    requires cells { (of.now).column.now.layout ≡ layout.Indices (of.now).cells }
+    requires long { length places.old ≡ (of.now).column.now.len }
+    requires none { AreCoded [] (found.old).left (coded_at found.old []) }
+    requires met { AreMet (of.now).cells.dictionary (found.old).texts (get nat_eq met.old) }
+    ensures coded { OnOk result (AreCoded (values_of (of.now).column.now) (found.old).left (coded_at found.new places.new)) }
+    ensures full { IfErr result (λ stop. stop ≡ OutOfRoom → (found.old).left < bytes_in (firsts (values_of (of.now).column.now))) }
 {
-    for place in 0..column.len() {
-        coded.push(column.value_at(place))?;
+    let (first, _count) = (of.column.first(), of.column.len());
+    for place in 0..places.len() {
+        places[place] = far_place(found, met, &of.cells, first + place)?;
     }
     Ok(())
 }
 
-// Codes each slot by its index, with a table of those that are met.
-fn code_indices<'t>(
-    alloc: Global,
-    coded: &mut Coded<'t>,
-    column: &'t Column,
+// The place of a slot.
+fn far_place<'t>(
+    found: &mut Found<'t>,
+    met: &mut IndexMap<usize, u32, HashSeed>,
     cells: &Indices<'t>,
-) -> Result<(), Stop>
-    requires small { column.now.len < 2 ^ 31 }
-    requires cells { column.now.layout ≡ layout.Indices cells.now }
-    requires none { AreCoded [] (coded.old).left coded.old }
-    ensures coded { OnOk result (AreCoded (values_of column.now) (coded.old).left coded.new) }
-    ensures full { IfErr result (λ stop. stop ≡ OutOfRoom → (coded.old).left < bytes_in (firsts (values_of column.now))) }
+    slot: usize,
+) -> Result<u32, Stop>
+    requires few { length (found.old).texts < 2 ^ 31 }
+    requires met { AreMet (cells.now).dictionary (found.old).texts (get nat_eq met.old) }
+    requires within { slot < (cells.now).len }
+    ensures found { IfOk result (λ place. Finds found.old found.new place (layout_slot (layout.Indices cells.now) slot)) }
+    ensures met { OnOk result (AreMet (cells.now).dictionary (found.new).texts (get nat_eq met.new)) }
+    ensures full { IfErr result (λ stop. stop ≡ OutOfRoom →
+        bytes_in (found.old).texts + (found.old).left < bytes_in (firsts_behind (found.old).texts (layout_slot (layout.Indices cells.now) slot ∷ []))) }
 {
-    let mut table = vec![in alloc; NOT_MET; cells.dictionary().len()]?;
-    for place in 0..column.len() {
-        coded.push_slot(&mut table, cells, column.first() + place)?;
+    match valid_index(cells, slot) {
+        Some(index) => found.place_of_far_index(met, cells.dictionary(), index),
+        None => Ok(NO_PLACE),
+    }
+}
+
+// Codes each slot with a table, by the type of the indices.
+fn code_near<'t>(
+    found: &mut Found<'t>,
+    table: &mut [u32],
+    of: &IndexColumn<'t>,
+    places: &mut [u32],
+) -> Result<(), Stop>
+    requires small { (of.now).column.now.len < 2 ^ 31 }
+    requires cells { (of.now).column.now.layout ≡ layout.Indices (of.now).cells }
+    requires long { length places.old ≡ (of.now).column.now.len }
+    requires none { AreCoded [] (found.old).left (coded_at found.old []) }
+    requires table { IsTable (of.now).cells.dictionary (found.old).texts table.old }
+    ensures coded { OnOk result (AreCoded (values_of (of.now).column.now) (found.old).left (coded_at found.new places.new)) }
+    ensures full { IfErr result (λ stop. stop ≡ OutOfRoom → (found.old).left < bytes_in (firsts (values_of (of.now).column.now))) }
+{
+    match of.cells.index_type() {
+        IntegerType::Int8 | IntegerType::UInt8 => code_elements::<u8>(found, table, of, places),
+        IntegerType::Int16 | IntegerType::UInt16 => code_elements::<u16>(found, table, of, places),
+        IntegerType::Int32 | IntegerType::UInt32 => code_elements::<u32>(found, table, of, places),
+        IntegerType::Int64 | IntegerType::UInt64 => code_elements::<u64>(found, table, of, places),
+    }
+}
+
+// Codes each slot of indices of a type. Where no slot is null, validity bits are not looked at.
+fn code_elements<'t, E: IndexElement>(
+    found: &mut Found<'t>,
+    table: &mut [u32],
+    of: &IndexColumn<'t>,
+    places: &mut [u32],
+) -> Result<(), Stop>
+    requires small { (of.now).column.now.len < 2 ^ 31 }
+    requires cells { (of.now).column.now.layout ≡ layout.Indices (of.now).cells }
+    requires width { byte_width (of.now).cells.index ≡ E.WIDTH }
+    requires long { length places.old ≡ (of.now).column.now.len }
+    requires none { AreCoded [] (found.old).left (coded_at found.old []) }
+    requires table { IsTable (of.now).cells.dictionary (found.old).texts table.old }
+    ensures coded { OnOk result (AreCoded (values_of (of.now).column.now) (found.old).left (coded_at found.new places.new)) }
+    ensures full { IfErr result (λ stop. stop ≡ OutOfRoom → (found.old).left < bytes_in (firsts (values_of (of.now).column.now))) }
+{
+    if of.column.null_count() == 0 {
+        code_valid::<E>(found, table, of, places)
+    } else {
+        code_some::<E>(found, table, of, places)
+    }
+}
+
+// Codes each slot, none of which is null.
+fn code_valid<'t, E: IndexElement>(
+    found: &mut Found<'t>,
+    table: &mut [u32],
+    of: &IndexColumn<'t>,
+    places: &mut [u32],
+) -> Result<(), Stop>
+    requires small { (of.now).column.now.len < 2 ^ 31 }
+    requires cells { (of.now).column.now.layout ≡ layout.Indices (of.now).cells }
+    requires width { byte_width (of.now).cells.index ≡ E.WIDTH }
+    requires valid { null_count (of.now).column.now ≡ 0 }
+    requires long { length places.old ≡ (of.now).column.now.len }
+    requires none { AreCoded [] (found.old).left (coded_at found.old []) }
+    requires table { IsTable (of.now).cells.dictionary (found.old).texts table.old }
+    ensures coded { OnOk result (AreCoded (values_of (of.now).column.now) (found.old).left (coded_at found.new places.new)) }
+    ensures full { IfErr result (λ stop. stop ≡ OutOfRoom → (found.old).left < bytes_in (firsts (values_of (of.now).column.now))) }
+{
+    let (first, _count, _slots) = (of.column.first(), of.column.len(), of.cells.len());
+    let (values, dictionary) = (of.cells.values(), of.cells.dictionary());
+    for place in 0..places.len() {
+        let index = E::index_at(values, first + place);
+        places[place] = found.place_of_index(table, dictionary, index)?;
     }
     Ok(())
+}
+
+// Codes each slot, some of which are null.
+fn code_some<'t, E: IndexElement>(
+    found: &mut Found<'t>,
+    table: &mut [u32],
+    of: &IndexColumn<'t>,
+    places: &mut [u32],
+) -> Result<(), Stop>
+    requires small { (of.now).column.now.len < 2 ^ 31 }
+    requires cells { (of.now).column.now.layout ≡ layout.Indices (of.now).cells }
+    requires width { byte_width (of.now).cells.index ≡ E.WIDTH }
+    requires long { length places.old ≡ (of.now).column.now.len }
+    requires none { AreCoded [] (found.old).left (coded_at found.old []) }
+    requires table { IsTable (of.now).cells.dictionary (found.old).texts table.old }
+    ensures coded { OnOk result (AreCoded (values_of (of.now).column.now) (found.old).left (coded_at found.new places.new)) }
+    ensures full { IfErr result (λ stop. stop ≡ OutOfRoom → (found.old).left < bytes_in (firsts (values_of (of.now).column.now))) }
+{
+    let (first, _count) = (of.column.first(), of.column.len());
+    for place in 0..places.len() {
+        places[place] = near_place::<E>(found, table, &of.cells, first + place)?;
+    }
+    Ok(())
+}
+
+// The place of a slot.
+fn near_place<'t, E: IndexElement>(
+    found: &mut Found<'t>,
+    table: &mut [u32],
+    cells: &Indices<'t>,
+    slot: usize,
+) -> Result<u32, Stop>
+    requires few { length (found.old).texts < 2 ^ 31 }
+    requires width { byte_width (cells.now).index ≡ E.WIDTH }
+    requires table { IsTable (cells.now).dictionary (found.old).texts table.old }
+    requires within { slot < (cells.now).len }
+    ensures found { IfOk result (λ place. Finds found.old found.new place (layout_slot (layout.Indices cells.now) slot)) }
+    ensures table { OnOk result (IsTable (cells.now).dictionary (found.new).texts table.new) }
+    ensures full { IfErr result (λ stop. stop ≡ OutOfRoom →
+        bytes_in (found.old).texts + (found.old).left < bytes_in (firsts_behind (found.old).texts (layout_slot (layout.Indices cells.now) slot ∷ []))) }
+{
+    let _slots = cells.len();
+    if !is_valid(cells, slot) {
+        return Ok(NO_PLACE);
+    }
+    let index = E::index_at(cells.values(), slot);
+    found.place_of_index(table, cells.dictionary(), index)
 }

@@ -1,15 +1,65 @@
 //! The indices of slots.
 
-ghost use Rattle.std.specs.Prelude.{◌≡◌, ◌<◌, None, MatchOption, get_or, length, slice_get};
+ghost use Rattle.std.specs.Prelude.{◌≡◌, ◌≤◌, ◌<◌, ◌+◌, ◌*◌, ℕ, None, MatchOption, get_or, length, slice_get};
 ghost use Rattle.scan_base.specs.declared.value.Value.TheVariants.{Null};
-ghost use Rattle.arrays.specs.Number.{integer_at};
+ghost use Rattle.arrays.specs.Number.{element_at, integer_at};
 ghost use Rattle.arrays.specs.Validity.{is_valid};
 ghost use Rattle.arrays.specs.Indices.{entry_of};
 ghost use Rattle.arrays.specs.Layout.{layout_slot};
 ghost use Rattle.arrays.specs.declared.layout.Layout.TheVariants as layout;
 
-use arrays::{Element, Indices};
+use arrays::{Column, Element, Indices};
 use arrow_schema::IntegerType;
+
+/// A column whose slots are indices, and these slots.
+#[derive(Drop)]
+pub(crate) struct IndexColumn<'t> {
+    pub(crate) column: &'t Column,
+    pub(crate) cells: Indices<'t>,
+}
+
+/// A type of numbers without a sign as which indices are read. A number that is not negative has the same bits in the type
+/// of its width that has a sign.
+pub(crate) trait IndexElement {
+    ghost WIDTH: { ℕ };
+
+    /// Number `slot` of packed ones, counted from 0.
+    fn index_at(values: &[u8], slot: usize) -> usize
+        requires { WIDTH * (slot + 1) ≤ length values.now }
+        ensures { result ≡ element_at WIDTH values.now slot };
+}
+
+impl IndexElement for u8 {
+    ghost WIDTH = { 1 };
+
+    fn index_at(values: &[u8], slot: usize) -> usize {
+        u8::read(values, slot) as usize
+    }
+}
+
+impl IndexElement for u16 {
+    ghost WIDTH = { 2 };
+
+    fn index_at(values: &[u8], slot: usize) -> usize {
+        u16::read(values, slot) as usize
+    }
+}
+
+impl IndexElement for u32 {
+    ghost WIDTH = { 4 };
+
+    fn index_at(values: &[u8], slot: usize) -> usize {
+        u32::read(values, slot) as usize
+    }
+}
+
+impl IndexElement for u64 {
+    ghost WIDTH = { 8 };
+
+    fn index_at(values: &[u8], slot: usize) -> usize {
+        u64::read(values, slot) as usize
+    }
+}
 
 /// The index of a slot that is not null by its validity bit: it is that of a value of the dictionary.
 pub(crate) fn valid_index(cells: &Indices<'_>, slot: usize) -> Option<usize>
@@ -25,8 +75,8 @@ pub(crate) fn valid_index(cells: &Indices<'_>, slot: usize) -> Option<usize>
     }
 }
 
-// Whether the validity bit of a slot says that it is valid.
-fn is_valid(cells: &Indices<'_>, slot: usize) -> bool
+/// Whether the validity bit of a slot says that it is valid.
+pub(crate) fn is_valid(cells: &Indices<'_>, slot: usize) -> bool
     requires { slot < (cells.now).len }
     ensures { result ≡ is_valid (cells.now).validity slot }
 {
@@ -36,7 +86,6 @@ fn is_valid(cells: &Indices<'_>, slot: usize) -> bool
         None => true,
     }
 }
-
 // The index of a slot, where it is that of a value of the dictionary; as may not be where the slot is null.
 fn index_at(cells: &Indices<'_>, slot: usize) -> Option<usize>
     requires { slot < (cells.now).len }

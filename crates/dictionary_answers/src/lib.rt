@@ -5,9 +5,10 @@ pub mod batches;
 pub mod built;
 pub mod coding;
 pub mod columns;
+mod found;
 mod indices;
 
 pub use crate::batches::{CodedBatch, ColumnDictionary, code_batch};
 pub use crate::built::column_of_indices;
-pub use crate::coding::{Coded, Stop};
+pub use crate::coding::{Coded, NO_PLACE, Stop};
 pub use crate::columns::code_column;

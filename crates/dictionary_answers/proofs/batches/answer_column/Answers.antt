@@ -8,11 +8,14 @@ use Rattle.dictionary_answers.proofs.Slots.{few_texts}
 use Rattle.dictionary_answers.proofs.IndicesMade.{led_same}
 use Rattle.dictionary_answers.proofs.batches.answer_column.Goals as goal
 
-pub column_of_indices-requires-clause-led : goal.column_of_indices-requires-clause-led
-column_of_indices-requires-clause-led c = (values_of c.args.column.now, rw (c.texts.ensures, c.places.ensures) c.in_ok-coded-in-Dictionary.ensures.coded.places)
+pub column_validity-requires : goal.column_validity-requires
+column_validity-requires c = record { led = (c.in_ok-coded-in-Dictionary.coded.texts, rw c.places-places.ensures c.in_ok-coded-in-Dictionary.ensures.coded.places) }
 
-pub column_of_indices-requires-clause-few : goal.column_of_indices-requires-clause-few
-column_of_indices-requires-clause-few c =
+pub column_over-requires-clause-led : goal.column_over-requires-clause-led
+column_over-requires-clause-led c = (values_of c.args.column.now, rw (c.texts.ensures, c.places-places.ensures) c.in_ok-coded-in-Dictionary.ensures.coded.places)
+
+pub column_over-requires-clause-few : goal.column_over-requires-clause-few
+column_over-requires-clause-few c =
     omega (
       arith,
       few_texts (slot_of c.args.column.now) c.args.column.now.len c.args.room c.in_ok-coded-in-Dictionary.coded c.in_ok-coded-in-Dictionary.ensures.coded,
@@ -27,7 +30,7 @@ returns-in_ok-made-in-Dictionary-clause-column c =
     let made = c.in_ok-made-in-Dictionary.made in
     rw c.in-Dictionary.is (
       led_same c.in_ok-coded-in-Dictionary.coded.texts c.in_ok-coded-in-Dictionary.coded.places (values_of made) (values_of c.args.column.now)
-          (rw (c.texts.ensures, c.places.ensures) at c.in_ok-made-in-Dictionary.ensures.values) are.places,
+          (rw (c.texts.ensures, c.places-places.ensures) at c.in_ok-made-in-Dictionary.ensures.values) are.places,
       subst (λ (t : List (List ℕ)). LiesOver t made) (c.texts.ensures ∙ are.texts) c.in_ok-made-in-Dictionary.ensures.over,
     )
 

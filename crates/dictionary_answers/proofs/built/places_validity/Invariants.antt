@@ -1,8 +1,6 @@
-use Rattle.std.proofs.Common.{◌≡◌, ◌<◌, ℕ, None, false, true, get_or, is_some, map, take}
+use Rattle.std.proofs.Common.{◌≡◌, map, nat_eq, not, take}
+use Rattle.dictionary_answers.specs.Coded.{no_place}
 use Rattle.dictionary_answers.proofs.built.places_validity.Given as goal
 
 abbrev pub invariant-loop-place : goal.invariant-loop-place
-invariant-loop-place l = record {
-  bits : l.bits ≡ map is_some (take l.place-index l.places);
-  none : l.nulls ≡ false → (k : ℕ) → k < l.place-index → is_some (get_or l.places k None) ≡ true;
-}
+invariant-loop-place l = l.bits ≡ map (λ number. not (nat_eq number no_place)) (take l.place-index l.places)

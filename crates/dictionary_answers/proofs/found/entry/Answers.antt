@@ -2,7 +2,7 @@ use Rattle.std.proofs.Common.{sym, subst}
 use Rattle.std.proofs.lemmas.Option.{slice_get-get_or, get_or_from_slice_get}
 use Rattle.scan_base.specs.Value.{value_of, IsTextOrNull}
 use Rattle.scan_base.specs.declared.value.Value.TheVariants.{Null}
-use Rattle.dictionary_answers.proofs.coding.entry.Goals as goal
+use Rattle.dictionary_answers.proofs.found.entry.Goals as goal
 
 pub returns-in-Some-clause-value : goal.returns-in-Some-clause-value
 returns-in-Some-clause-value c = get_or_from_slice_get c.args.dictionary.now c.args.index (value_of c.in-Some.value) Null (sym c.in-Some.ensures)

@@ -1,0 +1,137 @@
+-- Lists of places where a mark stands for none.
+use Rattle.std.proofs.Common.{◌≡◌, ◌≤◌, ◌<◌, ℕ, zero, suc, ◌+◌, ◌||◌, not, Bool, true, false, List, [], ◌∷◌, ◌++◌, length, map, take, drop, get_or, nat_eq, Option, Some, None, is_some, unwrap_or, refl, sym, ap, ◌∙◌, arith}
+use Rattle.std.specs.List.{filter, flat_map, list_any, range_with_len}
+use Rattle.std.proofs.lemmas.List.{length-map, get_or-map, length-take, length-drop}
+use Rattle.std.proofs.lemmas.List.FromFn.{length-map-range_with_len, get_or-map-range_with_len}
+use Rattle.byteorder.specs.Endian.{little_bytes}
+use Rattle.scan_base.specs.declared.value.Value.{Value}
+use Rattle.scan_base.specs.declared.value.Value.TheVariants.{Null, Bool as Flag, Int, Text}
+use Rattle.scan_base.specs.Value.{is_null}
+use Rattle.arrays.specs.Column.{ColumnAt, slot_of, values_of}
+use Rattle.arrays.specs.Nulls.{null_count}
+use Rattle.dictionary_answers.specs.Firsts.{AreLed, Leads}
+use Rattle.dictionary_answers.specs.Coded.{held, no_place}
+use Rattle.dictionary_answers.specs.inside.Packed.{packed_places, shown, AreValidWhereSome}
+use Rattle.dictionary_answers.proofs.Indexed.{none_null}
+use Rattle.dictionary_answers.proofs.IndicesMade.{led_at}
+
+-- a number is a place where it is not the mark
+pub held_where : (number : ℕ) → is_some (held number) ≡ not (nat_eq number no_place)
+held_where number = by (nat_eq number no_place) refl
+  where
+    by : (t : Bool) → nat_eq number no_place ≡ t → is_some (held number) ≡ not (nat_eq number no_place)
+    by true e = rw e refl
+    by false e = rw e refl
+
+-- what is packed of a number
+pub shown_is : (number : ℕ) → shown number ≡ unwrap_or (held number) 0
+shown_is number = by (nat_eq number no_place) refl
+  where
+    by : (t : Bool) → nat_eq number no_place ≡ t → shown number ≡ unwrap_or (held number) 0
+    by true e = rw e refl
+    by false e = rw e refl
+
+-- numbers that are packed as they are shown
+pub packed_shown : (places : List ℕ) → flat_map (little_bytes 4) (map shown places) ≡ packed_places (map held places)
+packed_shown [] = refl
+packed_shown (place ∷ places) = rw (shown_is place, packed_shown places) refl
+
+-- a place is shown as it is
+shown_plain : (number : ℕ) → is_some (held number) ≡ true → shown number ≡ number
+shown_plain number some = by (nat_eq number no_place) refl
+  where
+    by : (t : Bool) → nat_eq number no_place ≡ t → shown number ≡ number
+    by true e = absurd (let is : ◌≡◌ {A = Bool} false true = rw e at some in let no : ⊥ = cc in no)
+    by false e = rw e refl
+
+all_plain : (places : List ℕ) → ((k : ℕ) → k < length places → is_some (held (get_or places k 0)) ≡ true) → map shown places ≡ places
+all_plain [] each = refl
+all_plain (place ∷ places) each =
+    rw (shown_plain place (each 0 (omega arith)), all_plain places (λ k low. each (suc k) (omega arith))) refl
+
+-- numbers none of which is the mark are packed as they are
+pub packed_plain : (places : List ℕ) → AreValidWhereSome None (map held places) → flat_map (little_bytes 4) places ≡ packed_places (map held places)
+packed_plain places valid =
+    let all : map shown places ≡ places =
+    all_plain places (λ k low. ap is_some (sym (get_or-map held places k 0 None low)) ∙ sym (valid.each k (omega (arith, length-map places held, low)))) in
+    ap (flat_map (little_bytes 4)) (sym all) ∙ packed_shown places
+
+-- the bits of places
+pub valid_bits : (bits : List Bool) (places : List ℕ) → bits ≡ map (λ number. not (nat_eq number no_place)) places → AreValidWhereSome (Some bits) (map held places)
+valid_bits bits places is = record {
+  long = ap length is ∙ length-map places (λ number. not (nat_eq number no_place)) ∙ sym (length-map places held);
+  each = λ k low.
+      let under : k < length places = omega (arith, length-map places held, low) in
+      ap (λ (xs : List Bool). get_or xs k false) is ∙ get_or-map (λ number. not (nat_eq number no_place)) places k 0 false under
+      ∙ sym (held_where (get_or places k 0)) ∙ ap is_some (sym (get_or-map held places k 0 None under));
+}
+
+-- where the mark does not stand, each slot is valid
+any_at : (places : List ℕ) → list_any (λ number. nat_eq number no_place) places ≡ false → (k : ℕ) → k < length places → nat_eq (get_or places k 0) no_place ≡ false
+any_at [] none k low = absurd (omega arith)
+any_at (place ∷ places) none zero low = first (nat_eq place no_place) (list_any (λ number. nat_eq number no_place) places) none
+  where
+    first : (a b : Bool) → (a || b) ≡ false → a ≡ false
+    first true b e = e
+    first false b e = refl
+any_at (place ∷ places) none (suc k) low = any_at places (others (nat_eq place no_place) (list_any (λ number. nat_eq number no_place) places) none) k (omega arith)
+  where
+    others : (a b : Bool) → (a || b) ≡ false → b ≡ false
+    others true b e = absurd (let no : ⊥ = cc in no)
+    others false b e = e
+
+pub valid_all : (places : List ℕ) → list_any (λ number. nat_eq number no_place) places ≡ false → AreValidWhereSome None (map held places)
+valid_all places none = record {
+  long = tt;
+  each = λ k low.
+      let under : k < length places = omega (arith, length-map places held, low) in
+      let is : is_some (held (get_or places k 0)) ≡ true = held_where (get_or places k 0) ∙ ap not (any_at places none k under) in
+      sym (ap is_some (get_or-map held places k 0 None under) ∙ is);
+}
+
+-- a place leads to a value that is not null
+pub some_where : (texts : List (List ℕ)) (place : Option ℕ) (value : Value) → Leads texts place value → is_some place ≡ not (is_null value)
+some_where texts None value leads = rw leads refl
+some_where texts (Some place) value leads = rw leads.2 refl
+
+-- there are as many places as values
+pub led_long : (texts : List (List ℕ)) (places : List (Option ℕ)) (values : List Value) → AreLed texts places values → length places ≡ length values
+led_long texts [] [] led = refl
+led_long texts (place ∷ places) (value ∷ values) led = ap (λ (n : ℕ). suc n) (led_long texts places values led.1)
+led_long texts [] (value ∷ values) led = absurd led
+led_long texts (place ∷ places) [] led = absurd led
+
+-- whether a slot has a place
+some_at : (texts : List (List ℕ)) (places : List (Option ℕ)) (column : ColumnAt) (k : ℕ) → AreLed texts places (values_of column) → k < length places →
+    is_some (get_or places k None) ≡ not (is_null (slot_of column k))
+some_at texts places column k led low =
+    let count = led_long texts places (values_of column) led ∙ length-map-range_with_len (slot_of column) 0 column.len in
+    some_where texts (get_or places k None) (get_or (values_of column) k Null) (led_at texts places (values_of column) led k low)
+    ∙ ap (λ (v : Value). not (is_null v)) (get_or-map-range_with_len (slot_of column) 0 column.len k k Null (omega (arith, count, low)) (omega arith))
+
+-- where no slot is null, each is valid
+pub valid_none : (texts : List (List ℕ)) (places : List (Option ℕ)) (column : ColumnAt) → AreLed texts places (values_of column) → null_count column ≡ 0 → AreValidWhereSome None places
+valid_none texts places column led none = record {
+  long = tt;
+  each = λ k low.
+      let count = led_long texts places (values_of column) led ∙ length-map-range_with_len (slot_of column) 0 column.len in
+      let z : 0 + k ≡ k = omega arith in
+      let here : is_null (slot_of column k) ≡ false = rw z at (none_null (slot_of column) 0 column.len k none (omega (arith, count, low))) in
+      sym (some_at texts places column k led low ∙ ap not here);
+}
+
+-- the bits that tell each null of a column tell it of its places
+pub valid_own : (texts : List (List ℕ)) (places : List (Option ℕ)) (column : ColumnAt) (all own : List Bool) → AreLed texts places (values_of column) → length own ≡ column.len →
+    ((k : ℕ) → k < column.len → get_or own k false ≡ get_or all (column.first + k) false) →
+    ((k : ℕ) → k < column.len → is_null (slot_of column k) ≡ not (get_or all (column.first + k) false)) → AreValidWhereSome (Some own) places
+valid_own texts places column all own led long same told = record {
+  long = long ∙ sym (led_long texts places (values_of column) led ∙ length-map-range_with_len (slot_of column) 0 column.len);
+  each = λ k low.
+      let count = led_long texts places (values_of column) led ∙ length-map-range_with_len (slot_of column) 0 column.len in
+      let under : k < column.len = omega (arith, count, low) in
+      same k under ∙ not_not (get_or all (column.first + k) false) ∙ ap not (sym (told k under)) ∙ sym (some_at texts places column k led low);
+}
+  where
+    not_not : (b : Bool) → b ≡ not (not b)
+    not_not true = refl
+    not_not false = refl
