@@ -30,7 +30,6 @@ use Rattle.proto_wire.specs.Calls.{chunk_entry}
 use Rattle.proto_wire.specs.Writing.{varint, spelling, chunk_head}
 use Rattle.ipc_batch.specs.Written.{body_of, most_header_bytes}
 use Rattle.ipc_batch.proofs.WriterLoops.{buffer_more}
-use Rattle.flatbuf.specs.Block.{padded}
 use Rattle.scan_base.specs.Limits.{most_message_bytes, most_text_bytes}
 use Rattle.table_versions.specs.Table.{is_long_text}
 use Rattle.table_versions.proofs.Storable.{first_false, second_false}
