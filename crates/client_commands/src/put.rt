@@ -1,4 +1,4 @@
-//! `flightscan put`: an Arrow IPC stream into a table.
+//! `flightscan put`: an Arrow IPC stream, or CSV, into a table.
 
 ghost use Rattle.std.specs.Prelude.{◌≡◌};
 ghost use Rattle.grpc_frame.specs.Ends.{CanFail};
@@ -9,12 +9,15 @@ ghost use Rattle.client_calls.specs.Outcome.{Calls};
 ghost use Rattle.command_ends.specs.Printing.{count_line, said_of};
 ghost use Rattle.command_ends.specs.Whole.{source_of};
 ghost use Rattle.client_commands.specs.Told.{Tells};
-ghost use Rattle.client_commands.specs.Commands.{Connects, Puts, desk_of};
+ghost use Rattle.client_commands.specs.Commands.{Connects, Puts, PutsCsv, desk_of};
+ghost use Rattle.csv_input.specs.Input.{form_of};
 
 use crate::connecting::{end_unconnected, open};
 use crate::telling::{end_by_failure, end_by_printing};
 use client_calls::{Failure, Target};
+use command_line::CsvForm;
 use command_ends::{Connect, ExitStatus, end_by_cause, end_by_fault, print_count, read_messages};
+use csv_input::read_csv;
 use grpc_frame::{Input, Output};
 use ipc_stream::IpcMessage;
 use scan_base::Fault;
@@ -55,6 +58,44 @@ pub fn put<C: Connect, I: Input, W: Output, E: Output>(
         Ok(messages) => put_messages(alloc, network, output, faults, putting, &messages),
         Err(Fault::Transport) => end_by_cause(faults, "cannot read the input"),
         Err(fault) => end_by_fault(faults, fault),
+    }
+}
+
+/// What is put, where the server listens, and how its CSV is read.
+#[derive(Clone, Copy, Debug)]
+pub struct CsvPutting<'a> {
+    pub putting: Putting<'a>,
+    pub form: CsvForm<'a>,
+}
+
+/// Puts the rows that the whole input says as CSV into a table, and prints how many rows were put. The input is read, and all
+/// messages are made, before a connection is. Columns that are found are printed on `faults` in a line. A fault is printed there
+/// in a line, as far as that takes it.
+pub fn put_csv<C: Connect, I: Input, W: Output, E: Output>(
+    alloc: Global,
+    network: &mut C,
+    input: &mut I,
+    output: &mut W,
+    faults: &mut E,
+    putting: CsvPutting<'_>,
+) -> ExitStatus
+    // Each end can count one failure more.
+    requires reads { CanFail (I.failures input.old) }
+    requires writes { CanFail (W.failures output.old) }
+    requires prints { CanFail (E.failures faults.old) }
+
+    // The input says no rows or was not read, and why is printed; or the messages of its rows were put, and what came of it is.
+    ensures { PutsCsv (form_of putting.entry.form) (source_of I.Input input.old) (source_of I.Input input.new) (network.new ≡ network.old)
+        (λ ends. C.connects network.old putting.entry.putting.port ends network.new) putting.entry.putting.target result
+        (desk_of (said_of W.Output output.old) (said_of E.Output faults.old))
+        (desk_of (said_of W.Output output.new) (said_of E.Output faults.new)) }
+{
+    match read_csv(alloc, input, faults, putting.form) {
+        Ok(messages) => {
+            let target = putting.putting;
+            put_messages(alloc, network, output, faults, target, &messages)
+        }
+        Err(status) => status,
     }
 }
 

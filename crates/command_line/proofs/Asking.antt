@@ -1,7 +1,11 @@
 -- What words ask for.
-use Rattle.std.proofs.Common.{◌≡◌, ◌∙◌, ap, ap₂, refl, sym, false, true, Bool, List, Option, Some, None, Box, Result, Err, subst, option_map, unwrap_or, Bor}
+use Rattle.std.proofs.Common.{◌≡◌, ◌∙◌, ap, ap₂, refl, sym, false, true, inl, inr, Bool, List, [], ◌∷◌, Option, Some, None, Box, Result, Err, subst, option_map, unwrap_or, Bor}
 use Rattle.std.proofs.lemmas.Option.{none-some, same_Some}
-use Rattle.clap.specs.Words.{App, FailsBy, HasKind, HasMatchesOf, IsParsedFrom, Row, Text, app_of, fault_of, has_subcommand, subcommand_of, subcommand_rows, is_simple, is_simple_and_free}
+use Rattle.clap.specs.Words.{App, FailsBy, HasKind, Kinds, HasMatchesOf, IsParsedFrom, kind_of, Row, Text, app_of, fault_of, has_subcommand, subcommand_of, subcommand_rows, is_simple, is_simple_and_free}
+use Rattle.std.specs.Prelude.{◌&&◌, codes, if◌then◌else◌}
+use Rattle.std.specs.Str.{bytes_eq}
+use Rattle.clap.specs.declared.error.kind.ErrorKind.TheVariants.{ArgumentConflict}
+use Rattle.clap.specs.Kinds.{or_else}
 use Rattle.clap.specs.Matches.{subcommand_name_of}
 use Rattle.clap.specs.declared.builder.command.Command.{Command}
 use Rattle.clap.specs.declared.builder.command.Command.TheViews.{out-Command}
@@ -12,7 +16,7 @@ use Rattle.clap.specs.declared.parser.matches.SubCommand.{SubCommand}
 use Rattle.clap.proofs.OnLiterals.{clap_on_literals}
 use Rattle.std.specs.Box.{box_value}
 use Rattle.command_line.specs.Line.{Parsers, program}
-use Rattle.command_line.specs.Request.{Asks, IsAskedBy}
+use Rattle.command_line.specs.Request.{Asks, IsAskedBy, is_misused, line_fault, misuse_of}
 use Rattle.command_line.specs.declared.request.Request.{Request}
 
 -- what a getter of a text gives
@@ -43,21 +47,56 @@ module _ {Z : Type 0} where
 pub free_of : (command : Command) (parsers : Parsers) → app_of command ≡ program parsers → is_simple_and_free (app_of command) ≡ true
 free_of command parsers is = ap is_simple_and_free is ∙ is_free parsers
 
+-- an error of the first kinds is one of those, if there are some
+still_kind : (first next : Kinds) (e : Error) → HasKind first e → HasKind (or_else first next) e
+still_kind [] next e (inl lacks) = inl lacks
+still_kind [] next e (inr among) = absurd among
+still_kind (k ∷ ks) next e has = has
+
 -- an error of a parse is one of the faults of the words
 pub fails_by : {A : Type 0} (r : Result A Error) (words : List Text) (command : Command) (parsers : Parsers) (e y : Error) → app_of command ≡ program parsers
-    → r ≡ Err y → y ≡ e → HasKind (fault_of (app_of command) words) e → FailsBy (fault_of (program parsers) words) r
-fails_by r words command parsers e y is fails same kind = rw (fails, same) (subst (λ (a : App). HasKind (fault_of a words) e) is kind)
+    → r ≡ Err y → y ≡ e → HasKind (fault_of (app_of command) words) e → FailsBy (line_fault parsers words) r
+fails_by r words command parsers e y is fails same kind =
+    rw (fails, same) (still_kind (fault_of (program parsers) words) (misuse_of (subcommand_of (program parsers) words)) e (subst (λ (a : App). HasKind (fault_of a words) e) is kind))
 
 -- the subcommand that was met is what the words name
+pub named_by : (parsers : Parsers) (words : List Text) (command : Command) (matches : ArgMatches) (name : Text) (rows : List Row)
+    → app_of command ≡ program parsers → HasMatchesOf (app_of command) words matches
+    → subcommand_name_of matches ≡ Some name
+    → option_map (λ (p : Text × List Row). p.1) (subcommand_rows (out-ArgMatches matches).subcommand) ≡ Some rows
+    → subcommand_of (program parsers) words ≡ Some (name, rows)
+named_by parsers words command matches name rows is has named given =
+    ap (λ (a : App). subcommand_of a words) (sym is) ∙ sym ((has (ap is_simple is ∙ simple parsers)).1)
+    ∙ entered (out-ArgMatches matches).subcommand name rows named given
+
+-- the fault, where a test finds it
+abbrev misuse_where : Bool → Kinds
+misuse_where test = if test then ArgumentConflict ∷ [] else []
+
+-- where clap finds no fault, the fault of a line is that of its options
+pub only_misuse : (parsers : Parsers) (words : List Text) (name : Text) (rows : List Row) → fault_of (program parsers) words ≡ []
+    → subcommand_of (program parsers) words ≡ Some (name, rows) → line_fault parsers words ≡ misuse_of (Some (name, rows))
+only_misuse parsers words name rows none named =
+    ap₂ (λ (first : Kinds) (entered : Option (Text × List Row)). or_else first (misuse_of entered)) none named
+
+pub is_misuse : (parsers : Parsers) (words : List Text) (name : Text) (rows : List Row) (e : Error) → line_fault parsers words ≡ misuse_of (Some (name, rows))
+    → (bytes_eq name (codes "put") && is_misused rows) ≡ true → kind_of e ≡ ArgumentConflict → HasKind (line_fault parsers words) e
+is_misuse parsers words name rows e whole test kind =
+    let one : line_fault parsers words ≡ ArgumentConflict ∷ [] = whole ∙ ap misuse_where test in
+    rw one (inr (inl kind))
+
+pub is_none : (parsers : Parsers) (words : List Text) (name : Text) (rows : List Row) → line_fault parsers words ≡ misuse_of (Some (name, rows))
+    → (bytes_eq name (codes "put") && is_misused rows) ≡ false → line_fault parsers words ≡ []
+is_none parsers words name rows whole test = whole ∙ ap misuse_where test
+
+-- what those words ask for
 pub asked : (parsers : Parsers) (words : List Text) (command : Command) (matches : ArgMatches) (name : Text) (rows : List Row) (request : Request)
     → app_of command ≡ program parsers → HasMatchesOf (app_of command) words matches
     → subcommand_name_of matches ≡ Some name
     → option_map (λ (p : Text × List Row). p.1) (subcommand_rows (out-ArgMatches matches).subcommand) ≡ Some rows
     → Asks (name, rows) request → IsAskedBy parsers words request
 asked parsers words command matches name rows request is has named given asks =
-    let found : subcommand_of (program parsers) words ≡ Some (name, rows) =
-    ap (λ (a : App). subcommand_of a words) (sym is) ∙ sym ((has (ap is_simple is ∙ simple parsers)).1)
-    ∙ entered (out-ArgMatches matches).subcommand name rows named given in
+    let found = named_by parsers words command matches name rows is has named given in
     rw found asks
 
 pub not_both : (met : Bool) → false ≡ met → met ≡ true → ⊥

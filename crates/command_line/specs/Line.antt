@@ -1,6 +1,7 @@
 -- The command line, as clap's own definitions say it.
 use Rattle.std.specs.Prelude.{◌≡◌, true, List, [], ◌∷◌, map, Some, None, codes}
-use Rattle.clap.specs.Words.{Rule, Text}
+use Rattle.clap.specs.Words.{Rule, Text, new_rule}
+use Rattle.clap.specs.declared.builder.action.ArgAction.TheVariants.{SetTrue}
 use Rattle.clap.specs.Simple.{App, new_app, with_rule, with_subcommand}
 use Rattle.clap.specs.declared.builder.value_parser.ValueParser.{ValueParser}
 use Rattle.clap.specs.declared.builder.value_parser.ValueParser.TheVariants.{Names}
@@ -33,6 +34,14 @@ mode_rule modes = required_rule (record (text_rule (codes "mode")) { parser = So
 abbrev pub format_rule : ValueParser → Rule
 format_rule formats = record (text_rule (codes "format")) { parser = Some formats }
 
+-- `--columns`, whose text spells the columns of CSV
+abbrev pub columns_rule : Rule
+columns_rule = text_rule (codes "columns")
+
+-- `--header`, which has no value
+abbrev pub header_rule : Rule
+header_rule = record (new_rule (codes "header")) { long = Some (codes "header"); action = Some SetTrue }
+
 -- the query, which has no name before it
 abbrev pub sql_rule : Rule
 sql_rule = required_rule (record (text_rule (codes "sql")) { long = None })
@@ -50,18 +59,23 @@ mode_names = codes "create" ∷ codes "append" ∷ codes "replace" ∷ []
 abbrev pub format_names : List Text
 format_names = codes "lines" ∷ codes "arrow" ∷ codes "csv" ∷ codes "table" ∷ []
 
+-- the names of the forms of what is put
+abbrev pub form_names : List Text
+form_names = codes "arrow" ∷ codes "csv" ∷ []
+
 -- the parsers of the options that take names
 pub record Parsers : Type 0 where
   pub modes : ValueParser
   pub formats : ValueParser
+  pub forms : ValueParser
 
 -- each takes its own
 abbrev pub TakeNames : Parsers → Type 0
-TakeNames parsers = TakesNames mode_names parsers.modes × TakesNames format_names parsers.formats
+TakeNames parsers = TakesNames mode_names parsers.modes × TakesNames format_names parsers.formats × TakesNames form_names parsers.forms
 
 -- those of these names
 abbrev pub parsers_of : TakenNames → Parsers
-parsers_of names = record { modes = Names names.modes; formats = Names names.formats }
+parsers_of names = record { modes = Names names.modes; formats = Names names.formats; forms = Names names.forms }
 
 -- ---- commands
 
@@ -76,8 +90,10 @@ serve =
     let idle = with_rule accept (number_rule (codes "idle") idle_taken) in
     with_rule (with_rule idle parts_rule) workers_rule
 
-abbrev pub put : ValueParser → App
-put modes = with_rule (with_rule (with_rule (new_app (codes "put")) port_rule) table_rule) (mode_rule modes)
+abbrev pub put : ValueParser → ValueParser → App
+put modes forms =
+    let targeted = with_rule (with_rule (with_rule (new_app (codes "put")) port_rule) table_rule) (mode_rule modes) in
+    with_rule (with_rule (with_rule targeted (format_rule forms)) columns_rule) header_rule
 
 abbrev pub query : ValueParser → App
 query formats =
@@ -94,5 +110,5 @@ program parsers =
     let named = new_app (codes "flightscan") in
     let bare = record named { top = record named.top { has_version = true; subcommand_required = true } } in
     let served = with_subcommand (with_subcommand bare pipe.top) serve.top in
-    let putting = with_subcommand served (put parsers.modes).top in
+    let putting = with_subcommand served (put parsers.modes parsers.forms).top in
     with_subcommand (with_subcommand putting (query parsers.formats).top) tables.top

@@ -55,8 +55,14 @@ fn mode<'a>(alloc: Global, names: &'a [&'a str]) -> Arg<'a>
         .required(true)
 }
 
+// What help says of the formats of `query`, and of the forms of what `put` reads.
+const FORMATS_HELP: &str =
+    "lines: cells apart by tabs; table: aligned; csv: as RFC 4180; arrow: an Arrow IPC stream [default: lines]";
+
+const FORMS_HELP: &str = "arrow: an Arrow IPC stream; csv: as RFC 4180 [default: arrow]";
+
 // The option `--format`, of these names.
-fn format<'a>(alloc: Global, names: &'a [&'a str]) -> Arg<'a>
+fn format<'a>(alloc: Global, names: &'a [&'a str], help: &'a str) -> Arg<'a>
     ensures rule { rule_of result ≡ line.format_rule (Names names.entry) }
     ensures local { result.global ≡ false }
 {
@@ -65,9 +71,32 @@ fn format<'a>(alloc: Global, names: &'a [&'a str]) -> Arg<'a>
         .action(ArgAction::Set)
         .value_parser(ValueParser::Names(names))
         .value_name("F")
+        .help(help)
+}
+
+// The option `--columns`.
+fn columns<'a>(alloc: Global) -> Arg<'a>
+    ensures rule { rule_of result ≡ line.columns_rule }
+    ensures local { result.global ≡ false }
+{
+    Arg::new(alloc, "columns")
+        .long("columns")
+        .action(ArgAction::Set)
+        .value_name("C")
         .help(
-            "lines: cells apart by tabs; table: aligned; csv: as RFC 4180; arrow: an Arrow IPC stream [default: lines]",
+            "The columns of CSV, as 'id:int64, town:utf8?' [default: found, and printed on standard error]",
         )
+}
+
+// The option `--header`.
+fn header<'a>(alloc: Global) -> Arg<'a>
+    ensures rule { rule_of result ≡ line.header_rule }
+    ensures local { result.global ≡ false }
+{
+    Arg::new(alloc, "header")
+        .long("header")
+        .action(ArgAction::SetTrue)
+        .help("The first record of CSV has the columns' names")
 }
 
 // The option `--table`.
@@ -166,16 +195,22 @@ fn serve<'a>(alloc: Global) -> Result<Command<'a>, AllocError>
     with_two(waiting, parts(alloc), workers(alloc))
 }
 
-// `put`: an Arrow stream from standard input into a table, by a mode of these names.
-fn put<'a>(alloc: Global, modes: &'a [&'a str]) -> Result<Command<'a>, AllocError>
-    ensures shape { IfOk result (λ command. app_of command ≡ line.put (Names modes.entry)) }
+// `put`: the rows from standard input, in a form of these names, into a table, by a mode of these names.
+fn put<'a>(
+    alloc: Global,
+    modes: &'a [&'a str],
+    forms: &'a [&'a str],
+) -> Result<Command<'a>, AllocError>
+    ensures shape { IfOk result (λ command. app_of command ≡ line.put (Names modes.entry) (Names forms.entry)) }
     ensures local { IfOk result (λ command. (out-Command command).has_globals ≡ false) }
 {
     let about =
-        "Puts an Arrow IPC stream from standard input into a table, and prints its rows' number";
+        "Puts an Arrow IPC stream or CSV from standard input into a table, and prints its rows' number";
     let example = "Example: flightscan put --port 4711 --table trips --mode create < trips.arrows";
     let at_port = with_one(command(alloc, "put", about, example), port(alloc))?;
-    with_two(at_port, table(alloc), mode(alloc, modes))
+    let targeted = with_two(at_port, table(alloc), mode(alloc, modes))?;
+    let formed = with_one(targeted, format(alloc, forms, FORMS_HELP))?;
+    with_two(formed, columns(alloc), header(alloc))
 }
 
 // `query`: the rows of an answer, in a format of these names.
@@ -188,7 +223,7 @@ fn query<'a>(alloc: Global, formats: &'a [&'a str]) -> Result<Command<'a>, Alloc
         "Example: flightscan query --port 4711 'SELECT town, COUNT(*) FROM trips GROUP BY town'";
     let many = "Connections that fetch, 1 to 16 [default: 1]";
     let bare = command(alloc, "query", about, example);
-    let formatted = with_two(bare, port(alloc), format(alloc, formats))?;
+    let formatted = with_two(bare, port(alloc), format(alloc, formats, FORMATS_HELP))?;
     let streams = number_option(alloc, "streams", STREAMS, "K", many);
     with_two(formatted, streams, sql(alloc))
 }
@@ -229,7 +264,7 @@ pub(crate) fn program<'a>(alloc: Global, names: TakenNames<'a>) -> Result<Comman
         .subcommand_required(true);
     let piping = with_below(bare, pipe(alloc))?;
     let serving = with_below(piping, serve(alloc))?;
-    let putting = with_below(serving, put(alloc, names.modes))?;
+    let putting = with_below(serving, put(alloc, names.modes, names.forms))?;
     let asking = with_below(putting, query(alloc, names.formats))?;
     with_below(asking, tables(alloc))
 }

@@ -1,10 +1,11 @@
 //! The command line of `flightscan`, read by clap.
 #![tactic(auto)]
 
-ghost use Rattle.std.specs.Prelude.{map, string_bytes, IfOk};
-ghost use Rattle.clap.specs.Words.{fault_of, FailsBy};
-ghost use Rattle.command_line.specs.Line.{Parsers, TakeNames, parsers_of, program};
-ghost use Rattle.command_line.specs.Request.{IsAskedBy};
+ghost use Rattle.std.specs.Prelude.{◌≡◌, map, string_bytes, IfOk, MatchResult};
+ghost use Rattle.clap.specs.Words.{FailsBy, kind_of};
+ghost use Rattle.clap.specs.declared.error.kind.ErrorKind.TheVariants.{ArgumentConflict, OutOfMemory};
+ghost use Rattle.command_line.specs.Line.{Parsers, TakeNames, parsers_of};
+ghost use Rattle.command_line.specs.Request.{IsAskedBy, line_fault};
 
 mod commands;
 mod names;
@@ -14,9 +15,10 @@ mod request;
 
 use crate::commands::program;
 use crate::names::TakenNames;
-use crate::reading::request_of;
-pub use crate::request::{Format, Request, Serving};
+use crate::reading::{is_misused, request_of};
+pub use crate::request::{CsvForm, Format, PutForm, Request, Serving};
 use clap::Error;
+use clap::error::ErrorKind;
 use std::alloc::Global;
 
 // The names of the modes of `put`.
@@ -25,20 +27,32 @@ static MODES: [&str; 3] = ["create", "append", "replace"];
 // The names of the formats of `query`.
 static FORMATS: [&str; 4] = ["lines", "arrow", "csv", "table"];
 
+// The names of the forms of what `put` reads.
+static FORMS: [&str; 2] = ["arrow", "csv"];
+
+// The error of a line that gives options of CSV to a `put` of another form.
+fn misuse(alloc: Global, names: TakenNames<'_>) -> Result<Error, Error>
+    ensures { MatchResult result (λ error. kind_of error ≡ ArgumentConflict) (λ error. kind_of error ≡ OutOfMemory) }
+{
+    let message = "'--columns' and '--header' stand beside '--format csv' alone";
+    Ok(program(alloc, names)?.error(ErrorKind::ArgumentConflict, message)?)
+}
+
 /// Reads the command line, whose first word is the program's name.
 ///
 /// # Errors
 ///
-/// clap's fault, with its text, where the line does not parse, or asks for help or the version; and where memory is
-/// refused.
+/// clap's fault, with its text, where the line does not parse, or asks for help or the version; where options of CSV are given
+/// to a `put` of another form; and where memory is refused.
 pub fn options<'a>(alloc: Global, words: &'a [String]) -> Result<Request<'a>, Error>
     ensures { (parsers : Parsers) × TakeNames parsers
-        × FailsBy (fault_of (program parsers) (map string_bytes words.now)) result
+        × FailsBy (line_fault parsers (map string_bytes words.now)) result
         × IfOk result (IsAskedBy parsers (map string_bytes words.now)) }
 {
     let names = TakenNames {
         modes: MODES.as_slice(),
         formats: FORMATS.as_slice(),
+        forms: FORMS.as_slice(),
     };
     read_words(alloc, names, words)
 }
@@ -49,16 +63,19 @@ fn read_words<'a>(
     names: TakenNames<'a>,
     words: &'a [String],
 ) -> Result<Request<'a>, Error>
-    ensures faults { FailsBy (fault_of (program (parsers_of names.entry)) (map string_bytes words.now)) result }
+    ensures faults { FailsBy (line_fault (parsers_of names.entry) (map string_bytes words.now)) result }
     ensures asked { IfOk result (IsAskedBy (parsers_of names.entry) (map string_bytes words.now)) }
 {
     let matches = program(alloc, names)?.try_get_matches_from(words)?;
-    Ok(match matches.subcommand() {
-        Some((name, options)) => request_of(name, options),
+    let Some((name, options)) = matches.subcommand() else {
         // One of the commands has to be given, so that this is never so.
-        None => Request::Pipe {
+        return Ok(Request::Pipe {
             parts: 1,
             workers: 1,
-        },
-    })
+        });
+    };
+    if is_misused(name, options) {
+        return Err(misuse(alloc, names)?);
+    }
+    Ok(request_of(name, options))
 }

@@ -7,4 +7,6 @@ pub(crate) struct TakenNames<'a> {
     pub modes: &'a [&'a str],
     /// The formats of `query`.
     pub formats: &'a [&'a str],
+    /// The forms of what `put` reads.
+    pub forms: &'a [&'a str],
 }

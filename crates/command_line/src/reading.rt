@@ -1,12 +1,13 @@
 //! Reading a command's options.
 
-ghost use Rattle.std.specs.Prelude.{◌≡◌, codes};
-ghost use Rattle.clap.specs.Words.{found_of, rows_of};
+ghost use Rattle.std.specs.Prelude.{◌≡◌, ◌&&◌, codes, option_map};
+ghost use Rattle.std.specs.Str.{bytes_eq};
+ghost use Rattle.clap.specs.Words.{first_of, found_of, rows_of};
 ghost use Rattle.command_line.specs.Numbers as taken;
-ghost use Rattle.command_line.specs.Request.{Asks, IsGiven, IsServing, format_named, mode_named, text_given};
+ghost use Rattle.command_line.specs.Request.{Asks, IsForm, IsGiven, IsServing, flag_given, format_named, is_csv, is_misused, mode_named, text_given};
 
 use crate::number::{ACCEPT, IDLE, PARTS, PORT, SEATS, STREAMS, WORKERS, number_of};
-use crate::request::{Format, Request, Serving};
+use crate::request::{CsvForm, Format, PutForm, Request, Serving};
 use clap::ArgMatches;
 use scan_base::PutMode;
 
@@ -54,6 +55,50 @@ fn format_of(matches: &ArgMatches<'_>) -> Format
     }
 }
 
+// Whether an option without a value is given.
+fn flag_of(matches: &ArgMatches<'_>, name: &str) -> bool
+    ensures { result ≡ flag_given (rows_of (found_of matches.now)) name.now }
+{
+    text_of(matches, name) == "true"
+}
+
+// The text that spells the columns of CSV.
+fn columns_of<'a>(matches: &ArgMatches<'a>) -> Option<&'a str>
+    ensures { option_map (λ text. text.now) result ≡ first_of (codes "columns") (rows_of (found_of matches.now)) }
+{
+    matches.get_str("columns")
+}
+
+// Whether rows that are put are CSV.
+fn is_csv(matches: &ArgMatches<'_>) -> bool
+    ensures { result ≡ is_csv (rows_of (found_of matches.now)) }
+{
+    text_of(matches, "format") == "csv"
+}
+
+// What rows that are put are read as.
+fn form_of<'a>(matches: &ArgMatches<'a>) -> PutForm<'a>
+    ensures { IsForm (rows_of (found_of matches.now)) result }
+{
+    if !is_csv(matches) {
+        return PutForm::Arrow;
+    }
+    PutForm::Csv(CsvForm {
+        columns: columns_of(matches),
+        header: flag_of(matches, "header"),
+    })
+}
+
+/// Whether options of CSV are given to a `put` whose rows are no CSV.
+pub(crate) fn is_misused(name: &str, matches: &ArgMatches<'_>) -> bool
+    ensures { result ≡ bytes_eq name.now (codes "put") && is_misused (rows_of (found_of matches.now)) }
+{
+    if name != "put" || is_csv(matches) {
+        return false;
+    }
+    columns_of(matches).is_some() || flag_of(matches, "header")
+}
+
 // How `serve` is asked to serve.
 fn serving_of(matches: &ArgMatches<'_>) -> Serving
     ensures { IsServing (rows_of (found_of matches.now)) result }
@@ -78,6 +123,7 @@ pub(crate) fn request_of<'a>(name: &str, matches: &ArgMatches<'a>) -> Request<'a
             port: port_of(matches),
             table: text_of(matches, "table"),
             mode: mode_of(matches),
+            form: form_of(matches),
         },
         "query" => Request::Query {
             port: port_of(matches),

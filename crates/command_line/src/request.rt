@@ -32,6 +32,24 @@ pub enum Format {
     Table,
 }
 
+/// What rows that are put are read as.
+#[derive(Clone, Copy, Debug)]
+pub enum PutForm<'a> {
+    /// As an Arrow IPC stream.
+    Arrow,
+    /// As CSV.
+    Csv(CsvForm<'a>),
+}
+
+/// How CSV is read.
+#[derive(Clone, Copy, Debug)]
+pub struct CsvForm<'a> {
+    /// The text that spells the columns. Where there is none, they are found.
+    pub columns: Option<&'a str>,
+    /// Whether the first record has the columns' names.
+    pub header: bool,
+}
+
 /// What the command line asks for. Texts are taken as they stand.
 #[derive(Clone, Copy, Debug)]
 pub enum Request<'a> {
@@ -42,11 +60,12 @@ pub enum Request<'a> {
     },
     /// Serves connections to a port.
     Serve(Serving),
-    /// Puts a stream from standard input into a table.
+    /// Puts the rows from standard input into a table.
     Put {
         port: u16,
         table: &'a str,
         mode: PutMode,
+        form: PutForm<'a>,
     },
     /// Prints the rows that a query answers in a format, fetched over so many connections.
     Query {

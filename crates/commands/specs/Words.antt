@@ -1,13 +1,13 @@
 -- What becomes of the program's words.
 use Rattle.std.specs.Prelude.{◌≡◌, ◌≢◌, ◌⊎◌, ◌<◌, ◌≤◌, ℕ, ◌+◌, List, ◌∷◌, [], ◌++◌, Result, Ok, Err, codes}
 use Rattle.std.specs.Io.KnownBytes.{Appends}
-use Rattle.clap.specs.Words.{IsAmong, Text, fault_of}
+use Rattle.clap.specs.Words.{IsAmong, Text}
 use Rattle.clap.specs.declared.error.kind.ErrorKind.{ErrorKind}
 use Rattle.clap.specs.declared.error.kind.ErrorKind.TheVariants as kind
 use Rattle.scan_base.specs.declared.fault.Fault.TheVariants.{OutOfMemory, Transport}
 use Rattle.grpc_frame.specs.Ends.{AppendsBeginning}
-use Rattle.command_line.specs.Line.{Parsers, program}
-use Rattle.command_line.specs.Request.{IsAskedBy}
+use Rattle.command_line.specs.Line.{Parsers}
+use Rattle.command_line.specs.Request.{IsAskedBy, line_fault}
 use Rattle.command_line.specs.declared.request.Request.{Request}
 use Rattle.command_line.specs.declared.request.Request.TheVariants.{Serve}
 use Rattle.version_cell.specs.Blanks.{most_seats}
@@ -50,14 +50,14 @@ EndsFor found status out out' said said' =
     ((found ≡ kind.DisplayVersion) × PrintsVersion status out out' said said')
     ⊎ ((found ≢ kind.DisplayVersion) × RefusesWords status said said' × (out' ≡ out))
 
--- What becomes of words, where names are read by these parsers: they are a request, and clap finds no fault in them; or
+-- What becomes of words, where names are read by these parsers: they are a request, and no fault is found in them; or
 -- memory is refused for reading them; or clap finds one of these faults.
 abbrev pub ReadsWords : Parsers → List Text → Result Request ExitStatus → Said → Said → Said → Said → Type 0
 ReadsWords parsers words (Ok request) out out' said said' =
-    (fault_of (program parsers) words ≡ []) × IsAskedBy parsers words request × (out' ≡ out) × (said' ≡ said)
+    (line_fault parsers words ≡ []) × IsAskedBy parsers words request × (out' ≡ out) × (said' ≡ said)
 ReadsWords parsers words (Err status) out out' said said' =
     (LacksMemory status said said' × (out' ≡ out))
-    ⊎ ((found : ErrorKind) × IsAmong found (fault_of (program parsers) words) × EndsFor found status out out' said said')
+    ⊎ ((found : ErrorKind) × IsAmong found (line_fault parsers words) × EndsFor found status out out' said said')
 
 -- a server that is asked for has a seat, and no more than a cell takes
 abbrev pub HasSeats : Request → Type 0

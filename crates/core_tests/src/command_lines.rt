@@ -1,6 +1,6 @@
 //! Command lines, and what they ask for.
 
-use command_line::{Format, Request};
+use command_line::{Format, PutForm, Request};
 use commands::words::read_words;
 use grpc_frame::MemoryOutput;
 use scan_base::PutMode;
@@ -20,7 +20,7 @@ fn words(alloc: Global, line: &str) -> Result<Vec<String>, AllocError> {
 }
 
 // Command lines that are refused, and the first words that are printed.
-static REFUSED: [(&'static str, &'static [u8]); 27] = [
+static REFUSED: [(&'static str, &'static [u8]); 30] = [
     ("", b"error: "),
     ("pipes", b"error: unrecognized subcommand 'pipes'"),
     ("pipe more", b"error: unexpected argument 'more' found"),
@@ -70,6 +70,18 @@ static REFUSED: [(&'static str, &'static [u8]); 27] = [
         b"error: invalid value 'Create' for '--mode <M>'",
     ),
     (
+        "put --port 1 --table t --mode create --header",
+        b"error: '--columns' and '--header' stand beside '--format csv' alone",
+    ),
+    (
+        "put --port 1 --table t --mode create --format arrow --columns a:date",
+        b"error: '--columns' and '--header' stand beside '--format csv' alone",
+    ),
+    (
+        "put --port 1 --table t --mode create --format lines",
+        b"error: invalid value 'lines' for '--format <F>'",
+    ),
+    (
         "query --port 1",
         b"error: the following required arguments were not provided",
     ),
@@ -93,7 +105,7 @@ static REFUSED: [(&'static str, &'static [u8]); 27] = [
     ("help", b"Holds Arrow tables in memory"),
     ("pipe --help", b"Serves one connection"),
     ("pipe -h", b"Serves one connection"),
-    ("put --help", b"Puts an Arrow IPC stream"),
+    ("put --help", b"Puts an Arrow IPC stream or CSV"),
     ("query --help", b"Prints the rows"),
     (
         "pipe --version",
@@ -162,13 +174,25 @@ fn told(alloc: Global, request: Request<'_>) -> Result<String, AllocError> {
             let (parts, workers) = (serving.parts, serving.workers);
             format!(in alloc; "serve {port} {seats} {accept} {parts} {workers}")
         }
-        Request::Put { port, table, mode } => {
+        Request::Put {
+            port,
+            table,
+            mode,
+            form,
+        } => {
             let mode = match mode {
                 PutMode::Create => "create",
                 PutMode::Append => "append",
                 PutMode::Replace => "replace",
             };
-            format!(in alloc; "put {port} {table} {mode}")
+            match form {
+                PutForm::Arrow => format!(in alloc; "put {port} {table} {mode}"),
+                PutForm::Csv(form) => {
+                    let columns = form.columns.unwrap_or("found");
+                    let header = form.header;
+                    format!(in alloc; "put {port} {table} {mode} csv {columns} {header}")
+                }
+            }
         }
         Request::Query {
             port,
@@ -189,7 +213,7 @@ fn told(alloc: Global, request: Request<'_>) -> Result<String, AllocError> {
 }
 
 // Command lines, and what they ask for.
-static TAKEN: [(&'static str, &'static str); 12] = [
+static TAKEN: [(&'static str, &'static str); 14] = [
     ("pipe", "pipe 1 1"),
     ("pipe --workers 16 --parts=64", "pipe 64 16"),
     ("serve --port 0", "serve 0 4 0 1 1"),
@@ -203,6 +227,14 @@ static TAKEN: [(&'static str, &'static str); 12] = [
         "put 1 create append",
     ),
     ("put --port=1 --table= --mode=replace", "put 1  replace"),
+    (
+        "put --port 1 --table t --mode create --format csv",
+        "put 1 t create csv found false",
+    ),
+    (
+        "put --header --columns a:date? --format=csv --port 1 --table t --mode create",
+        "put 1 t create csv a:date? true",
+    ),
     ("query --port 1 tables", "query 1 lines 1 tables"),
     (
         "query SELECT --streams 16 --port 1 --format=arrow",

@@ -6,11 +6,11 @@ ghost use Rattle.grpc_frame.specs.Ends.{CanFail};
 ghost use Rattle.commands.specs.Words.{HasSeats};
 
 use client_calls::Target;
-use client_commands::put::{Putting, put};
+use client_commands::put::{CsvPutting, Putting, put, put_csv};
 use client_commands::query::{Querying, query};
 use client_commands::tables::tables;
 use command_ends::{ExitStatus, end_by_fault};
-use command_line::Request;
+use command_line::{PutForm, Request};
 use commands::arguments::refuse_arguments;
 use commands::pipe::pipe;
 use commands::serve::{Host, serve};
@@ -93,10 +93,22 @@ where
 {
     let mut network = Loopback::new(rt);
     match request {
-        Request::Put { port, table, mode } => {
+        Request::Put {
+            port,
+            table,
+            mode,
+            form,
+        } => {
             let target = Target { table, mode };
             let putting = Putting { port, target };
-            put(rt.alloc(), &mut network, input, output, faults, putting)
+            let alloc = rt.alloc();
+            match form {
+                PutForm::Arrow => put(alloc, &mut network, input, output, faults, putting),
+                PutForm::Csv(form) => {
+                    let putting = CsvPutting { putting, form };
+                    put_csv(alloc, &mut network, input, output, faults, putting)
+                }
+            }
         }
         Request::Query {
             port,

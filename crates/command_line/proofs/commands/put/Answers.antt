@@ -6,7 +6,11 @@ use Rattle.command_line.proofs.commands.put.Goals as goal
 pub returns-clause-shape : goal.returns-clause-shape
 returns-clause-shape c =
     let at = c.in_ok-at_port.ensures.shape ∙ ap₂ with_rule c.command.ensures.shape c.port.ensures.rule in
-    has_two_more _ _ c.table.result c.mode.result _ _ _ at c.table.ensures.rule c.mode.ensures.rule c.with_two.ensures.shape
+    let targeted = c.in_ok-targeted.ensures.shape ∙ ap₂ with_rule (ap₂ with_rule at c.table.ensures.rule) c.mode.ensures.rule in
+    let formed = c.in_ok-formed.ensures.shape ∙ ap₂ with_rule targeted c.format.ensures.rule in
+    has_two_more _ _ c.columns.result c.header.result _ _ _ formed c.columns.ensures.rule c.header.ensures.rule c.with_two-2.ensures.shape
 
 pub returns-clause-local : goal.returns-clause-local
-returns-clause-local c = stays_local _ _ (c.in_ok-at_port.ensures.local c.command.ensures.local) c.with_two.ensures.local
+returns-clause-local c =
+    stays_local _ _ (c.in_ok-formed.ensures.local (c.in_ok-targeted.ensures.local (c.in_ok-at_port.ensures.local c.command.ensures.local)))
+    c.with_two-2.ensures.local

@@ -1,0 +1,91 @@
+//! Reads CSV as `put --format csv` does. The cases come line by line: `COLUMNS ~ HEADER ~ TEXT`, where `-` stands for no columns and
+//! for no header, `+` for a header, and `|` in the text for LF. Each is answered by a line: the schema and the rows that the
+//! messages say, and what is printed of faults, with `|` for LF.
+#![tactic(auto)]
+
+use anyhow::Result;
+use command_line::CsvForm;
+use csv_input::read_csv;
+use grpc_frame::{MemoryInput, MemoryOutput};
+use ipc_batch::Reader;
+use ipc_stream::IpcMessage;
+use scan_base::Fault;
+use std::alloc::{AllocError, Global};
+use std::io::{BufRead, BufReader};
+use told_rows::{push_rows, push_schema};
+
+// Reads a message, and adds its rows.
+fn push_message(
+    reader: &mut Reader,
+    alloc: Global,
+    message: &IpcMessage,
+    told: &mut String,
+) -> Result<(), Fault> {
+    let (header, body) = (message.header.clone()?, message.body.clone()?);
+    if let Some(batch) = reader.message(alloc, header, body)? {
+        push_rows(told, &batch)?;
+    }
+    Ok(())
+}
+
+// What messages say.
+fn push_messages(alloc: Global, messages: &[IpcMessage], told: &mut String) -> Result<(), Fault> {
+    let mut reader = Reader::new();
+    let mut rows = String::new(alloc);
+    for message in messages {
+        push_message(&mut reader, alloc, message, &mut rows)?;
+    }
+    if let Some(schema) = reader.schema() {
+        push_schema(told, schema)?;
+    }
+    told.push_str(" : ")?;
+    told.push_str(&rows)?;
+    Ok(())
+}
+
+// What a text gives.
+fn told_text(alloc: Global, form: CsvForm<'_>, text: &str) -> Result<String, Fault> {
+    let mut told = String::new(alloc);
+    let mut input = MemoryInput::new(text.as_bytes());
+    let mut faults = MemoryOutput::new(alloc);
+    match read_csv(alloc, &mut input, &mut faults, form) {
+        Ok(messages) => push_messages(alloc, &messages, &mut told)?,
+        Err(status) => write!(told, "status {}", status.number())?,
+    }
+    if let Ok(said) = str::from_utf8(faults.as_slice()) {
+        write!(told, " : {}", said.replace(alloc, "\n", "|")?)?;
+    }
+    Ok(told)
+}
+
+// The parts of a case.
+fn parts_of(line: &str) -> Option<(&str, &str, &str)> {
+    let (columns, rest) = line.split_once(" ~ ")?;
+    let (header, text) = rest.split_once(" ~ ")?;
+    Some((columns, header, text))
+}
+
+// What is said to a line. A note is said again.
+fn told_of(alloc: Global, line: &str) -> Result<String, AllocError> {
+    let Some((columns, header, text)) = parts_of(line) else {
+        return String::from_str(alloc, line);
+    };
+    let form = CsvForm {
+        columns: (columns != "-").then_some(columns),
+        header: header == "+",
+    };
+    let text = text.replace(alloc, "|", "\n")?;
+    match told_text(alloc, form, &text) {
+        Ok(told) => Ok(told),
+        Err(fault) => String::from_str(alloc, fault.text().as_str()),
+    }
+}
+
+fn main(rt: HostRuntime) -> Result<()> {
+    let alloc = rt.alloc();
+    for line in BufReader::new(alloc, rt.reader())?.lines(alloc) {
+        let told = told_of(alloc, line?.as_str())?;
+        println!(rt; "{told}")?;
+    }
+    Ok(())
+}

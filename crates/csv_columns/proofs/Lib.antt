@@ -1,0 +1,4 @@
+pub mod Plain
+pub mod Worded
+pub mod More
+pub mod Again

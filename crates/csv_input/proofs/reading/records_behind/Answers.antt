@@ -1,0 +1,9 @@
+use Rattle.std.proofs.Common.{◌≡◌, ◌∙◌, [], ap₂, sym}
+use Rattle.csv_types.specs.Found.{rows_behind}
+use Rattle.csv_input.proofs.Told.{none_in}
+use Rattle.csv_input.proofs.reading.records_behind.Goals as goal
+
+pub returns-then-not-branch : goal.returns-then-not-branch
+returns-then-not-branch c =
+    let none : c.new-records.result ≡ [] = rw c.if-not-branch.true at c.in_ok-next.ensures in
+    c.new.ensures ∙ (none_in ∙ sym (ap₂ rows_behind c.if-header.true (sym c.new-records.ensures ∙ none)))

@@ -1,0 +1,144 @@
+-- An input as CSV: its columns, its rows, and what is printed of them and of a record that is wrong.
+use Rattle.std.specs.Prelude.{◌≡◌, ◌⊎◌, ◌<◌, ◌^◌, ℕ, ◌+◌, Bool, true, false, List, [], ◌++◌, length, map, Option, Some, None, Result, Ok, Err, codes, option_map, slice_get, unwrap_or}
+use Rattle.std.specs.Borrow.{Bor}
+use Rattle.std.specs.Fmt.{decimal}
+use Rattle.std.specs.Io.KnownBytes.{Appends}
+use Rattle.csv.specs.Writing.{default_writer, row_text}
+use Rattle.scan_base.specs.declared.fault.Fault.{Fault}
+use Rattle.scan_base.specs.declared.fault.Fault.TheVariants.{OutOfMemory, Transport}
+use Rattle.arrow_schema.specs.declared.schema.Field.{Field}
+use Rattle.arrow_schema.specs.declared.schema.Schema.{Schema}
+use Rattle.grpc_frame.specs.Ends.{AppendsBeginning}
+use Rattle.ipc_batch.specs.Said.{Rows, Says}
+use Rattle.ipc_stream.specs.declared.message.IpcMessage.{IpcMessage}
+use Rattle.command_line.specs.declared.request.CsvForm.{CsvForm}
+use Rattle.command_ends.specs.Printing.{Said, Prints, cause_lines, fault_line}
+use Rattle.command_ends.specs.Whole.{Source, Gives, Stops}
+use Rattle.command_ends.specs.declared.exit_status.ExitStatus.{ExitStatus}
+use Rattle.command_ends.specs.declared.exit_status.ExitStatus.TheVariants.{FaultAtThisEnd}
+use Rattle.csv_records.specs.Left.{records_in}
+use Rattle.csv_columns.specs.Spelled.{Spells, spelled}
+use Rattle.csv_types.specs.Found.{AreFound, rows_behind}
+use Rattle.csv_table.specs.Rows.{AreRows, IsFirstWrong, sent_in}
+use Rattle.csv_table.specs.declared.outcome.Wrong.{Wrong}
+use Rattle.csv_table.specs.declared.outcome.Wrong.TheVariants.{Fields, Cell}
+use Rattle.csv_table.specs.declared.outcome.WrongRecord.{WrongRecord}
+
+-- how CSV is read: the text that spells its columns, if there is one, and whether its first record has their names
+pub record Form : Type 0 where
+  pub columns : Option (List ℕ)
+  pub header : Bool
+
+abbrev pub form_of : CsvForm → Form
+form_of form = record { columns = option_map (λ (text : Bor (List ℕ)). text.now) form.columns; header = form.header }
+
+-- the columns are those that a text spells, and else those that the records fit
+abbrev pub AreColumns : Option (List ℕ) → Bool → List (List (List ℕ)) → Schema → Type 0
+AreColumns (Some text) header records schema = Spells (records_in text) schema
+AreColumns None header records schema = AreFound header records schema
+
+abbrev pub AreColumnsOf : Form → List (List (List ℕ)) → Schema → Type 0
+AreColumnsOf form records schema = AreColumns form.columns form.header records schema
+
+-- how many records stand before those that say rows
+abbrev pub head_rows : Bool → ℕ
+head_rows true = 1
+head_rows false = 0
+
+-- a record has so many fields in place of so many columns
+abbrev pub length_words : ℕ → ℕ → ℕ → List ℕ
+length_words number count columns =
+    codes "fault: record " ++ (decimal number ++ (codes " has " ++ (decimal count ++ (codes " fields in place of " ++ (decimal columns ++ codes "\n")))))
+
+-- a field says no value of the column of this name
+abbrev pub cell_words : ℕ → List ℕ → List ℕ
+cell_words number name = codes "fault: record " ++ (decimal number ++ (codes ": no value of column " ++ (name ++ codes "\n")))
+
+-- the name of the column at a place
+abbrev pub name_at : List Field → ℕ → List ℕ
+name_at columns place = unwrap_or (option_map (λ (column : Field). column.name) (slice_get columns place)) []
+
+-- what is said of a record of this number
+abbrev pub line_for : List Field → ℕ → Wrong → List ℕ
+line_for columns number (Fields count) = length_words number count (length columns)
+line_for columns number (Cell place) = cell_words number (name_at columns place)
+
+-- The line for a record that is wrong. Records are counted from 1, with the one of names.
+abbrev pub wrong_line : List Field → Bool → WrongRecord → List ℕ
+wrong_line columns header wrong = line_for columns (wrong.before + head_rows header + 1) wrong.wrong
+
+-- ---- what is printed
+
+-- the text that spells the columns
+abbrev pub columns_line : List Field → List ℕ
+columns_line columns = row_text default_writer (map spelled columns)
+
+-- columns that are found are printed, and others are not
+abbrev pub Shows : Option (List ℕ) → List Field → Said → Said → Type 0
+Shows (Some text) columns old new = new ≡ old
+Shows None columns old new = Appends old.bytes new.bytes (columns_line columns) × (new.failures ≡ old.failures)
+
+abbrev pub IsTold : Form → List Field → Said → Said → Type 0
+IsTold form columns old new = Shows form.columns columns old new
+
+-- they were not printed in whole: a write failed, or memory is refused for their text
+abbrev pub IsUntold : List Field → Said → Said → Type 0
+IsUntold columns old new =
+    (AppendsBeginning old.bytes new.bytes (columns_line columns) × (new.failures ≡ old.failures + 1)) ⊎ (new ≡ old)
+
+-- the line for a wrong record is printed, or that of F21 where memory is refused for it
+abbrev pub TellsWrong : List Field → Bool → WrongRecord → Said → Said → Type 0
+TellsWrong columns header wrong old new =
+    (wrong.before < 2 ^ 63 → Prints (wrong_line columns header wrong) old new) ⊎ Prints (fault_line OutOfMemory) old new
+
+-- a record is the first that is wrong, which is told; or a fault is
+abbrev pub Refuses : Bool → Schema → List (List (List ℕ)) → Said → Said → Type 0
+Refuses header schema records old new =
+    ((wrong : WrongRecord) × IsFirstWrong schema.fields (rows_behind header records) wrong × TellsWrong schema.fields header wrong old new)
+    ⊎ ((fault : Fault) × Prints (fault_line fault) old new)
+
+-- messages say the schema and the rows of the records
+abbrev pub SaysRows : Bool → Schema → List (List (List ℕ)) → List IpcMessage → Type 0
+SaysRows header schema records messages =
+    (rows : Rows) × AreRows schema.fields (rows_behind header records) rows × Says (map sent_in messages) schema rows
+
+-- the messages, seen by `view`, say the schema and the rows of the records, and nothing is printed; or why there are none is
+abbrev pub ReadsRows : {A : Type 0} → Bool → Schema → List (List (List ℕ)) → (A → List IpcMessage) → Result A ExitStatus → Said → Said → Type 0
+ReadsRows header schema records view (Ok messages) old new = SaysRows header schema records (view messages) × (new ≡ old)
+ReadsRows header schema records view (Err status) old new = (status ≡ FaultAtThisEnd) × Refuses header schema records old new
+
+-- No columns: why is printed. Or they were not printed; or they were, as far as they are found, and then why there are no rows.
+abbrev pub RefusesText : Form → List (List (List ℕ)) → Said → Said → Type 0
+RefusesText form records old new =
+    ((fault : Fault) × Prints (fault_line fault) old new)
+    ⊎ ((schema : Schema) × AreColumnsOf form records schema × IsUntold schema.fields old new)
+    ⊎ ((schema : Schema) × AreColumnsOf form records schema × ((middle : Said) × IsTold form schema.fields old middle × Refuses form.header schema records middle new))
+
+-- the messages of the rows of a text of these records, whose columns are printed where they were found; or why there are none is
+abbrev pub ReadsText : {A : Type 0} → Form → List (List (List ℕ)) → (A → List IpcMessage) → Result A ExitStatus → Said → Said → Type 0
+ReadsText form records view (Ok messages) old new =
+    (schema : Schema) × AreColumnsOf form records schema × IsTold form schema.fields old new × SaysRows form.header schema records (view messages)
+ReadsText form records view (Err status) old new = (status ≡ FaultAtThisEnd) × RefusesText form records old new
+
+-- the lines that say why the input was not read
+abbrev pub unread_lines : Fault → List ℕ
+unread_lines Transport = cause_lines (codes "cannot read the input")
+unread_lines fault = fault_line fault
+
+-- the input was not read, and why is printed
+pub record IsUnread (status : ExitStatus) (old new : Source) (said said' : Said) : Type 0 where
+  pub fault : Fault
+  pub stops : Stops fault old new
+  pub ends : status ≡ FaultAtThisEnd
+  pub says : Prints (unread_lines fault) said said'
+
+-- the whole input is a text, which gave this
+pub record GivesText {A : Type 0} (form : Form) (view : A → List IpcMessage) (result : Result A ExitStatus) (old new : Source) (said said' : Said) : Type 0 where
+  pub text : List ℕ
+  pub gives : Gives text old new
+  pub reads : ReadsText form (records_in text) view result said said'
+
+abbrev pub ReadsCsv : {A : Type 0} → Form → (A → List IpcMessage) → Result A ExitStatus → Source → Source → Said → Said → Type 0
+ReadsCsv form view (Ok messages) old new said said' = GivesText form view (Ok messages) old new said said'
+ReadsCsv form view (Err status) old new said said' =
+    IsUnread status old new said said' ⊎ GivesText form view (Err status) old new said said'

@@ -1,0 +1,147 @@
+//! Reading an input as CSV.
+
+ghost use Rattle.std.specs.Prelude.{◌≡◌, MatchResult, None, All, IfOk, OnOk};
+ghost use Rattle.grpc_frame.specs.Ends.{CanFail};
+ghost use Rattle.arrow_schema.specs.Schema.{IsSchema};
+ghost use Rattle.arrow_schema.specs.Written.{encoding_of};
+ghost use Rattle.csv_records.specs.Left.{records_in};
+ghost use Rattle.csv_table.specs.Rows.{IsFirstWrong};
+ghost use Rattle.command_ends.specs.Printing.{Prints, said_of};
+ghost use Rattle.command_ends.specs.Whole.{source_of};
+ghost use Rattle.command_ends.specs.declared.exit_status.ExitStatus.TheVariants.{FaultAtThisEnd};
+ghost use Rattle.csv_input.specs.Input.{IsTold, IsUntold, ReadsCsv, ReadsRows, ReadsText, TellsWrong, form_of};
+
+use crate::reading::{columns_of, rows_of};
+use crate::saying::wrong_line;
+use arrow_schema::{Field, Schema};
+use command_ends::{ExitStatus, end_by_cause, end_by_fault, read_whole};
+use command_line::CsvForm;
+use csv_columns::columns_text;
+use csv_table::{TableRead, WrongRecord};
+use grpc_frame::{Input, Output};
+use ipc_stream::IpcMessage;
+use scan_base::Fault;
+use std::alloc::{AllocError, Global};
+
+/// Reads the whole input as CSV: the messages of its rows. Columns that are found are printed on `faults` in a line before the
+/// rows are read.
+///
+/// # Errors
+///
+/// How the command ends, where there are no messages. Why is printed on `faults` in a line, as far as that takes it:
+///
+/// - The input was not read (F22), or memory is refused (F21).
+/// - The form spells no columns, or none are found (F8, F12).
+/// - The columns were found and not printed.
+/// - A record is wrong, which the line tells, or too long (F12).
+pub fn read_csv<I: Input, E: Output>(
+    alloc: Global,
+    input: &mut I,
+    faults: &mut E,
+    form: CsvForm<'_>,
+) -> Result<Vec<IpcMessage>, ExitStatus>
+    requires reads { CanFail (I.failures input.old) }
+    requires prints { CanFail (E.failures faults.old) }
+
+    // The messages say the rows of the whole input, and columns that were found are printed; or why there are none is.
+    ensures reads { ReadsCsv (form_of form.entry) (λ messages. messages.items) result
+        (source_of I.Input input.old) (source_of I.Input input.new)
+        (said_of E.Output faults.old) (said_of E.Output faults.new) }
+
+    // Where there are messages, no write has failed.
+    ensures quiet { OnOk result (E.failures faults.new ≡ E.failures faults.old) }
+{
+    match read_whole(alloc, input) {
+        Ok(text) => read_text(alloc, text.as_slice(), faults, form),
+        Err(Fault::Transport) => Err(end_by_cause(faults, "cannot read the input")),
+        Err(fault) => Err(end_by_fault(faults, fault)),
+    }
+}
+
+// Prints the columns in a line, where they were found.
+fn tell_columns<E: Output>(
+    alloc: Global,
+    faults: &mut E,
+    columns: &[Field],
+    form: CsvForm<'_>,
+) -> Result<(), Fault>
+    requires { CanFail (E.failures faults.old) }
+    ensures told { MatchResult result
+        (λ _. IsTold (form_of form.entry) columns.now (said_of E.Output faults.old) (said_of E.Output faults.new))
+        (λ _. IsUntold columns.now (said_of E.Output faults.old) (said_of E.Output faults.new)) }
+    ensures quiet { OnOk result (E.failures faults.new ≡ E.failures faults.old) }
+{
+    if form.columns.is_some() {
+        return Ok(());
+    }
+    let text = columns_text(alloc, columns)?;
+    faults.write(text.as_slice())
+}
+
+// Prints what is wrong with a record.
+fn end_by_wrong<E: Output>(
+    alloc: Global,
+    faults: &mut E,
+    columns: &[Field],
+    header: bool,
+    wrong: WrongRecord,
+) -> ExitStatus
+    requires { CanFail (E.failures faults.old) }
+    ensures status { result ≡ FaultAtThisEnd }
+    ensures line { TellsWrong columns.now header wrong (said_of E.Output faults.old) (said_of E.Output faults.new) }
+{
+    match wrong_line(alloc, columns, header, wrong) {
+        Ok(line) => {
+            let _ = faults.write(line.as_bytes());
+            ExitStatus::FaultAtThisEnd
+        }
+        Err(AllocError) => end_by_fault(faults, Fault::OutOfMemory),
+    }
+}
+
+// The messages of the rows, or the line of what is wrong.
+fn read_rows<E: Output>(
+    alloc: Global,
+    text: &[u8],
+    faults: &mut E,
+    schema: &Schema,
+    header: bool,
+) -> Result<Vec<IpcMessage>, ExitStatus>
+    requires schema { IsSchema schema.now }
+    requires plain { All (λ column. encoding_of column.data_type ≡ None) (schema.now).fields }
+    requires prints { CanFail (E.failures faults.old) }
+    ensures reads { ReadsRows header schema.now (records_in text.now) (λ messages. messages.items) result
+        (said_of E.Output faults.old) (said_of E.Output faults.new) }
+    ensures quiet { OnOk result (E.failures faults.new ≡ E.failures faults.old) }
+{
+    match rows_of(alloc, text, schema, header) {
+        Ok(TableRead::Messages(messages)) => Ok(messages),
+        Ok(TableRead::Wrong(wrong)) => {
+            let columns = schema.fields.as_slice();
+            Err(end_by_wrong(alloc, faults, columns, header, wrong))
+        }
+        Err(fault) => Err(end_by_fault(faults, fault)),
+    }
+}
+
+// Reads a text.
+fn read_text<E: Output>(
+    alloc: Global,
+    text: &[u8],
+    faults: &mut E,
+    form: CsvForm<'_>,
+) -> Result<Vec<IpcMessage>, ExitStatus>
+    requires { CanFail (E.failures faults.old) }
+    ensures reads { ReadsText (form_of form.entry) (records_in text.now) (λ messages. messages.items) result
+        (said_of E.Output faults.old) (said_of E.Output faults.new) }
+    ensures quiet { OnOk result (E.failures faults.new ≡ E.failures faults.old) }
+{
+    let schema = match columns_of(alloc, text, form) {
+        Ok(schema) => schema,
+        Err(fault) => return Err(end_by_fault(faults, fault)),
+    };
+    if tell_columns(alloc, faults, schema.fields.as_slice(), form).is_err() {
+        return Err(ExitStatus::FaultAtThisEnd);
+    }
+    read_rows(alloc, text, faults, &schema, form.header)
+}

@@ -1,0 +1,10 @@
+//! CSV from an input: its columns, its rows as messages, and what is printed of them and of a record that is wrong.
+//!
+//! `specs/Input.antt` says what they are.
+#![tactic(auto)]
+
+mod input;
+mod reading;
+mod saying;
+
+pub use crate::input::read_csv;

@@ -1,0 +1,71 @@
+//! Reading a whole text.
+
+ghost use Rattle.std.specs.Prelude.{◌≡◌, None, All, IfOk};
+ghost use Rattle.arrow_schema.specs.Schema.{IsSchema};
+ghost use Rattle.arrow_schema.specs.Written.{encoding_of};
+ghost use Rattle.csv_records.specs.Left.{records_in};
+ghost use Rattle.csv_types.specs.Found.{rows_behind};
+ghost use Rattle.csv_table.specs.Rows.{ReadsTable};
+ghost use Rattle.csv_input.specs.Input.{AreColumnsOf, form_of};
+
+use arrow_schema::Schema;
+use command_line::CsvForm;
+use csv::ByteRecord;
+use csv_columns::columns_in;
+use csv_records::Records;
+use csv_table::{TableRead, read_table};
+use csv_types::found_columns;
+use scan_base::Fault;
+use std::alloc::{AllocError, Global};
+
+/// The columns of a text: those that the form spells, and else those that the whole text fits.
+///
+/// # Errors
+///
+/// - `Fault::BadBatch` (F8) where its text spells none, the text has no record, or a name is empty or no text.
+/// - `Fault::LimitReached` (F12) where there are more than 64 columns, or a name has more than 64 bytes.
+/// - `Fault::OutOfMemory` (F21) where memory is refused.
+pub(crate) fn columns_of(alloc: Global, text: &[u8], form: CsvForm<'_>) -> Result<Schema, Fault>
+    ensures columns { IfOk result (AreColumnsOf (form_of form.entry) (records_in text.now)) }
+    ensures schema { IfOk result IsSchema }
+    ensures plain { IfOk result (λ schema. All (λ column. encoding_of column.data_type ≡ None) schema.fields) }
+{
+    match form.columns {
+        Some(spelled) => columns_in(alloc, spelled.as_bytes()),
+        None => found_columns(alloc, text, form.header),
+    }
+}
+
+// The records that say rows.
+fn records_behind(alloc: Global, text: &[u8], header: bool) -> Result<Records<'_>, AllocError>
+    ensures { IfOk result (λ records. records ≡ rows_behind header (records_in text.now)) }
+{
+    let mut records = Records::new(alloc, text);
+    if header {
+        let mut names = ByteRecord::new(alloc);
+        if !records.next(&mut names)? {
+            return Ok(Records::new(alloc, &[]));
+        }
+    }
+    Ok(records)
+}
+
+/// The rows that a text says under columns, as messages, or the first record that is wrong.
+///
+/// # Errors
+///
+/// - `Fault::OutOfMemory` (F21) where memory is refused.
+/// - `Fault::LimitReached` (F12) where one record is too long for a message, or there are more than 2 to the 63 records.
+pub(crate) fn rows_of(
+    alloc: Global,
+    text: &[u8],
+    schema: &Schema,
+    header: bool,
+) -> Result<TableRead, Fault>
+    requires schema { IsSchema schema.now }
+    requires plain { All (λ column. encoding_of column.data_type ≡ None) (schema.now).fields }
+    ensures { IfOk result (ReadsTable schema.now (rows_behind header (records_in text.now))) }
+{
+    let mut records = records_behind(alloc, text, header)?;
+    read_table(alloc, schema, &mut records)
+}

@@ -1,0 +1,3 @@
+pub mod Left
+mod Taken
+pub mod Placed

@@ -1,0 +1,7 @@
+mod Begun
+mod Placed
+mod Transposed
+mod Joined
+mod Faulty
+mod Columnar
+mod Sent

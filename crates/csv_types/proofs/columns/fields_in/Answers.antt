@@ -1,0 +1,37 @@
+use Rattle.std.proofs.Common.{◌≡◌, ◌<◌, ◌+◌, ℕ, Bool, None, List, [], ◌∷◌, ◌++◌, All, length, length-append, get_or, sym, subst, ap, ◌∙◌, arith}
+use Rattle.std.proofs.lemmas.List.Elements.{All-push}
+use Rattle.csv.specs.Records.{fields_of}
+use Rattle.arrow_schema.specs.declared.data_type.DataType.{DataType}
+use Rattle.arrow_schema.specs.declared.schema.Field.{Field}
+use Rattle.arrow_schema.specs.Schema.{IsField}
+use Rattle.arrow_schema.specs.Written.{encoding_of}
+use Rattle.csv_types.specs.Found.{column_of, column_seen}
+use Rattle.csv_types.proofs.Each.{each_more}
+use Rattle.csv_types.proofs.columns.fields_in.Goals as goal
+
+-- columns are equal by their parts
+abbrev made : List ℕ → Bool → DataType → Field
+made name nullable data_type = record { name = name; nullable = nullable; data_type = data_type }
+
+same_column : (a b : List ℕ) (m n : Bool) (s t : DataType) → a ≡ b → m ≡ n → s ≡ t → made a m s ≡ made b n t
+same_column a b m n s t e f g = ap (λ (x : List ℕ). made x m s) e ∙ (ap (λ (x : Bool). made b x s) f ∙ ap (λ (x : DataType). made b n x) g)
+
+pub loop-place-preserved : goal.loop-place-preserved
+loop-place-preserved c =
+    let inv = c.loop-place.invariant in
+    let old = c.loop-place.columns in
+    let n = c.loop-place.place in
+    let first = fields_of c.args.first.now in
+    let one : Field = record { name = c.in_ok-name.name; nullable = c.nullable.result; data_type = c.data_type.result } in
+    let low : n < length c.args.seen.now = omega (arith, c.loop-place-test.true) in
+    let pushed : c.push.new.self ≡ old ++ one ∷ [] = c.in_ok-push.ensures.ok in
+    record {
+      many = omega (arith, ap length pushed, length-append old (one ∷ []));
+      found = λ records have.
+          let own : one ≡ column_seen c.args.header first records n = same_column _ _ _ _ _ _ c.in_ok-name.ensures.value (c.nullable.ensures (column_of n records) (have n _ low)) (c.data_type.ensures.found (column_of n records) (have n _ low)) in
+          subst (λ (l : List Field). (k : ℕ) (d : Field) → k < n + 1 → get_or l k d ≡ column_seen c.args.header first records k) (sym pushed)
+          (each_more (λ (k : ℕ) (f : Field). f ≡ column_seen c.args.header first records k) old one n inv.many own (inv.found records have));
+      named = subst (λ (l : List Field). All IsField l) (sym pushed) (All-push IsField old one inv.named (record { named = c.in_ok-name.ensures.named; typed = c.data_type.ensures.typed }));
+      plain = subst (λ (l : List Field). All (λ (f : Field). encoding_of f.data_type ≡ None) l) (sym pushed)
+          (All-push (λ (f : Field). encoding_of f.data_type ≡ None) old one inv.plain c.data_type.ensures.plain);
+    }

@@ -1,0 +1,2 @@
+mod Ranges
+mod Signs
