@@ -1,15 +1,27 @@
-use Rattle.std.proofs.Common.{inl, inr, refl}
-use Rattle.command_ends.specs.Printing.{said_of}
+use Rattle.std.proofs.Common.{List, Err, inl, inr, refl}
+use Rattle.ipc_stream.specs.declared.message.IpcMessage.{IpcMessage}
+use Rattle.command_ends.specs.Printing.{Said, said_of}
+use Rattle.command_ends.specs.Whole.{Source}
+use Rattle.command_ends.specs.declared.exit_status.ExitStatus.{ExitStatus}
+use Rattle.csv_input.specs.Input.{Form, ReadsCsv}
 use Rattle.client_commands.proofs.put.put_csv.Goals as goal
+
+-- why there are no messages is the same, however they would be seen
+seen_apart : {A : Type 0} (form : Form) (view : A → List IpcMessage) (status : ExitStatus) (old new : Source) (said said' : Said) →
+    ReadsCsv form view (Err status) old new said said' → ReadsCsv {A = List IpcMessage} form (λ messages. messages) (Err status) old new said said'
+seen_apart form view status old new said said' (inl unread) = inl unread
+seen_apart form view status old new said said' (inr given) = inr (record { text = given.text; gives = given.gives; reads = given.reads })
 
 pub returns-in-Ok : goal.returns-in-Ok
 returns-in-Ok g c =
+    let given = c.in-Ok.ensures.reads in
     inr (record {
       messages = c.in-Ok.messages.items;
-      middle = _;
-      reads = c.in-Ok.ensures.reads;
+      middle = said_of g.E.Output c.read_csv.new.faults;
+      reads = record { text = given.text; gives = given.gives; reads = given.reads };
       puts = rw c.deref.ensures.value at c.put_messages.ensures;
     })
 
 pub returns-in-Err : goal.returns-in-Err
-returns-in-Err g c = inl (record { reads = c.in-Err.ensures.reads; alone = refl; nothing = refl })
+returns-in-Err g c =
+    inl (record { reads = seen_apart _ _ _ _ _ _ _ c.in-Err.ensures.reads; alone = refl; nothing = refl })
