@@ -1,0 +1,7 @@
+-- The records of a CSV text: the kit's `csv` says what they are, for commas, double quotes and lines that end by CR, LF or both.
+use Rattle.std.specs.Prelude.{ℕ, List}
+use Rattle.csv.specs.Reading.{default_config, records, strip_bom}
+
+-- the records of a text, each a list of fields; a byte order mark before them is no part of it
+abbrev pub records_in : List ℕ → List (List (List ℕ))
+records_in text = records default_config (strip_bom text)

@@ -1,0 +1,2 @@
+-- Inside: what a reader of records has left.
+pub mod Reading

@@ -1,0 +1,25 @@
+-- Inside: the records that a reader of the kit's has left.
+use Rattle.std.specs.Prelude.{◌≡◌, ◌+◌, ℕ, Bool, true, false, List, [], ◌∷◌, Bor, length, Option, Some, None, Result, Ok, Err}
+use Rattle.csv.specs.Reading.{Ready, default_config, has_failed, is_flexible, reader_config, reader_state, reader_trim, records_from, source_of}
+use Rattle.csv.specs.declared.parser.State.{State}
+use Rattle.csv.specs.declared.reader.Reader.{Reader}
+use Rattle.csv.specs.declared.reader.Trim.TheVariants as trim
+
+-- the records of these bytes, from a state; none where the reader failed
+abbrev pub records_behind : State → Option (List ℕ) → List (List (List ℕ))
+records_behind state None = []
+records_behind state (Some bytes) = records_from default_config (length bytes + 1) state bytes
+
+-- those that a reader has left
+abbrev pub records_left : Reader (Bor (List ℕ)) → List (List (List ℕ))
+records_left reader = records_behind (reader_state reader) (source_of (λ bytes. Some bytes.now) reader)
+
+-- a reader that has not failed reads records of any length as they stand
+abbrev pub ReadsOn : Reader (Bor (List ℕ)) → Type 0
+ReadsOn reader = has_failed reader ≡ false → (reader_config reader ≡ default_config) × (reader_trim reader ≡ trim.None) × (is_flexible reader ≡ true) × Ready reader
+
+-- a record was taken from those that were left; or there is none; or memory was refused
+abbrev pub TakesRecord : {E : Type 0} → Result Bool E → List (List (List ℕ)) → List (List ℕ) → List (List (List ℕ)) → Type 0
+TakesRecord (Ok true) old fields new = old ≡ fields ∷ new
+TakesRecord (Ok false) old fields new = (old ≡ []) × (new ≡ [])
+TakesRecord (Err error) old fields new = new ≡ []
