@@ -1,20 +1,17 @@
 //! Columns that are built of values.
 
-ghost use Rattle.std.specs.Prelude.{◌≡◌, ◌<◌, ◌^◌, All, IfOk, length, map};
-ghost use Rattle.scan_base.specs.Value.{value_of};
+ghost use Rattle.std.specs.Prelude.{◌≡◌, ◌<◌, ◌^◌, IfOk, length, map};
 ghost use Rattle.scan_base.specs.declared.value.Value.TheVariants as value;
-ghost use Rattle.arrow_schema.specs.Answer.{answer_type};
 ghost use Rattle.arrow_schema.specs.declared.data_type.IntegerType.TheVariants as integer;
 ghost use Rattle.arrow_schema.specs.declared.data_type.DataType.TheVariants as type;
 ghost use Rattle.arrays.specs.Column.{values_of};
-ghost use Rattle.arrays.specs.Typed.{IsOfType, IsValueOf};
+ghost use Rattle.arrays.specs.Typed.{IsOfType};
 ghost use Rattle.arrays.specs.Written.{texts_joined};
 ghost use Rattle.array_select.specs.Built.{value_or_null};
 
 use crate::filled::fill_column;
 use arrays::Column;
 use arrow_schema::{DataType, IntegerType};
-use scan_base::ValueRef;
 use std::alloc::{AllocError, Global};
 
 /// A column of Int64 of these values, null where there is none.
@@ -70,23 +67,4 @@ pub fn column_of_texts(alloc: Global, values: &[Option<&str>]) -> Result<Column,
     ensures long { IfOk result (λ column. column.len ≡ length values.now) }
 {
     fill_column(alloc, DataType::Utf8, values)
-}
-
-/// A column of a type, of these values. All texts together have fewer bytes than an offset can name.
-///
-/// # Errors
-///
-/// `AllocError` where memory is refused.
-pub fn column_of_values(
-    alloc: Global,
-    data_type: DataType,
-    values: &[ValueRef<'_>],
-) -> Result<Column, AllocError>
-    requires typed { All (λ value. IsValueOf data_type (value_of value)) values.now }
-    requires short { length (texts_joined (map value_of values.now)) < 2 ^ 31 }
-    ensures values { IfOk result (λ column. values_of column ≡ map value_of values.now) }
-    ensures typed { IfOk result (λ column. IsOfType (answer_type data_type) column.layout) }
-    ensures long { IfOk result (λ column. column.len ≡ length values.now) }
-{
-    fill_column(alloc, data_type, values)
 }

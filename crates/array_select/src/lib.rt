@@ -15,9 +15,7 @@ pub mod selection;
 mod source;
 
 pub use crate::at_places::gather;
-pub use crate::built::{
-    column_of_bools, column_of_decimals, column_of_int64s, column_of_texts, column_of_values,
-};
+pub use crate::built::{column_of_bools, column_of_decimals, column_of_int64s, column_of_texts};
 pub use crate::many_places::{SlotPlace, gather_many, texts_fit_many};
 pub use crate::of_slots::{SlotRef, column_of_slots, texts_fit};
 pub use crate::room::{MOST_BATCH_ROWS, MOST_COLUMN_BYTES, fitting, has_texts};

@@ -44,18 +44,6 @@ impl<'a> Source for SlotRef<'a> {
     }
 }
 
-impl<'a> Source for ValueRef<'a> {
-    ghost held = { value_of };
-
-    ghost IsThere = { λ _. Unit {0} };
-
-    ghost IsOf = { λ data_type value. IsValueOf data_type (value_of value) };
-
-    fn value(&self) -> ValueRef<'_> {
-        *self
-    }
-}
-
 impl Source for Option<i64> {
     ghost held = { value_or_null value.Int };
 
