@@ -1,5 +1,5 @@
 -- How many records are left behind one that was read.
-use Rattle.std.proofs.Common.{◌≡◌, ℕ, zero, suc, ◌+◌, ◌-◌, ◌<◌, ◌≤◌, Bool, true, false, List, [], ◌∷◌, length, Option, Some, None, refl, sym, ap, ap₂, ◌∙◌, inl, inr, arith}
+use Rattle.std.proofs.Common.{◌≡◌, ℕ, zero, suc, ◌+◌, ◌-◌, ◌<◌, ◌≤◌, List, [], ◌∷◌, length, Option, Some, None, refl, sym, ap, ap₂, ◌∙◌, inl, inr, arith}
 use Rattle.std.proofs.lemmas.Bool.{cases_Bool}
 use Rattle.std.proofs.lemmas.Option.{none-some, same_Some}
 use Rattle.csv.specs.Machine.{Read, ends_at_end, field_after, fields_after, is_end, next_record, step}
@@ -14,23 +14,23 @@ module _ (cfg : Config) where
   at_end : (s : State) (fields : List (List ℕ)) (field : List ℕ) (p : Read) → next_record cfg s fields field [] ≡ Some p → (p.1 ≡ st.StartRecord) × (p.2 ≡ [])
   unfolding next_record
   at_end s fields field p e = elim (cases_Bool (ends_at_end s)) [
-    | inl yes ↦ let same = same_Some _ _ (rw yes at e) in (sym (ap (λ (q : Read). q.1) same), sym (ap (λ (q : Read). q.2) same))
-    | inr no ↦ absurd (none-some _ (rw no at e))
+    | inl ends ↦ let same = same_Some _ _ (rw ends at e) in (sym (ap (λ (q : Read). q.1) same), sym (ap (λ (q : Read). q.2) same))
+    | inr goes ↦ absurd (none-some _ (rw goes at e))
   ]
 
   -- a record leaves no more bytes than stand behind its first
   leaves : (rest : List ℕ) (s : State) (fields : List (List ℕ)) (field : List ℕ) (c : ℕ) (p : Read) → next_record cfg s fields field (c ∷ rest) ≡ Some p → length p.2 ≤ length rest
   unfolding next_record
   leaves [] s fields field c p e = elim (cases_Bool (is_end (step cfg s c).1)) [
-    | inl yes ↦ let same = ap (λ (q : Read). length q.2) (same_Some _ _ (rw yes at e)) in omega (arith, same)
-    | inr no ↦
-        let none = (at_end (step cfg s c).0 (fields_after (step cfg s c).1 fields field) (field_after (step cfg s c).1 c field) p (rw no at e)).1 in
+    | inl ends ↦ let same = ap (λ (q : Read). length q.2) (same_Some _ _ (rw ends at e)) in omega (arith, same)
+    | inr goes ↦
+        let none = (at_end (step cfg s c).0 (fields_after (step cfg s c).1 fields field) (field_after (step cfg s c).1 c field) p (rw goes at e)).1 in
         let same = ap length none in omega (arith, same)
   ]
   leaves (d ∷ rest) s fields field c p e = elim (cases_Bool (is_end (step cfg s c).1)) [
-    | inl yes ↦ let same = ap (λ (q : Read). length q.2) (same_Some _ _ (rw yes at e)) in omega (arith, same)
-    | inr no ↦
-        let fewer = leaves rest (step cfg s c).0 (fields_after (step cfg s c).1 fields field) (field_after (step cfg s c).1 c field) d p (rw no at e) in
+    | inl ends ↦ let same = ap (λ (q : Read). length q.2) (same_Some _ _ (rw ends at e)) in omega (arith, same)
+    | inr goes ↦
+        let fewer = leaves rest (step cfg s c).0 (fields_after (step cfg s c).1 fields field) (field_after (step cfg s c).1 c field) d p (rw goes at e) in
         omega (arith, fewer)
   ]
 

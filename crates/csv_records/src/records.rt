@@ -38,15 +38,15 @@ impl<'a> Records<'a> {
         Records { reader }
     }
 
-    /// Reads the next record into `record`, and says whether there was one. Memory grows to the longest record, and is used again.
+    /// Reads the next record into `fields`, and says whether there was one. Memory grows to the longest record, and is used again.
     ///
     /// # Errors
     ///
     /// `AllocError` where memory is refused. No record is left then.
-    pub fn next(&mut self, record: &mut ByteRecord) -> Result<bool, AllocError>
-        ensures { TakesRecord result self.old (fields_of record.new) self.new }
+    pub fn next(&mut self, fields: &mut ByteRecord) -> Result<bool, AllocError>
+        ensures { TakesRecord result self.old (fields_of fields.new) self.new }
     {
-        match self.reader.read_byte_record(record) {
+        match self.reader.read_byte_record(fields) {
             Ok(found) => Ok(found),
             Err(_) => Err(AllocError),
         }

@@ -1,5 +1,6 @@
 -- Inside: the records that a reader of the kit's has left.
-use Rattle.std.specs.Prelude.{◌≡◌, ◌+◌, ℕ, Bool, true, false, List, [], ◌∷◌, Bor, length, Option, Some, None, Result, Ok, Err}
+use Rattle.std.specs.Prelude.{◌≡◌, ◌+◌, ℕ, Bool, true, false, List, [], ◌∷◌, length, Option, Some, None, Result, Ok, Err}
+use Rattle.std.specs.Borrow.{Bor}
 use Rattle.csv.specs.Reading.{Ready, default_config, has_failed, is_flexible, reader_config, reader_state, reader_trim, records_from, source_of}
 use Rattle.csv.specs.declared.parser.State.{State}
 use Rattle.csv.specs.declared.reader.Reader.{Reader}
@@ -21,5 +22,5 @@ ReadsOn reader = has_failed reader ≡ false → (reader_config reader ≡ defau
 -- a record was taken from those that were left; or there is none; or memory was refused
 abbrev pub TakesRecord : {E : Type 0} → Result Bool E → List (List (List ℕ)) → List (List ℕ) → List (List (List ℕ)) → Type 0
 TakesRecord (Ok true) old fields new = old ≡ fields ∷ new
-TakesRecord (Ok false) old fields new = (old ≡ []) × (new ≡ [])
+TakesRecord (Ok false) old fields new = old ≡ []
 TakesRecord (Err error) old fields new = new ≡ []
