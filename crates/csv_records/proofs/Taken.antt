@@ -9,7 +9,8 @@ use Rattle.csv.specs.declared.error.ErrorKind.{ErrorKind}
 use Rattle.csv.specs.declared.error.ErrorKind.TheVariants as kind
 use Rattle.csv.specs.declared.parser.State.{State}
 use Rattle.csv.specs.declared.reader.Reader.{Reader}
-use Rattle.csv_records.specs.inside.Reading.{TakesRecord, records_behind, records_left}
+use Rattle.csv_records.specs.Left.{TakesRecord}
+use Rattle.csv_records.specs.inside.Reading.{records_behind, records_left}
 use Rattle.csv_records.proofs.Left.{record_more, record_none}
 
 abbrev Text : Type 0

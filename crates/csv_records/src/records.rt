@@ -2,8 +2,7 @@
 
 ghost use Rattle.std.specs.Prelude.{◌≡◌};
 ghost use Rattle.csv.specs.Records.{fields_of};
-ghost use Rattle.csv_records.specs.Left.{records_in};
-ghost use Rattle.csv_records.specs.inside.Reading.{TakesRecord};
+ghost use Rattle.csv_records.specs.Left.{TakesRecord, records_in};
 
 use csv::{ByteRecord, Reader, ReaderBuilder};
 use std::alloc::{AllocError, Global};

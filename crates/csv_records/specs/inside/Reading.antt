@@ -18,9 +18,3 @@ records_left reader = records_behind (reader_state reader) (source_of (λ bytes.
 -- a reader that has not failed reads records of any length as they stand
 abbrev pub ReadsOn : Reader (Bor (List ℕ)) → Type 0
 ReadsOn reader = has_failed reader ≡ false → (reader_config reader ≡ default_config) × (reader_trim reader ≡ trim.None) × (is_flexible reader ≡ true) × Ready reader
-
--- a record was taken from those that were left; or there is none; or memory was refused
-abbrev pub TakesRecord : {E : Type 0} → Result Bool E → List (List (List ℕ)) → List (List ℕ) → List (List (List ℕ)) → Type 0
-TakesRecord (Ok true) old fields new = old ≡ fields ∷ new
-TakesRecord (Ok false) old fields new = old ≡ []
-TakesRecord (Err error) old fields new = new ≡ []

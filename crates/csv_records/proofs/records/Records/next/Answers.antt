@@ -3,7 +3,8 @@ use Rattle.std.proofs.lemmas.Bool.{cases_Bool}
 use Rattle.std.specs.declared.alloc.AllocError.{AllocError}
 use Rattle.csv.specs.Reading.{error_kind, has_failed}
 use Rattle.csv.specs.Records.{fields_of}
-use Rattle.csv_records.specs.inside.Reading.{TakesRecord, records_left}
+use Rattle.csv_records.specs.Left.{TakesRecord}
+use Rattle.csv_records.specs.inside.Reading.{records_left}
 use Rattle.csv_records.proofs.Taken.{finds_none, no_failure, none_behind, same_found, stops, takes}
 use Rattle.csv_records.proofs.records.Records.next.Goals.{in-Ok, in-Err}
 use Rattle.csv_records.proofs.records.Records.next.Goals as goal

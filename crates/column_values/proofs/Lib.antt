@@ -1,0 +1,3 @@
+mod Elements
+mod Alike
+mod Dates

@@ -1,0 +1,5 @@
+use Rattle.column_values.proofs.Dates.{day_numbers, days_again}
+use Rattle.column_values.proofs.packed.column_of_dates.Goals as goal
+
+pub column_of_integers-requires : goal.column_of_integers-requires
+column_of_integers-requires c = day_numbers c.args.values.now c.requires
