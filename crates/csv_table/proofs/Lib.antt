@@ -1,0 +1,5 @@
+mod Placed
+mod Transposed
+mod Joined
+mod Faulty
+mod Columnar
