@@ -1,12 +1,19 @@
 -- The numbers of a type lie between its least and its greatest.
-use Rattle.std.proofs.Common.{◌≡◌, ◌≤ℤ◌, ◌<ℤ◌, ℤ, pos, negsuc, Option, Some, None, true, false, inl, inr, sym, subst, ◌∙◌, arith, if◌then◌else◌}
+use Rattle.std.proofs.Common.{◌≡◌, ◌≤ℤ◌, ◌<ℤ◌, ℕ, ℤ, pos, negsuc, List, Option, Some, None, true, false, inl, inr, sym, subst, ◌∙◌, arith, if◌then◌else◌}
 use Rattle.std.proofs.Math.Facts.{leb_yes}
 use Rattle.std.proofs.lemmas.Bool.{cases_Bool}
 use Rattle.std.proofs.lemmas.Option.{none-some, same_Some}
 use Rattle.jiff_core.proofs.SignedLemmas.{signed_arith}
 use Rattle.arrow_schema.specs.declared.data_type.IntegerType.{IntegerType}
 use Rattle.arrow_schema.specs.declared.data_type.IntegerType.TheVariants.{Int8, Int16, Int32, Int64, UInt8, UInt16, UInt32, UInt64}
-use Rattle.arrays.specs.Typed.{IsInteger}
+use Rattle.std.specs.Prelude.{IfSome, option_map}
+use Rattle.std.specs.Str.{is_utf8}
+use Rattle.scan_base.specs.Value.{value_of}
+use Rattle.scan_base.specs.declared.value.Value.TheVariants.{Text}
+use Rattle.scan_base.specs.declared.value.ValueRef.{ValueRef}
+use Rattle.arrow_schema.specs.declared.data_type.DataType.TheVariants as type
+use Rattle.arrow_schema.specs.declared.data_type.DictionaryEncoding.{DictionaryEncoding}
+use Rattle.arrays.specs.Typed.{IsInteger, IsValueOf}
 use Rattle.calendar.specs.Dates.{is_from_to}
 use Rattle.calendar.proofs.Parts.{from_to-parts}
 use Rattle.csv_values.specs.Said.{greatest_of, kept_in, least_of}
@@ -38,3 +45,9 @@ kept_fits integer (Some other) number e = elim (cases_Bool (is_from_to (least_of
   | inl inside ↦ subst (IsInteger integer) (same_Some other number (rw inside at e)) (in_range integer other inside)
   | inr outside ↦ absurd (none-some number (rw outside at e))
 ]
+
+-- a text is a value of a dictionary of texts
+pub led_text : (encoding : DictionaryEncoding) (found : Option ValueRef) (text : List ℕ) → option_map value_of found ≡ Some (Text text) → is_utf8 text ≡ true →
+    IfSome found (λ value. IsValueOf (type.Dictionary encoding) (value_of value))
+led_text encoding None text e utf8 = tt
+led_text encoding (Some value) text e utf8 = subst (IsValueOf (type.Dictionary encoding)) (sym (same_Some (value_of value) (Text text) e)) utf8

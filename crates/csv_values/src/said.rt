@@ -1,6 +1,8 @@
 //! What a field says as a value of a type.
 
-ghost use Rattle.std.specs.Prelude.{◌≡◌, IfSome, option_map};
+ghost use Rattle.std.specs.Prelude.{◌≡◌, IfSome, Some, option_map, true};
+ghost use Rattle.std.specs.Str.{is_utf8};
+ghost use Rattle.scan_base.specs.declared.value.Value.TheVariants as value;
 ghost use Rattle.scan_base.specs.Value.{value_of};
 ghost use Rattle.arrow_schema.specs.declared.data_type.DataType.TheVariants as type;
 ghost use Rattle.arrays.specs.Typed.{IsValueOf};
@@ -32,11 +34,19 @@ fn said_as<'a>(data_type: DataType, text: &'a str) -> Option<ValueRef<'a>>
         DataType::Decimal128 => decimal_said(text),
         DataType::Bool => flag_said(text),
         DataType::Date => day_said(text),
-        DataType::Utf8 | DataType::Dictionary(_) => {
-            let _bytes = text.as_bytes();
-            Some(ValueRef::Text(text))
-        }
+        DataType::Utf8 => text_said(text),
+        DataType::Dictionary(_) => text_said(text),
     }
+}
+
+// A text, as it stands.
+fn text_said<'a>(text: &'a str) -> Option<ValueRef<'a>>
+    ensures value { option_map value_of result ≡ Some (value.Text text.now) }
+    ensures utf8 { is_utf8 text.now ≡ true }
+    ensures typed { IfSome result (λ said. IsValueOf type.Utf8 (value_of said)) }
+{
+    let _bytes = text.as_bytes();
+    Some(ValueRef::Text(text))
 }
 
 fn integer_said<'a>(integer: IntegerType, text: &str) -> Option<ValueRef<'a>>
