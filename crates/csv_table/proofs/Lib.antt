@@ -1,5 +1,0 @@
-mod Placed
-mod Transposed
-mod Joined
-mod Faulty
-mod Columnar
