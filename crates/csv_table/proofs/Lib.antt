@@ -1,0 +1,6 @@
+mod Placed
+mod Transposed
+mod Joined
+mod Faulty
+mod Columnar
+mod Sent

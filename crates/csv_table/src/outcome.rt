@@ -1,0 +1,28 @@
+//! What reading a text gives.
+
+use ipc_stream::IpcMessage;
+
+/// What is wrong with a record.
+#[derive(Clone, Copy, Debug, PartialEq, Eq)]
+pub enum Wrong {
+    /// It has so many fields, and there are not as many columns.
+    Fields(usize),
+    /// The field of the column at this place, counted from 0, says no value of it.
+    Cell(usize),
+}
+
+/// A wrong record: how many records stand before it, and what is wrong with it first.
+#[derive(Clone, Copy, Debug, PartialEq, Eq)]
+pub struct WrongRecord {
+    pub before: usize,
+    pub wrong: Wrong,
+}
+
+/// What records are read as.
+#[derive(Debug, Drop)]
+pub enum TableRead {
+    /// The messages of a schema and its rows.
+    Messages(Vec<IpcMessage>),
+    /// One of them is wrong, and this is the first.
+    Wrong(WrongRecord),
+}
