@@ -1,7 +1,7 @@
 -- The values of columns, one more at a time.
 use Rattle.std.proofs.Common.{◌≡◌, ◌<◌, ◌≤◌, ◌+◌, ℕ, List, [], ◌∷◌, ◌++◌, All, Option, Some, None, length, map, get_or, refl, sym, ap, subst, ◌∙◌, arith, inl, inr}
 use Rattle.std.specs.Prelude.{IsSome, option_map}
-use Rattle.std.proofs.lemmas.Bool.{cases_lt}
+use Rattle.std.proofs.lemmas.Bool.{cases_lt, false≢true}
 use Rattle.std.proofs.lemmas.List.{get_or_append_left, get_or_push, get_or_default, length-append, length-map, map-append}
 use Rattle.std.proofs.lemmas.List.Elements.{All-append, All-nil, All-cons}
 use Rattle.scan_base.specs.Value.{value_of}
@@ -123,11 +123,11 @@ wrong_at chunk columns row number column inside is none so = record {
 
 -- a field has been judged
 pub judged : (value : Option Value) (found : Option ValueRef) → option_map value_of found ≡ value → IsSome found → IsSome value
-judged value (Some cell) e some = subst IsSome e tt
-judged value None e some = absurd some
+judged value (Some cell) e some = subst IsSome e refl
+judged value None e some = absurd (false≢true some)
 
 -- a wrong column has a wrong record, in which not each cell says a value
 pub wrong_says : (chunk : ChunkAt) (columns : List Field) (d : Field) → HasWrongColumn chunk columns → ((row : ℕ) → row < chunk.rows → SaysCells chunk columns row (length columns)) → ⊥
 wrong_says chunk columns d wrong says =
     let cell = wrong.wrong d in
-    subst IsSome cell.none (says cell.row cell.there wrong.number d wrong.there)
+    false≢true (subst IsSome cell.none (says cell.row cell.there wrong.number d wrong.there))

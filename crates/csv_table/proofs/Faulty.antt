@@ -19,7 +19,7 @@ use Rattle.csv_table.specs.inside.SoFar.{HasRead, IsWrongIn}
 right_one : (columns : List Field) (records : List (List (List ℕ))) (rows : Rows) (k : ℕ) → AreRows columns records rows → k < length records → IsRight columns (get_or records k [])
 right_one columns records rows k are low =
     let row = are.each k low in
-    record { long = row.long; each = λ j there d. subst IsSome (sym (row.each j d there)) tt }
+    record { long = row.long; each = λ j there d. subst IsSome (sym (row.each j d there)) refl }
 
 -- so is one of the chunk that says a value in each column
 right_held : (chunk : ChunkAt) (columns : List Field) (held : List (List (List ℕ))) (k : ℕ) → Holds chunk held → chunk.width ≡ length columns → k < chunk.rows → SaysCells chunk columns k (length columns) →

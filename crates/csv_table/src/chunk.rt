@@ -84,7 +84,10 @@ impl Chunk {
         let pushed = push_fields(&mut self.fields, fields);
         match pushed {
             Ok(()) => self.rows += 1,
-            Err(_) => self.clear(),
+            Err(_) => {
+                self.fields.clear();
+                self.rows = 0;
+            }
         }
         pushed
     }
