@@ -15,7 +15,7 @@ use scan_base::ValueRef;
 // How many bytes are kept of a text.
 const MOST_BYTES: usize = 16;
 
-/// The statistics of a column, to be kept without it. They take 64 bytes.
+/// The statistics of a column, to be kept without it. They take 80 bytes.
 #[derive(Clone, Copy, Drop)]
 pub enum OwnedStats {
     /// Each value is null, or there is none.

@@ -136,10 +136,10 @@ impl Opening {
     ///
     /// # Errors
     ///
-    /// F17 (`Fault::BadTicket`) where the query does not parse or is not bound at this version, where the range is not
-    /// within the rows of its first place, and where the query makes groups and the range is not all of them, so never for
-    /// the list of tables; F21 (`Fault::OutOfMemory`) where memory is
-    /// refused, but neither for a query of more than 16,384 bytes nor for a range that ends before it begins.
+    /// F17 (`Fault::BadTicket`) where the query does not parse or is not bound at this version, or the range is not within the
+    /// rows of its first place. Also where the query makes groups and the range is not all of them, so never for the list of
+    /// tables. F21 (`Fault::OutOfMemory`) where memory is refused, but neither for a query of more than 16,384 bytes nor for a
+    /// range that ends before it begins.
     pub fn new(
         alloc: Global,
         snapshot: &Snapshot,

@@ -95,7 +95,7 @@ impl Answers {
     }
 
     /// The items of the next groups as a batch, where these are the batches whose rows were grouped: one row or more, no
-    /// more than 65,536, which has room where it is more than one: no more than 524,288 cells, and no more than 8 MB of text in
+    /// more than 65,536, which has room where it is more than one: no more than 131,072 cells, and no more than 2 MB of text in
     /// all. `None` where no group is left.
     ///
     /// # Errors

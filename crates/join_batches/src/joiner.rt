@@ -181,7 +181,7 @@ impl Joiner {
     }
 
     /// The next joined rows of the left batch as a batch: one row or more, no more than 65,536, which has room where it is more
-    /// than one: no more than 524,288 cells, and no more than 8 MB of text in all. `None` where no row is left.
+    /// than one: no more than 131,072 cells, and no more than 2 MB of text in all. `None` where no row is left.
     ///
     /// # Errors
     ///
@@ -195,7 +195,7 @@ impl Joiner {
     }
 
     /// These columns of the next joined rows of the left batch, by their numbers, as a batch: one row or more, no more than
-    /// 65,536, which has room where it is more than one: no more than 524,288 cells, and no more than 8 MB of text in all. No
+    /// 65,536, which has room where it is more than one: no more than 131,072 cells, and no more than 2 MB of text in all. No
     /// other column is gathered. `None` where no row is left.
     ///
     /// # Errors
