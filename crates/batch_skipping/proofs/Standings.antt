@@ -54,6 +54,12 @@ one_text ordering.Equal ordering.Less same h = ap (λ b. not (b && true)) (h ref
 one_text ordering.Equal ordering.Equal same h = ap (λ b. not (b && true)) (h refl)
 one_text ordering.Equal ordering.Greater same h = ap (λ b. not (b && true)) (h refl)
 
+both_turned : (a b : Bool) → (a && b) ≡ (b && a)
+both_turned true true = refl
+both_turned true false = refl
+both_turned false true = refl
+both_turned false false = refl
+
 module _ (least greatest text : List ℕ) where
   abbrev low : Ordering
   low = slice_cmp nat_cmp least text
@@ -84,6 +90,22 @@ module _ (least greatest text : List ℕ) where
       ∙ ap (λ b. not (is_eq (slice_cmp nat_cmp least greatest) && (b && stand Equal (Text least) (Text text))))
       (text_stands Equal text text ∙ ap is_eq (tied_itself nat_list_cmp_total text))
       ∙ ap (λ b. not (is_eq (slice_cmp nat_cmp least greatest) && (true && b))) (text_stands Equal least text)
+      ∙ one_text low high (is_eq (slice_cmp nat_cmp least greatest)) same_ends
+
+  -- the same with the one text in front
+  may_equal_turned : (equal_between alone ends).0 ≡ (is_le low && is_ge high)
+  may_equal_turned =
+      ap (λ b. b && stand LessOrEqual (Text least) (Text text))
+      (text_stands LessOrEqual text greatest ∙ ap is_le (nat_list_cmp_total.antisymm text greatest) ∙ le_back high)
+      ∙ ap (λ b. is_ge high && b) (text_stands LessOrEqual least text) ∙ both_turned (is_ge high) (is_le low)
+
+  may_differ_turned : (equal_between alone ends).1 ≡ (is_ne low || is_ne high)
+  may_differ_turned =
+      ap (λ b. not (b && (stand Equal (Text least) (Text greatest) && stand Equal (Text text) (Text least))))
+      (text_stands Equal text text ∙ ap is_eq (tied_itself nat_list_cmp_total text))
+      ∙ ap (λ b. not (true && (b && stand Equal (Text text) (Text least)))) (text_stands Equal least greatest)
+      ∙ ap (λ b. not (true && (is_eq (slice_cmp nat_cmp least greatest) && b)))
+      (text_stands Equal text least ∙ ap is_eq (nat_list_cmp_total.antisymm text least) ∙ eq_back low)
       ∙ one_text low high (is_eq (slice_cmp nat_cmp least greatest)) same_ends
 
   may_be_greater : (less_between alone ends).0 ≡ is_gt high
@@ -143,3 +165,15 @@ module _ (standing : Standing) (a b : StatsAt) (so : StandSo standing a b) where
   greater_so =
       right less_between (is_gt standing.greatest) (is_le standing.least)
       (may_be_greater so.least so.greatest so.text ∙ ap is_gt (sym so.high)) (may_be_reached so.least so.greatest so.text ∙ ap is_le (sym so.low))
+
+  equal_back : possibly (is_le standing.least && is_ge standing.greatest) (is_ne standing.least || is_ne standing.greatest) (nat_lt 0 standing.nulls) ≡ of_sides equal_between b a
+  equal_back =
+      right equal_between (is_le standing.least && is_ge standing.greatest) (is_ne standing.least || is_ne standing.greatest)
+      (may_equal_turned so.least so.greatest so.text
+      ∙ ap (λ o. is_le o && is_ge (slice_cmp nat_cmp so.greatest so.text)) (sym so.low) ∙ ap (λ o. is_le standing.least && is_ge o) (sym so.high))
+      (may_differ_turned so.least so.greatest so.text
+      ∙ ap (λ o. is_ne o || is_ne (slice_cmp nat_cmp so.greatest so.text)) (sym so.low) ∙ ap (λ o. is_ne standing.least || is_ne o) (sym so.high))
+
+  -- `=` is the same the other way round
+  pub equal_turned : of_sides equal_between a b ≡ of_sides equal_between b a
+  equal_turned = sym equal_so ∙ equal_back

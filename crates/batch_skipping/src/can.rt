@@ -145,7 +145,7 @@ fn standing_to<C>(known: &Beginnings<'_>, literal: &Operand<C>) -> Option<Standi
     }
 }
 
-// The possible truths of a comparison of a column of texts with a literal, where their first bytes tell.
+// The possible truths of a comparison of a column of texts with a literal, on either side, where their first bytes tell.
 fn begun_compared<C, M: Measured<C>>(
     comparison: Comparison,
     left: &Operand<C>,
@@ -156,9 +156,11 @@ fn begun_compared<C, M: Measured<C>>(
     requires right { IsTrue (operand_names (M.has batch.now) right.now) }
     ensures { IfSome result (λ possible. possible ≡ can_compare comparison (side_of (M.stats batch.now) left.now) (side_of (M.stats batch.now) right.now)) }
 {
-    let known = beginnings_of(left, batch)?;
-    let standing = standing_to(&known, right)?;
-    Some(standing.can_compare(comparison))
+    if let Some(known) = beginnings_of(left, batch) {
+        return Some(standing_to(&known, right)?.can_compare(comparison));
+    }
+    let known = beginnings_of(right, batch)?;
+    Some(standing_to(&known, left)?.can_compare_turned(comparison))
 }
 
 // The same of BETWEEN.
@@ -174,11 +176,9 @@ fn begun_within<C, M: Measured<C>>(
     ensures { IfSome result (λ possible. possible ≡ can_be_within (side_of (M.stats batch.now) operand.now)
         (side_of (M.stats batch.now) low.now) (side_of (M.stats batch.now) high.now)) }
 {
-    let known = beginnings_of(operand, batch)?;
-    let low = standing_to(&known, low)?;
-    let high = standing_to(&known, high)?;
-    let above = low.can_compare(Comparison::GreaterOrEqual);
-    Some(above.and(high.can_compare(Comparison::LessOrEqual)))
+    let above = begun_compared(Comparison::GreaterOrEqual, operand, low, batch)?;
+    let below = begun_compared(Comparison::LessOrEqual, operand, high, batch)?;
+    Some(above.and(below))
 }
 
 // The same of the OR of the equalities with each item.

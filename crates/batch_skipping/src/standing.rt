@@ -80,6 +80,21 @@ impl Standing {
         }
     }
 
+    // The possible truths of a comparison of the one text with one of the texts: the literal stands in front.
+    #[tactic(auto, unfolding(crate::specs::Can::can_compare), using(crate::proofs::Standings::equal_turned))]
+    pub(crate) fn can_compare_turned(self, comparison: Comparison) -> Possible
+        ensures { (a b : StatsAt) → StandSo self a b → result ≡ can_compare comparison b a }
+    {
+        match comparison {
+            Comparison::Equal => self.can_equal(),
+            Comparison::NotEqual => self.can_equal().not(),
+            Comparison::Less => self.can_be_greater(),
+            Comparison::Greater => self.can_be_less(),
+            Comparison::LessOrEqual => self.can_be_less().not(),
+            Comparison::GreaterOrEqual => self.can_be_greater().not(),
+        }
+    }
+
     // The possible truths of `=`.
     fn can_equal(self) -> Possible
         ensures { (a b : StatsAt) → StandSo self a b → result ≡ of_sides equal_between a b }

@@ -11,5 +11,5 @@ abbrev pub AreKept : OwnedStats → StatsAt → Type 0
 AreKept (Nulls nulls) stats = stats ≡ record { ends = None; nulls = nulls }
 AreKept (Flags least greatest nulls) stats = stats ≡ record { ends = Some (Flag least, Flag greatest); nulls = nulls }
 AreKept (Numbers least greatest nulls) stats = stats ≡ record { ends = Some (Int least, Int greatest); nulls = nulls }
-AreKept (Texts least least_is_whole greatest greatest_is_whole nulls) stats =
+AreKept (Texts least_is_whole greatest_is_whole least greatest nulls) stats =
     BeginSo (least.bytes, least_is_whole) (greatest.bytes, greatest_is_whole) nulls stats

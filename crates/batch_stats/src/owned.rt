@@ -13,9 +13,9 @@ use arrayvec::ArrayString;
 use scan_base::ValueRef;
 
 // How many bytes are kept of a text.
-const MOST_BYTES: usize = 16;
+const MOST_BYTES: usize = 36;
 
-/// The statistics of a column, to be kept without it. They take 80 bytes.
+/// The statistics of a column, to be kept without it. They take 96 bytes.
 #[derive(Clone, Copy, Drop)]
 pub enum OwnedStats {
     /// Each value is null, or there is none.
@@ -32,20 +32,20 @@ pub enum OwnedStats {
         greatest: i128,
         nulls: usize,
     },
-    /// Of both texts the first bytes, at most 16, and whether they are all of it.
+    /// Of both texts the first bytes, at most 36, and whether they are all of it.
     Texts {
-        least: ShortText,
         least_is_whole: bool,
-        greatest: ShortText,
         greatest_is_whole: bool,
+        least: ShortText,
+        greatest: ShortText,
         nulls: usize,
     },
 }
 
-/// A text of at most 16 bytes.
+/// A text of at most 36 bytes.
 pub type ShortText = ArrayString<MOST_BYTES>;
 
-// The first characters of a text, in at most 16 bytes, and whether they are all of it.
+// The first characters of a text, in at most 36 bytes, and whether they are all of it.
 #[derive(Clone, Copy, Drop)]
 struct ShortBeginning {
     text: ShortText,

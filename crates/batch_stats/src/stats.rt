@@ -140,7 +140,7 @@ impl Stats {
         }
     }
 
-    /// The same without the column. Of texts it keeps the first characters, at most 16 bytes. It is `None` only of texts that are
+    /// The same without the column. Of texts it keeps the first characters, at most 36 bytes. It is `None` only of texts that are
     /// none: no column has such ends.
     pub fn owned(&self, column: &Column) -> Option<OwnedStats>
         requires { IsStatsOf column.now self.now }
