@@ -133,7 +133,7 @@ impl TableVersion {
     }
 
     /// What the values of a column of a batch are between, and how many are null. In the full pages of 256 batches it is read
-    /// without the batch, unless one of the two is a text of more than 16 bytes.
+    /// without the batch, unless one of the two is a text of more than 36 bytes.
     pub fn side(&self, index: usize, column: usize) -> Side<'_>
         requires batch { index < length self.now.batches }
         requires column { column < length self.now.schema.fields }
