@@ -4,7 +4,7 @@
     python3 bench/judging.py [--program PATH] [--batches N] [--rows N] [--runs N]
 
 It gives `flightscan pipe` one put of 200,000 batches of one row, of three columns of Int64, one of texts, one of a
-dictionary's texts, one of nulls alone and one of texts of 36 bytes, and behind it 100 fetches of one query. No batch can
+dictionary's texts, one of nulls alone, one of texts of 36 bytes and one of 43, and behind it 100 fetches of one query. No batch can
 hold a row that the query keeps, so a fetch binds its query and judges each batch, and answers a schema. Told are the
 processor time of a fetch, that of a put alone taken off; its nanoseconds for each batch; and for each batch and column
 that the WHERE looks at in it: of an AND the parts up to the first that cannot be true. The row `no rows` has an empty
@@ -32,7 +32,8 @@ from trees import UTF8, batch, dictionary, encoding, field, integer, schema, tex
 from wire import END, call, chunk, descriptor, packed, query_handle, record_message, record_open, ticket  # noqa: E402
 
 FETCHES = 100
-LONG = "a text of more bytes than a page has"
+WHOLE = "a text of the bytes that a page has:"  # 36
+LONG = "a text of more bytes than a page has of one"  # 43
 QUERIES = [  # a WHERE, and how many columns are looked at in each batch
     ("a = 5", 1),
     ("a < 1", 1),
@@ -45,10 +46,15 @@ QUERIES = [  # a WHERE, and how many columns are looked at in each batch
     ("s BETWEEN 'a' AND 'b'", 1),
     ("s IN ('a', 'b')", 1),
     ("w = 'x'", 1),
+    ("u = 'a text of the bytes that another has'", 1),
+    ("'a text of the bytes that one has' < u", 1),
     ("l = 'a text of other bytes than these'", 1),
     ("l = 'a text of more bytes than this one'", 1),
+    ("'a text of more bytes than a cat' > l", 1),
     ("l BETWEEN 'a text of a' AND 'a text of b'", 1),
+    ("l IN ('a text of a', 'a text of b')", 1),
     ("l IS NULL", 1),
+    (f"l = '{LONG[:38]}a cat'", 1),
     ("a = 1 AND b = 1 AND c = 5", 3),
     ("a = 5 OR b = 5 OR c = 5", 3),
     ("a = 1 AND s = 'text' AND w = 'x'", 3),
@@ -60,11 +66,12 @@ QUERIES = [  # a WHERE, and how many columns are looked at in each batch
 def put(batches, rows):
     """The records of a put, in which all batches are alike."""
     i64 = integer(64, True)
-    fields = [field(name, i64) for name in "abc"] + [field("s", UTF8), field("w", UTF8, dictionary=encoding(7)), field("n", i64, nullable=True), field("l", UTF8)]
+    fields = [field(name, i64) for name in "abc"] + [field("s", UTF8), field("w", UTF8, dictionary=encoding(7)), field("n", i64, nullable=True), field("u", UTF8), field("l", UTF8)]
     words = dictionary(7, batch(2, (0, b"", *texts([b"word", b"other"]))))
     ones = 0, b"", struct.pack(f"<{rows}q", *[1] * rows)
     nulls = rows, bytes(-(-rows // 8)), bytes(8 * rows)
-    made = batch(rows, ones, ones, ones, (0, b"", *texts([b"text"] * rows)), (0, b"", bytes(4 * rows)), nulls, (0, b"", *texts([LONG.encode()] * rows)))
+    alike = [(0, b"", *texts([text.encode()] * rows)) for text in ("text", WHOLE, LONG)]
+    made = batch(rows, ones, ones, ones, alike[0], (0, b"", bytes(4 * rows)), nulls, *alike[1:])
     front = chunk(1, descriptor(packed(b"CommandStatementIngest", b"\x0a\x02\x08\x01\x12\x01t")))
     yield record_open(b"DoPut")
     yield record_message(front + chunk(2, written("Message", schema(*fields), "spread")))
@@ -111,13 +118,13 @@ def main():
         alone, held = least(path, source, b"", words.runs)
         print(f"a put of {words.batches} batches of {words.rows} rows: {os.path.getsize(source) / 1e6:.0f} MB, "
               f"{alone:.2f} s of processor time, {held:.0f} MB held at most")
-        print(f"{'WHERE':36}{'ms a fetch':>12}{'ns a batch':>12}{'ns a column':>12}")
+        print(f"{'WHERE':56}{'ms a fetch':>12}{'ns a batch':>12}{'ns a column':>12}")
         for where, columns in QUERIES:
             calls = fetch(where, words.batches * words.rows) * FETCHES
             taken = (least(path, source, calls, words.runs)[0] - alone) / FETCHES
             of_batch = taken / words.batches * 1e9
             of_column = f"{of_batch / columns:12.0f}" if columns else ""
-            print(f"{where or 'no rows':36}{taken * 1e3:12.2f}{of_batch:12.0f}{of_column}", flush=True)
+            print(f"{where or 'no rows':56}{taken * 1e3:12.2f}{of_batch:12.0f}{of_column}", flush=True)
     print(measured.line())
 
 

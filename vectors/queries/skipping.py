@@ -14,8 +14,8 @@ many values, or few. The values that are used have codes of which two are neighb
 codes are taken for one, the statistics are others. Each column is also asked at the ends of its values in each batch.
 
 A last table has 530 batches. A server keeps the statistics of each 256 batches in a page, so these have two pages, and 18 batches
-behind them. A page holds the first characters of a text, in at most 16 bytes. Texts of 15 to 18 bytes come in each page. Some share
-all that a page holds of them, and some have a character of two bytes at the bytes 16 and 17.
+behind them. A page holds the first characters of a text, in at most 36 bytes. Texts of 35 to 38 bytes come in each page. Some share
+all that a page holds of them, and some have a character of two bytes at the bytes 36 and 37.
 
 Which batches are opened is written here from docs/SQL.md, section 7, over `may_hold` in truths.py. Each case is looked at in
 two more ways, which use no statistics or no rule about them: each row that is kept lies in a batch that is opened; and the
@@ -48,8 +48,9 @@ DEPTHS = [0, 0, 1, 1, 2]  # of a part
 TEXTS = [[f"abcdefgh{number:02}" for number in range(40)],
          [first + second for first in "aAbéz" for second in ["", " ", "a", "b", "é", "\U00010000"]],
          ["", "a", "a\0", "aa", "abcdefgh", "abcdefgh\0", "abcdefghi", "abcdefghij", "b"]]
-PAGED_TEXTS = sorted([f"abcdefghijklmn{number:02}" + "z" * (number % 3) for number in range(24)]  # of 16 to 18 bytes
-                     + [f"abcdefghijklm{number:02}" + ["é", "éz", "z", ""][number % 4] for number in range(16)])  # some cut at byte 15
+ALIKE = "abcdefghijklmnopqrstuvwxyz0123456"  # 33 bytes, with which each text begins
+PAGED_TEXTS = sorted([f"{ALIKE}n{number:02}" + "z" * (number % 3) for number in range(24)]  # of 36 to 38 bytes
+                     + [f"{ALIKE}{number:02}" + ["é", "éz", "z", ""][number % 4] for number in range(16)])  # some cut at byte 35
 CLASSES = {"f": bool, "g": bool, "s": str, "c": str, "c16": str, "c32": str, "c64": str}
 WIDTHS = {"c": 8, "c16": 16, "c32": 32, "c64": 64}  # of the indices of dictionaries
 
