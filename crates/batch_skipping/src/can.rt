@@ -163,6 +163,23 @@ fn begun_compared<C, M: Measured<C>>(
     Some(standing_to(&known, left)?.can_compare_turned(comparison))
 }
 
+// The same of a literal in front of a column. It is asked before any side is read as a range, which may need the batch.
+fn literal_compared<C, M: Measured<C>>(
+    comparison: Comparison,
+    left: &Operand<C>,
+    right: &Operand<C>,
+    batch: &M,
+) -> Option<Possible>
+    requires left { IsTrue (operand_names (M.has batch.now) left.now) }
+    requires right { IsTrue (operand_names (M.has batch.now) right.now) }
+    ensures { IfSome result (λ possible. possible ≡ can_compare comparison (side_of (M.stats batch.now) left.now) (side_of (M.stats batch.now) right.now)) }
+{
+    match left {
+        Operand::Literal(_) => begun_compared(comparison, left, right, batch),
+        Operand::Column(_) | Operand::Date(_) => None,
+    }
+}
+
 // The same of BETWEEN.
 fn begun_within<C, M: Measured<C>>(
     operand: &Operand<C>,
@@ -176,9 +193,14 @@ fn begun_within<C, M: Measured<C>>(
     ensures { IfSome result (λ possible. possible ≡ can_be_within (side_of (M.stats batch.now) operand.now)
         (side_of (M.stats batch.now) low.now) (side_of (M.stats batch.now) high.now)) }
 {
+    if let Some(known) = beginnings_of(operand, batch) {
+        let low = standing_to(&known, low)?;
+        let high = standing_to(&known, high)?;
+        let above = low.can_compare(Comparison::GreaterOrEqual);
+        return Some(above.and(high.can_compare(Comparison::LessOrEqual)));
+    }
     let above = begun_compared(Comparison::GreaterOrEqual, operand, low, batch)?;
-    let below = begun_compared(Comparison::LessOrEqual, operand, high, batch)?;
-    Some(above.and(below))
+    Some(above.and(begun_compared(Comparison::LessOrEqual, operand, high, batch)?))
 }
 
 // The same of the OR of the equalities with each item.
@@ -229,6 +251,9 @@ fn can_be_compared<C, M: Measured<C>>(
     requires right { IsTrue (operand_names (M.has batch.now) right.now) }
     ensures { result ≡ can_compare comparison (side_of (M.stats batch.now) left.now) (side_of (M.stats batch.now) right.now) }
 {
+    if let Some(possible) = literal_compared(comparison, left, right, batch) {
+        return possible;
+    }
     if let Some(possible) = ranges_compared::<i128, C, M>(comparison, left, right, batch) {
         return possible;
     }
