@@ -1,6 +1,6 @@
 //! Left rows that look for their partners, piece by piece.
 
-ghost use Rattle.std.specs.Prelude.{◌≡◌, ◌≤◌, ◌<◌, ◌+◌, ◌-◌, ◌++◌, ◌^◌, [], All, IfOk, OnOk, length, map, take};
+ghost use Rattle.std.specs.Prelude.{◌≡◌, ◌≤◌, ◌<◌, ◌+◌, ◌-◌, ◌++◌, ◌^◌, [], ℕ, Bool, All, IfOk, OnOk, length, map, take};
 ghost use Rattle.std.specs.List.{filter, range_with_len};
 ghost use Rattle.hash_join.specs.Searches.{ahead_of, probe_at, start_at, first_left, AreHeads, AreStarts, IsSearch, Passes};
 ghost use Rattle.hash_join.specs.Seen.{AreSeen};
@@ -37,8 +37,41 @@ pub(crate) struct Piece<'a> {
     pub(crate) to: usize,
 }
 
-// Writes the rows from one up to, not with, another that pass, one behind another, and gives how many they are. It takes no
-// branch by what a row tells.
+// So many rows are looked at before those that pass are written. What tells of a row is read faster with no write in between.
+const LOOKED_ROWS: usize = 64;
+
+// Whether each of some rows, from one on, passes.
+fn look_at<S: Sieve>(sieve: &S, from: usize, told: &mut [bool])
+    requires within { from + length told.old ≤ S.count sieve.now }
+    requires small { from + length told.old ≤ 2 ^ 32 }
+    ensures long { length told.new ≡ length told.old }
+    ensures told { told.new ≡ map (S.passes sieve.now) (range_with_len from (length told.old)) }
+{
+    for index in 0..told.len() {
+        told[index] = sieve.passes(from + index);
+    }
+}
+
+// Writes those rows from one on of which it is told that they pass, behind so many others, and gives how many they are with
+// these. It takes no branch by what is told.
+fn keep_told(from: usize, told: &[bool], kept: &mut [u32], count: usize) -> usize
+    requires small { from + length told.now ≤ 2 ^ 32 }
+    requires room { count + length told.now ≤ length kept.old }
+    ensures few { result ≤ count + length told.now }
+    ensures long { length kept.new ≡ length kept.old }
+    ensures kept { (passes : ℕ → Bool) (first : ℕ) → first ≤ from → told.now ≡ map passes (range_with_len from (length told.now))
+        → take count kept.old ≡ filter passes (range_with_len first (from - first))
+        → take result kept.new ≡ filter passes (range_with_len first (from + length told.now - first)) }
+{
+    let mut next = count;
+    for index in 0..told.len() {
+        kept[next] = (from + index) as u32;
+        next += told[index] as usize;
+    }
+    next
+}
+
+// Writes the rows from one up to, not with, another that pass, one behind another, and gives how many they are.
 fn keep_passing<S: Sieve>(sieve: &S, from: usize, to: usize, kept: &mut [u32]) -> usize
     requires ordered { from ≤ to }
     requires within { to ≤ S.count sieve.now }
@@ -48,10 +81,13 @@ fn keep_passing<S: Sieve>(sieve: &S, from: usize, to: usize, kept: &mut [u32]) -
     ensures long { length kept.new ≡ length kept.old }
     ensures kept { take result kept.new ≡ filter (S.passes sieve.now) (range_with_len from (to - from)) }
 {
-    let mut count = 0usize;
-    for row in from..to {
-        kept[count] = row as u32;
-        count += sieve.passes(row) as usize;
+    let mut told = [false; LOOKED_ROWS];
+    let (mut count, mut at) = (0, from);
+    'looks: while at < to {
+        let rows = LOOKED_ROWS.min(to - at);
+        look_at(sieve, at, &mut told[..rows]);
+        count = keep_told(at, &told[..rows], kept, count);
+        at += rows;
     }
     count
 }
