@@ -19,7 +19,7 @@ use Rattle.scan_base.specs.Value.{is_null}
 use Rattle.hash_join.specs.Pairs.{keys_join}
 use Rattle.hash_join.specs.declared.buckets.Buckets.{Buckets}
 use Rattle.hash_join.specs.declared.buckets.Buckets.TheVariants as parted
-use Rattle.hash_join.specs.Hashes.{fed, hash_of, number_of, product_of, bucket_among, bucket_of}
+use Rattle.hash_join.specs.Hashes.{fed, hash_from, number_of, product_of, bucket_among, bucket_of}
 use Rattle.hash_join.specs.Chains.{stands}
 
 kept : (b : Bool) → keeps (truth_from b) ≡ true → b ≡ true
@@ -59,13 +59,13 @@ same_keys (a ∷ xs) (b ∷ ys) e h =
     ap (λ v. v ∷ xs) (equal_values a b parts.0) ∙ ap (λ vs. b ∷ vs) (same_keys xs ys (omega (arith, e)) parts.1)
 
 -- a key that joins has a hash
-some_hash : (begun : DefaultHasher) (xs ys : List Value) → length xs ≡ length ys → keys_join xs ys ≡ true →
-    (hash : ℕ) × (hash_of begun xs ≡ Some hash)
-some_hash begun [] ys e h = (_, refl)
-some_hash begun (a ∷ xs) [] e h = absurd (omega (arith, e))
-some_hash begun (a ∷ xs) (b ∷ ys) e h =
+some_hash : (begun hasher : DefaultHasher) (xs ys : List Value) → length xs ≡ length ys → keys_join xs ys ≡ true →
+    (hash : ℕ) × (hash_from begun hasher xs ≡ Some hash)
+some_hash begun hasher [] ys e h = (_, refl)
+some_hash begun hasher (a ∷ xs) [] e h = absurd (omega (arith, e))
+some_hash begun hasher (a ∷ xs) (b ∷ ys) e h =
     let parts = and_parts (keeps (compared Equal a b)) (keys_join xs ys) h in
-    let rest = some_hash (fed begun a) xs ys (omega (arith, e)) parts.1 in
+    let rest = some_hash begun (fed begun hasher a) xs ys (omega (arith, e)) parts.1 in
     (rest.0, rw (equal_known a b parts.0) rest.1)
 
 -- no part of it is null
@@ -79,7 +79,7 @@ none_null (a ∷ xs) (b ∷ ys) e h =
 -- a key that joins has a bucket
 some_bucket : (buckets : Buckets) (xs ys : List Value) → length xs ≡ length ys → keys_join xs ys ≡ true → (bucket : ℕ) × (bucket_of buckets xs ≡ Some bucket)
 some_bucket (parted.Hashed hashing) xs ys e h =
-    let hash = some_hash hashing.begun xs ys e h in (_, ap (option_map (λ hash. bit_and hash hashing.mask)) hash.1)
+    let hash = some_hash hashing.begun hashing.begun xs ys e h in (_, ap (option_map (λ hash. bit_and hash hashing.mask)) hash.1)
 some_bucket (parted.Multiplied product) xs ys e h =
     (product_of product (number_of xs), ap (λ (null : Bool). if null then None else Some (product_of product (number_of xs))) (none_null xs ys e h))
 some_bucket (parted.Ranked ranks) xs ys e h =

@@ -18,17 +18,25 @@ use Rattle.hash_join.specs.declared.buckets.Buckets.TheVariants as parted
 use Rattle.hash_join.specs.Indices.{index_among}
 use Rattle.hash_join.specs.Ranks.{rank_at}
 
--- a hasher that was fed a value
-abbrev pub fed : DefaultHasher → Value → DefaultHasher
-fed hasher Null = hasher
-fed hasher (Flag flag) = fold sip.write hasher (written.bool flag)
-fed hasher (Int number) = fold sip.write hasher (written.i128 number)
-fed hasher (Text text) = fold sip.write hasher (written.str text)
+-- the digest of a text: 32 bits of its own hash, which begins as the key's
+abbrev pub text_digest : DefaultHasher → List ℕ → ℕ
+text_digest begun text = sip.finish (fold sip.write begun (written.str text)) % 2 ^ 32
+
+-- a hasher that was fed a value: of a text its digest
+abbrev pub fed : DefaultHasher → DefaultHasher → Value → DefaultHasher
+fed begun hasher Null = hasher
+fed begun hasher (Flag flag) = fold sip.write hasher (written.bool flag)
+fed begun hasher (Int number) = fold sip.write hasher (written.i128 number)
+fed begun hasher (Text text) = fold sip.write hasher (written.u32 (text_digest begun text))
+
+-- the hash of the values that follow those that a hasher was fed; none where one of them is null
+abbrev pub hash_from : DefaultHasher → DefaultHasher → List Value → Option ℕ
+hash_from begun hasher [] = Some (sip.finish hasher)
+hash_from begun hasher (value ∷ values) = if is_null value then None else hash_from begun (fed begun hasher value) values
 
 -- the hash of a key; none where a part of it is null
 abbrev pub hash_of : DefaultHasher → List Value → Option ℕ
-hash_of hasher [] = Some (sip.finish hasher)
-hash_of hasher (value ∷ values) = if is_null value then None else hash_of (fed hasher value) values
+hash_of begun key = hash_from begun begun key
 
 -- the bucket of a key by its hash: the last bits of it
 abbrev pub hashed_bucket : Hashing → List Value → Option ℕ

@@ -8,7 +8,7 @@ ghost use Rattle.scan_base.specs.Value.{value_of, is_null};
 ghost use Rattle.scan_base.specs.declared.comparison.Comparison.TheVariants.{Equal};
 ghost use Rattle.scan_base.specs.declared.value.Value.TheVariants.{Null};
 ghost use Rattle.hash_join.specs.Pairs.{keys_join};
-ghost use Rattle.hash_join.specs.Hashes.{fed, hash_of, number_of};
+ghost use Rattle.hash_join.specs.Hashes.{fed, hash_of, number_of, text_digest};
 ghost use Rattle.hash_join.specs.KeyRows.{key_beside, key_of, IsKeyRow};
 
 use crate::key_codes::{code_at, have_one_code, have_one_number, number_at};
@@ -138,7 +138,7 @@ impl<'a> KeyRow<'a> {
     {
         let mut hasher = begun;
         for number in 0..self.key.len() {
-            if !feed(&mut hasher, self.part(number)) {
+            if !feed(begun, &mut hasher, self.part(number)) {
                 return None;
             }
         }
@@ -171,16 +171,25 @@ fn is_null(value: ValueRef<'_>) -> bool
     }
 }
 
-// Feeds a value to a hasher; false where it is null.
-fn feed(hasher: &mut DefaultHasher, value: ValueRef<'_>) -> bool
+// The digest of a text, whose hash begins with what a hasher has taken in.
+fn text_digest(begun: DefaultHasher, text: &str) -> u32
+    ensures { result ≡ text_digest begun text.now }
+{
+    let mut hasher = begun;
+    text.hash(&mut hasher);
+    (hasher.finish() % (1 << 32)) as u32
+}
+
+// Feeds a value to a hasher; false where it is null. Of a text it feeds the digest.
+fn feed(begun: DefaultHasher, hasher: &mut DefaultHasher, value: ValueRef<'_>) -> bool
     ensures there { result ≡ not (is_null (value_of value.entry)) }
-    ensures fed { hasher.new ≡ fed hasher.old (value_of value.entry) }
+    ensures fed { hasher.new ≡ fed begun hasher.old (value_of value.entry) }
 {
     match value {
         ValueRef::Null => return false,
         ValueRef::Bool(flag) => flag.hash(hasher),
         ValueRef::Int(number) => number.hash(hasher),
-        ValueRef::Text(text) => text.hash(hasher),
+        ValueRef::Text(text) => text_digest(begun, text).hash(hasher),
     }
     true
 }
