@@ -1,18 +1,18 @@
 -- Slots that are indices, read by their bits.
-use Rattle.std.proofs.Common.{◌≡◌, ◌≤◌, ◌<◌, ◌^◌, ℕ, zero, suc, ℤ, pos, negsuc, ◌+◌, ◌-◌, ◌*◌, ◌||◌, not, Bool, true, false, if◌then◌else◌, nat_lt, List, [], ◌∷◌, length, map, get_or, Option, Some, None, is_some, unwrap_or, refl, sym, ap, subst, ◌∙◌, arith}
+use Rattle.std.proofs.Common.{◌≡◌, ◌≤◌, ◌<◌, ◌^◌, ℕ, zero, suc, pos, negsuc, ◌+◌, ◌-◌, ◌*◌, Bool, true, false, nat_lt, List, [], ◌∷◌, length, map, get_or, is_some, refl, sym, ap, subst, ◌∙◌, arith}
 use Rattle.std.specs.Prelude.{slice_get}
 use Rattle.std.specs.List.{filter, range_with_len}
 use Rattle.std.proofs.Math.Nat.{mul-le-mul_left}
-use Rattle.std.proofs.lemmas.Option.{slice_get_within, slice_get-get_or}
+use Rattle.std.proofs.lemmas.Option.{slice_get-get_or}
 use Rattle.scan_base.specs.declared.value.Value.{Value}
 use Rattle.scan_base.specs.declared.value.Value.TheVariants.{Null}
 use Rattle.scan_base.specs.Value.{is_null}
 use Rattle.arrow_schema.specs.declared.data_type.IntegerType.{IntegerType}
 use Rattle.arrow_schema.specs.DataType.{bit_width, is_signed}
-use Rattle.arrays.specs.Number.{byte_width, element_at, number_from, signed_from}
+use Rattle.arrays.specs.Number.{byte_width, element_at, number_from}
 use Rattle.arrays.specs.Validity.{is_valid}
 use Rattle.arrays.specs.Dictionary.{entry_at}
-use Rattle.arrays.specs.Indices.{IndicesAt, AreIndices, entry_of, index_stands}
+use Rattle.arrays.specs.Indices.{IndicesAt, AreIndices, entry_of}
 use Rattle.arrays.specs.Layout.{layout_count, layout_slot}
 use Rattle.arrays.specs.Nulls.{null_count}
 use Rattle.arrays.specs.Column.{ColumnAt, IsColumn, slot_of}

@@ -1,10 +1,9 @@
 -- Tables of where the values of a dictionary stand among texts.
-use Rattle.std.proofs.Common.{◌≡◌, ◌≢◌, ◌<◌, ℕ, [], ◌∷◌, List, length, get_or, replicate, set, slice_index, Option, Some, None, cond, nat_eq, true, false, refl, ap, sym, ◌∙◌, inl, inr, arith}
+use Rattle.std.proofs.Common.{◌≡◌, ◌≢◌, ◌<◌, ℕ, List, length, get_or, replicate, set, slice_index, Option, Some, cond, nat_eq, refl, ap, sym, ◌∙◌, inl, inr, arith}
 use Rattle.std.proofs.lemmas.Bool.{cases_eq, eq-eqb, ne_eqb}
 use Rattle.std.proofs.lemmas.List.{length-replicate, get_or-replicate, length-set, get_or-set_same, get_or-set_other}
 use Rattle.scan_base.specs.declared.value.Value.{Value}
-use Rattle.scan_base.specs.declared.value.Value.TheVariants.{Null, Bool as Flag, Int, Text}
-use Rattle.dictionary_answers.specs.Firsts.{firsts_behind, Leads}
+use Rattle.scan_base.specs.declared.value.Value.TheVariants.{Null}
 use Rattle.dictionary_answers.specs.Coded.{held, no_place}
 use Rattle.dictionary_answers.specs.inside.Coding.{FoundAt, Finds}
 use Rattle.dictionary_answers.specs.inside.Table.{AreMet, IsTable}

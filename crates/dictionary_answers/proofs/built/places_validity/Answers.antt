@@ -1,5 +1,4 @@
-use Rattle.std.proofs.Common.{◌≡◌, ◌∙◌, ◌<◌, ◌≤◌, ℕ, List, Bool, length, map, not, nat_eq, take, true, false, refl, sym, ap, arith}
-use Rattle.std.specs.List.{list_any}
+use Rattle.std.proofs.Common.{◌∙◌, ℕ, map, not, nat_eq, sym, ap}
 use Rattle.std.proofs.lemmas.List.{take_all}
 use Rattle.dictionary_answers.specs.Coded.{no_place}
 use Rattle.dictionary_answers.proofs.Marks.{valid_all, valid_bits}

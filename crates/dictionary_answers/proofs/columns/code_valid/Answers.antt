@@ -1,4 +1,4 @@
-use Rattle.std.proofs.Common.{◌≡◌, ◌<◌, ◌+◌, ◌∷◌, [], ◌∙◌, List, length, sym, subst, take, get_or, rules, arith}
+use Rattle.std.proofs.Common.{◌<◌, ◌+◌, ◌∷◌, [], List, sym, subst, take, get_or, rules, arith}
 use Rattle.scan_base.specs.declared.value.Value.{Value}
 use Rattle.scan_base.specs.declared.value.Value.TheVariants.{Null}
 use Rattle.arrays.specs.Column.{slot_of, values_of}

@@ -1,4 +1,4 @@
-use Rattle.std.proofs.Common.{◌<◌, ◌+◌, ◌∷◌, [], ◌∙◌, sym, subst, take, rules, arith}
+use Rattle.std.proofs.Common.{◌<◌, ◌+◌, ◌∷◌, [], sym, subst, take, rules, arith}
 use Rattle.scan_base.specs.declared.value.Value.{Value}
 use Rattle.scan_base.specs.Value.{value_of, IsTextOrNull}
 use Rattle.arrays.specs.Column.{slot_of, values_of}

@@ -1,4 +1,4 @@
-use Rattle.std.proofs.Common.{◌∙◌, nat_eq, get_or, sym, subst}
+use Rattle.std.proofs.Common.{nat_eq, get_or, sym, subst}
 use Rattle.indexmap.specs.IndexMap.{get}
 use Rattle.scan_base.specs.declared.value.Value.{Value}
 use Rattle.scan_base.specs.declared.value.Value.TheVariants.{Null}
