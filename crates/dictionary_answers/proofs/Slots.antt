@@ -6,8 +6,8 @@ use Rattle.std.proofs.lemmas.List.FromFn.{length-map-range_with_len, get_or-map-
 use Rattle.scan_base.specs.declared.value.Value.{Value}
 use Rattle.scan_base.specs.declared.value.Value.TheVariants.{Null}
 use Rattle.dictionary_answers.specs.Firsts.{firsts, firsts_behind, bytes_in}
-use Rattle.dictionary_answers.specs.Coded.{CodedAt, AreCoded}
-use Rattle.dictionary_answers.specs.inside.Coding.{FoundAt, Finds, coded_at}
+use Rattle.dictionary_answers.specs.Coded.{CodedAt, AreCoded, FoundAt, coded_at}
+use Rattle.dictionary_answers.specs.inside.Coding.{Finds}
 use Rattle.dictionary_answers.proofs.Places.{coded_more, firsts_more, few_behind, bytes_behind}
 
 -- one slot more

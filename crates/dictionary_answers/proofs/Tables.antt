@@ -4,8 +4,8 @@ use Rattle.std.proofs.lemmas.Bool.{cases_eq, eq-eqb, ne_eqb}
 use Rattle.std.proofs.lemmas.List.{length-replicate, get_or-replicate, length-set, get_or-set_same, get_or-set_other}
 use Rattle.scan_base.specs.declared.value.Value.{Value}
 use Rattle.scan_base.specs.declared.value.Value.TheVariants.{Null}
-use Rattle.dictionary_answers.specs.Coded.{held, no_place}
-use Rattle.dictionary_answers.specs.inside.Coding.{FoundAt, Finds}
+use Rattle.dictionary_answers.specs.Coded.{held, no_place, FoundAt}
+use Rattle.dictionary_answers.specs.inside.Coding.{Finds}
 use Rattle.dictionary_answers.specs.inside.Table.{AreMet, IsTable}
 use Rattle.dictionary_answers.proofs.Adding.{held_some}
 use Rattle.dictionary_answers.proofs.Places.{leads_behind}

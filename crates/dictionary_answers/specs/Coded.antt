@@ -1,5 +1,5 @@
 -- A column of texts that is coded.
-use Rattle.std.specs.Prelude.{◌≡◌, ℕ, ◌+◌, List, Option, None, Some, nat_eq, if◌then◌else◌}
+use Rattle.std.specs.Prelude.{◌≡◌, ℕ, ◌+◌, List, Option, None, Some, map, nat_eq, if◌then◌else◌}
 use Rattle.scan_base.specs.declared.value.Value.{Value}
 use Rattle.dictionary_answers.specs.Firsts.{firsts, bytes_in, AreLed}
 
@@ -16,6 +16,15 @@ pub record CodedAt : Type 0 where
   pub texts : List (List ℕ)
   pub places : List (Option ℕ)
   pub left : ℕ
+
+-- texts that were found, and how many bytes more they may have
+pub record FoundAt : Type 0 where
+  pub texts : List (List ℕ)
+  pub left : ℕ
+
+-- these texts, and the places of slots among them
+abbrev pub coded_at : FoundAt → List ℕ → CodedAt
+coded_at found places = record { texts = found.texts; places = map held places; left = found.left }
 
 -- The values are coded: the texts are theirs, each place leads to its value, and the bytes of the texts and those that
 -- are left are all for which there was room.

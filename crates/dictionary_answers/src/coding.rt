@@ -1,8 +1,7 @@
 //! The texts of a column, each once, and which of them each slot holds.
 
 ghost use Rattle.std.specs.Prelude.{◌≡◌, map};
-ghost use Rattle.dictionary_answers.specs.Coded.{held};
-ghost use Rattle.dictionary_answers.specs.inside.Coding.{coded_at};
+ghost use Rattle.dictionary_answers.specs.Coded.{coded_at, held};
 
 use crate::found::Found;
 use std::alloc::{AllocError, AllocFailed};
@@ -48,8 +47,7 @@ pub struct Coded<'t> {
 }
 
 impl<'t> Model for Coded<'t> {
-    ghost use Rattle.dictionary_answers.specs.Coded.{CodedAt};
-    ghost use Rattle.dictionary_answers.specs.inside.Coding.{coded_at};
+    ghost use Rattle.dictionary_answers.specs.Coded.{CodedAt, coded_at};
 
     ghost Value = { CodedAt };
 

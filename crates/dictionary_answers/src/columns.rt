@@ -10,8 +10,8 @@ ghost use Rattle.arrays.specs.Number.{byte_width};
 ghost use Rattle.arrays.specs.declared.layout.Layout.TheVariants as layout;
 ghost use Rattle.dictionary_answers.specs.declared.coding.Stop.TheVariants.{OutOfRoom};
 ghost use Rattle.dictionary_answers.specs.Firsts.{bytes_in, firsts, firsts_behind};
-ghost use Rattle.dictionary_answers.specs.Coded.{AreCoded};
-ghost use Rattle.dictionary_answers.specs.inside.Coding.{coded_at, Finds};
+ghost use Rattle.dictionary_answers.specs.Coded.{AreCoded, coded_at};
+ghost use Rattle.dictionary_answers.specs.inside.Coding.{Finds};
 ghost use Rattle.dictionary_answers.specs.inside.Table.{AreMet, IsTable};
 
 use crate::coding::{Coded, NO_PLACE, Stop};

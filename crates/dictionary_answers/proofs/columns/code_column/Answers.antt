@@ -1,8 +1,7 @@
 use Rattle.std.proofs.Common.{◌≡◌, ℕ, List, ◌++◌, length, take, drop, sym, ap, subst, arith}
 use Rattle.std.proofs.lemmas.List.{append-nil, drop_all, take_all}
 use Rattle.arrays.specs.Column.{values_of}
-use Rattle.dictionary_answers.specs.Coded.{AreCoded}
-use Rattle.dictionary_answers.specs.inside.Coding.{FoundAt, coded_at}
+use Rattle.dictionary_answers.specs.Coded.{AreCoded, FoundAt, coded_at}
 use Rattle.dictionary_answers.proofs.columns.code_column.Goals as goal
 
 -- a slice of all of a list, as it is written back

@@ -1,8 +1,7 @@
 use Rattle.std.proofs.Common.{map, take}
 use Rattle.std.specs.List.{range_with_len}
 use Rattle.arrays.specs.Column.{slot_of}
-use Rattle.dictionary_answers.specs.Coded.{AreCoded}
-use Rattle.dictionary_answers.specs.inside.Coding.{coded_at}
+use Rattle.dictionary_answers.specs.Coded.{AreCoded, coded_at}
 use Rattle.dictionary_answers.proofs.columns.code_values.Given as goal
 
 -- the slots so far are coded
