@@ -3,12 +3,8 @@ use Rattle.std.proofs.Common.{◌≡◌, ◌≤◌, ◌<◌, ◌^◌, ℕ, zero,
 use Rattle.std.specs.Prelude.{slice_get}
 use Rattle.std.specs.List.{range_with_len}
 use Rattle.std.proofs.lemmas.Bool.{lt-ltb}
-use Rattle.std.proofs.Math.Seq.{drop-append_seam}
 use Rattle.std.proofs.lemmas.List.{length-append, length-map, get_or-map}
 use Rattle.std.proofs.lemmas.Option.{slice_get_within, slice_get-get_or, get_or_from_slice_get}
-use Rattle.byteorder.specs.Endian.{little_from, little_bytes}
-use Rattle.byteorder.specs.Numbers.{little_number-reads_back, length-bytes_low_first}
-use Rattle.bitmap.proofs.Masks.{little_drop}
 use Rattle.scan_base.specs.declared.value.Value.{Value}
 use Rattle.scan_base.specs.declared.value.Value.TheVariants.{Null, Text}
 use Rattle.scan_base.specs.Value.{IsTextOrNull}
@@ -20,30 +16,7 @@ use Rattle.arrays.specs.Indices.{IndicesAt, AreIndices, entry_of, index_stands}
 use Rattle.arrays.specs.Layout.{layout_slot}
 use Rattle.arrays.specs.declared.layout.Layout.TheVariants as layout
 use Rattle.dictionary_answers.specs.Firsts.{Leads, AreLed}
-use Rattle.dictionary_answers.specs.inside.Packed.{packed_places, AreValidWhereSome}
-
--- a number read behind a list
-behind : (xs ys : List ℕ) (p n : ℕ) → little_from (length xs + p) n (xs ++ ys) ≡ little_from p n ys
-behind xs ys p n = sym (little_drop (length xs) p n (xs ++ ys)) ∙ ap (little_from p n) (drop-append_seam xs ys)
-
--- how many bytes the places have
-pub length-packed : (places : List (Option ℕ)) → length (packed_places places) ≡ 4 * length places
-length-packed [] = refl
-length-packed (place ∷ places) =
-    let bytes = little_bytes 4 (unwrap_or place 0) in
-    omega (arith, length-append bytes (packed_places places), length-bytes_low_first 0 4 (unwrap_or place 0), length-packed places)
-
--- a place is read back
-pub place_again : (places : List (Option ℕ)) (k : ℕ) → k < length places → unwrap_or (get_or places k None) 0 < 2 ^ 32 →
-    element_at 4 (packed_places places) k ≡ unwrap_or (get_or places k None) 0
-unfolding element_at
-place_again [] k low small = absurd (omega arith)
-place_again (place ∷ places) zero low small = little_number-reads_back 4 (unwrap_or place 0) (packed_places places) (omega arith)
-place_again (place ∷ places) (suc k) low small =
-    let at : 4 * suc k ≡ length (little_bytes 4 (unwrap_or place 0)) + 4 * k = omega (arith, length-bytes_low_first 0 4 (unwrap_or place 0)) in
-    ap (λ (p : ℕ). little_from p 4 (little_bytes 4 (unwrap_or place 0) ++ packed_places places)) at
-    ∙ behind (little_bytes 4 (unwrap_or place 0)) (packed_places places) (4 * k) 4
-    ∙ place_again places k (omega arith) small
+use Rattle.dictionary_answers.specs.inside.Packed.{ArePacked, AreValidWhereSome}
 
 -- a small number of 32 bits has no sign
 plain : (n : ℕ) → n < 2 ^ 31 → number_from Int32 n ≡ pos n
@@ -80,52 +53,52 @@ entry_there texts place text there =
     ∙ ap Some (get_or-map Text texts place [] Null low ∙ ap Text (get_or_from_slice_get texts place text [] there))
 
 -- the entry of a slot that has a place
-entry_is : (texts : List (List ℕ)) (places : List (Option ℕ)) (validity : Option (List Bool)) (k place : ℕ) (text : List ℕ) → k < length places → length texts ≤ 2 ^ 31 →
-    get_or places k None ≡ Some place → slice_get texts place ≡ Some text →
-    entry_of (cells_of validity (packed_places places) (map Text texts) (length places)) k ≡ Some (Text text)
-entry_is texts places validity k place text low few at there =
+entry_is : (texts : List (List ℕ)) (places : List (Option ℕ)) (validity : Option (List Bool)) (packed : List ℕ) (k place : ℕ) (text : List ℕ) → k < length places → length texts ≤ 2 ^ 31 →
+    ArePacked packed places → get_or places k None ≡ Some place → slice_get texts place ≡ Some text →
+    entry_of (cells_of validity packed (map Text texts) (length places)) k ≡ Some (Text text)
+entry_is texts places validity packed k place text low few are at there =
     let within = slice_get_within texts place text there in
     let is : unwrap_or (get_or places k None) 0 ≡ place = ap (λ (p : Option ℕ). unwrap_or p 0) at in
-    let read = place_again places k low (omega (arith, is, within)) ∙ is in
+    let read = are.each k low ∙ is in
     ap (λ (n : ℤ). entry_at (map Text texts) n) (ap (number_from Int32) read ∙ plain place (omega (arith, within))) ∙ entry_there texts place text there
 
 -- the slot has the value to which its place leads, and its index stands
-pub slot_leads : (texts : List (List ℕ)) (places : List (Option ℕ)) (validity : Option (List Bool)) (k : ℕ) (value : Value) → k < length places → length texts ≤ 2 ^ 31 →
-    AreValidWhereSome validity places → Leads texts (get_or places k None) value →
-    (layout_slot (layout.Indices (cells_of validity (packed_places places) (map Text texts) (length places))) k ≡ value)
-    × (index_stands (cells_of validity (packed_places places) (map Text texts) (length places)) k ≡ true)
-slot_leads texts places validity k value low few valid leads = by (get_or places k None) refl leads
+pub slot_leads : (texts : List (List ℕ)) (places : List (Option ℕ)) (validity : Option (List Bool)) (packed : List ℕ) (k : ℕ) (value : Value) → k < length places → length texts ≤ 2 ^ 31 →
+    ArePacked packed places → AreValidWhereSome validity places → Leads texts (get_or places k None) value →
+    (layout_slot (layout.Indices (cells_of validity packed (map Text texts) (length places))) k ≡ value)
+    × (index_stands (cells_of validity packed (map Text texts) (length places)) k ≡ true)
+slot_leads texts places validity packed k value low few are valid leads = by (get_or places k None) refl leads
   where
     by : (place : Option ℕ) → get_or places k None ≡ place → Leads texts place value →
-        (layout_slot (layout.Indices (cells_of validity (packed_places places) (map Text texts) (length places))) k ≡ value)
-        × (index_stands (cells_of validity (packed_places places) (map Text texts) (length places)) k ≡ true)
+        (layout_slot (layout.Indices (cells_of validity packed (map Text texts) (length places))) k ≡ value)
+        × (index_stands (cells_of validity packed (map Text texts) (length places)) k ≡ true)
     by None e leads =
         let is : is_valid validity k ≡ false = valid.each k low ∙ ap is_some e in
         (rw is (sym leads), rw is refl)
     by (Some place) e leads =
         let is : is_valid validity k ≡ true = valid.each k low ∙ ap is_some e in
-        let entry = entry_is texts places validity k place leads.0 low few e leads.1 in
+        let entry = entry_is texts places validity packed k place leads.0 low few are e leads.1 in
         (rw (is, entry) (sym leads.2), rw (is, entry) refl)
 
 -- such slots stand
-pub indices_stand : (texts : List (List ℕ)) (places : List (Option ℕ)) (validity : Option (List Bool)) (values : List Value) → length texts ≤ 2 ^ 31 → AreValidWhereSome validity places →
-    AreLed texts places values → All IsTextOrNull (map Text texts) → AreIndices (cells_of validity (packed_places places) (map Text texts) (length places))
-indices_stand texts places validity values few valid led are = record {
+pub indices_stand : (texts : List (List ℕ)) (places : List (Option ℕ)) (validity : Option (List Bool)) (packed : List ℕ) (values : List Value) → length texts ≤ 2 ^ 31 → ArePacked packed places → AreValidWhereSome validity places →
+    AreLed texts places values → All IsTextOrNull (map Text texts) → AreIndices (cells_of validity packed (map Text texts) (length places))
+indices_stand texts places validity packed values few held valid led are = record {
   validity = valid.long;
-  values = omega (arith, length-packed places);
-  indices = λ k low. (slot_leads texts places validity k (get_or values k Null) low few valid (led_at texts places values led k low)).1;
+  values = omega (arith, held.long);
+  indices = λ k low. (slot_leads texts places validity packed k (get_or values k Null) low few held valid (led_at texts places values led k low)).1;
   texts = are;
 }
 
 -- and lead to their values
-pub indices_led : (texts : List (List ℕ)) (places : List (Option ℕ)) (validity : Option (List Bool)) (values : List Value) → length texts ≤ 2 ^ 31 → AreValidWhereSome validity places →
+pub indices_led : (texts : List (List ℕ)) (places : List (Option ℕ)) (validity : Option (List Bool)) (packed : List ℕ) (values : List Value) → length texts ≤ 2 ^ 31 → ArePacked packed places → AreValidWhereSome validity places →
     AreLed texts places values →
-    AreLed texts places (map (λ j. layout_slot (layout.Indices (cells_of validity (packed_places places) (map Text texts) (length places))) (0 + j)) (range_with_len 0 (length places)))
-indices_led texts places validity values few valid led =
-    led_all texts places (λ j. layout_slot (layout.Indices (cells_of validity (packed_places places) (map Text texts) (length places))) (0 + j)) 0
+    AreLed texts places (map (λ j. layout_slot (layout.Indices (cells_of validity packed (map Text texts) (length places))) (0 + j)) (range_with_len 0 (length places)))
+indices_led texts places validity packed values few held valid led =
+    led_all texts places (λ j. layout_slot (layout.Indices (cells_of validity packed (map Text texts) (length places))) (0 + j)) 0
     (λ k low.
     let leads = led_at texts places values led k low in
-    let is = (slot_leads texts places validity k (get_or values k Null) low few valid leads).0 in
+    let is = (slot_leads texts places validity packed k (get_or values k Null) low few held valid leads).0 in
     let z : 0 + (0 + k) ≡ k = omega arith in
     rw (z, is) leads)
 

@@ -3,6 +3,7 @@ pub mod Adding
 pub mod Tables
 pub mod Indexed
 pub mod Slots
+pub mod Numbers
 pub mod IndicesMade
 pub mod Marks
 pub mod Parts

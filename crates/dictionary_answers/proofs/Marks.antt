@@ -1,9 +1,12 @@
 -- Lists of places where a mark stands for none.
-use Rattle.std.proofs.Common.{◌≡◌, ◌<◌, ℕ, zero, suc, ◌+◌, ◌||◌, not, Bool, true, false, List, [], ◌∷◌, length, map, get_or, nat_eq, Option, Some, None, is_some, unwrap_or, refl, sym, ap, ◌∙◌, arith}
-use Rattle.std.specs.List.{flat_map, list_any}
-use Rattle.std.proofs.lemmas.List.{length-map, get_or-map}
+use Rattle.std.proofs.Common.{◌≡◌, ◌≢◌, ◌≤◌, ◌<◌, ℕ, zero, suc, ◌+◌, ◌/◌, ◌||◌, not, Bool, true, false, List, [], ◌∷◌, length, map, get_or, set, nat_eq, Option, Some, None, is_some, unwrap_or, refl, sym, ap, ◌∙◌, arith}
+use Rattle.std.specs.List.{list_any}
+use Rattle.std.proofs.lemmas.Bool.{ne_eqb}
+use Rattle.std.proofs.lemmas.List.{length-map, get_or-map, get_or_default}
 use Rattle.std.proofs.lemmas.List.FromFn.{length-map-range_with_len, get_or-map-range_with_len}
-use Rattle.byteorder.specs.Endian.{little_bytes}
+use Rattle.byteorder.specs.Endian.{IsMapped}
+use Rattle.byteorder.proofs.Slices.{MappedTo, mapped_all, mapped_more}
+use Rattle.arrays.specs.Number.{element_at}
 use Rattle.scan_base.specs.declared.value.Value.{Value}
 use Rattle.scan_base.specs.declared.value.Value.TheVariants.{Null}
 use Rattle.scan_base.specs.Value.{is_null}
@@ -11,9 +14,10 @@ use Rattle.arrays.specs.Column.{ColumnAt, slot_of, values_of}
 use Rattle.arrays.specs.Nulls.{null_count}
 use Rattle.dictionary_answers.specs.Firsts.{AreLed, Leads}
 use Rattle.dictionary_answers.specs.Coded.{held, no_place}
-use Rattle.dictionary_answers.specs.inside.Packed.{packed_places, shown, AreValidWhereSome}
+use Rattle.dictionary_answers.specs.inside.Packed.{numbers_in, shown, ArePacked, AreValidWhereSome}
 use Rattle.dictionary_answers.proofs.Indexed.{none_null}
 use Rattle.dictionary_answers.proofs.IndicesMade.{led_at}
+use Rattle.dictionary_answers.proofs.Numbers.{length-numbers, get_or-numbers}
 
 -- a number is a place where it is not the mark
 pub held_where : (number : ℕ) → is_some (held number) ≡ not (nat_eq number no_place)
@@ -31,11 +35,6 @@ shown_is number = by (nat_eq number no_place) refl
     by true e = rw e refl
     by false e = rw e refl
 
--- numbers that are packed as they are shown
-pub packed_shown : (places : List ℕ) → flat_map (little_bytes 4) (map shown places) ≡ packed_places (map held places)
-packed_shown [] = refl
-packed_shown (place ∷ places) = rw (shown_is place, packed_shown places) refl
-
 -- a place is shown as it is
 shown_plain : (number : ℕ) → is_some (held number) ≡ true → shown number ≡ number
 shown_plain number some = by (nat_eq number no_place) refl
@@ -44,17 +43,54 @@ shown_plain number some = by (nat_eq number no_place) refl
     by true e = absurd (let is : ◌≡◌ {A = Bool} false true = rw e at some in let no : ⊥ = cc in no)
     by false e = rw e refl
 
-all_plain : (places : List ℕ) → ((k : ℕ) → k < length places → is_some (held (get_or places k 0)) ≡ true) → map shown places ≡ places
-all_plain [] each = refl
-all_plain (place ∷ places) each =
-    rw (shown_plain place (each 0 (omega arith)), all_plain places (λ k low. each (suc k) (omega arith))) refl
+-- numbers are packed where each is shown
+pub packed_shown : (old new : List ℕ) → IsMapped shown (numbers_in old) (numbers_in new) → ArePacked new (map held (numbers_in old))
+packed_shown old new mapped =
+    let long : length (map held (numbers_in old)) ≡ length new / 4 = length-map (numbers_in old) held ∙ sym mapped.0 ∙ length-numbers new in
+    record {
+      long = long;
+      each = λ k low.
+          let under : k < length (numbers_in old) = omega (arith, length-map (numbers_in old) held, low) in
+          sym (get_or-numbers new k (omega (arith, long, low))) ∙ mapped.1 0 k under ∙ shown_is (get_or (numbers_in old) k 0)
+          ∙ ap (λ (place : Option ℕ). unwrap_or place 0) (sym (get_or-map held (numbers_in old) k 0 None under));
+    }
 
 -- numbers none of which is the mark are packed as they are
-pub packed_plain : (places : List ℕ) → AreValidWhereSome None (map held places) → flat_map (little_bytes 4) places ≡ packed_places (map held places)
-packed_plain places valid =
-    let all : map shown places ≡ places =
-    all_plain places (λ k low. ap is_some (sym (get_or-map held places k 0 None low)) ∙ sym (valid.each k (omega (arith, length-map places held, low)))) in
-    ap (flat_map (little_bytes 4)) (sym all) ∙ packed_shown places
+pub packed_plain : (bytes : List ℕ) → AreValidWhereSome None (map held (numbers_in bytes)) → ArePacked bytes (map held (numbers_in bytes))
+packed_plain bytes valid =
+    let numbers : List ℕ = numbers_in bytes in
+    packed_shown bytes bytes (
+      refl,
+      (λ d k low.
+      let some : is_some (held (get_or numbers k d)) ≡ true =
+      ap is_some (sym (get_or-map held numbers k d None low)) ∙ sym (valid.each k (omega (arith, length-map numbers held, low))) in
+      sym (shown_plain (get_or numbers k d) some)),
+    )
+
+-- one number more is shown
+pub shown_more : (old : List ℕ) (bytes after : List ℕ) (slot number put : ℕ) → slot < length bytes / 4 → number ≡ element_at 4 bytes slot → put ≡ shown number →
+    numbers_in after ≡ set (numbers_in bytes) slot put → MappedTo shown old (numbers_in bytes) slot → MappedTo shown old (numbers_in after) (slot + 1)
+shown_more old bytes after slot number put low read made is before =
+    let fits : slot < length (numbers_in bytes) = omega (arith, length-numbers bytes, low) in
+    rw is (mapped_more shown old (numbers_in bytes) slot put number fits
+    (read ∙ sym (get_or-numbers bytes slot low) ∙ get_or_default (numbers_in bytes) slot 0 number fits) made before)
+
+-- all are shown
+pub shown_all : (old new : List ℕ) (slot : ℕ) → length old / 4 ≤ slot → MappedTo shown (numbers_in old) (numbers_in new) slot → ArePacked new (map held (numbers_in old))
+shown_all old new slot high before =
+    packed_shown old new (mapped_all shown (numbers_in old) (numbers_in new) slot (omega (arith, length-numbers old, high)) before)
+
+pub shown_mark : (number : ℕ) → number ≡ no_place → shown number ≡ 0
+shown_mark number is = rw is refl
+
+pub shown_place : (number : ℕ) → number ≢ no_place → shown number ≡ number
+shown_place number other = rw (ne_eqb number no_place other) refl
+
+-- where there are no validity bits, no number is the mark
+pub packed_where : (validity : Option (List Bool)) (bytes : List ℕ) → is_some validity ≡ false → AreValidWhereSome validity (map held (numbers_in bytes)) →
+    ArePacked bytes (map held (numbers_in bytes))
+packed_where None bytes none valid = packed_plain bytes valid
+packed_where (Some bits) bytes none valid = absurd (let no : ⊥ = cc in no)
 
 -- the bits of places
 pub valid_bits : (bits : List Bool) (places : List ℕ) → bits ≡ map (λ number. not (nat_eq number no_place)) places → AreValidWhereSome (Some bits) (map held places)

@@ -1,5 +1,5 @@
 -- Slots that are coded one by one.
-use Rattle.std.proofs.Common.{◌≡◌, ◌≤◌, ◌<◌, ℕ, zero, suc, ◌+◌, ◌-◌, List, [], ◌∷◌, length, map, set, take, All, sym, ap, subst, ◌∙◌, arith}
+use Rattle.std.proofs.Common.{◌≡◌, ◌≤◌, ◌<◌, ℕ, zero, suc, ◌+◌, ◌-◌, ◌*◌, ◌/◌, List, [], ◌∷◌, length, map, set, take, All, sym, ap, subst, ◌∙◌, arith}
 use Rattle.std.specs.List.{range_with_len}
 use Rattle.std.proofs.lemmas.List.{take_all, take_more_set}
 use Rattle.std.proofs.lemmas.List.FromFn.{length-map-range_with_len, get_or-map-range_with_len, map-range_with_len_more}
@@ -8,22 +8,26 @@ use Rattle.scan_base.specs.declared.value.Value.TheVariants.{Null}
 use Rattle.dictionary_answers.specs.Firsts.{firsts, firsts_behind, bytes_in}
 use Rattle.dictionary_answers.specs.Coded.{CodedAt, AreCoded, FoundAt, coded_at}
 use Rattle.dictionary_answers.specs.inside.Coding.{Finds}
+use Rattle.dictionary_answers.specs.inside.Packed.{numbers_in}
+use Rattle.dictionary_answers.proofs.Numbers.{length-numbers}
 use Rattle.dictionary_answers.proofs.Places.{coded_more, firsts_more, few_behind, bytes_behind}
 
 -- one slot more
-pub slot_more : (f : ℕ → Value) (n room : ℕ) (old new : FoundAt) (places : List ℕ) (place : ℕ) → n < length places → AreCoded (map f (range_with_len 0 n)) room (coded_at old (take n places)) →
-    Finds old new place (f n) → AreCoded (map f (range_with_len 0 (n + 1))) room (coded_at new (take (n + 1) (set places n place)))
-slot_more f n room old new places place low are finds =
-    rw (map-range_with_len_more f 0 n n (omega arith), take_more_set places n place low) (coded_more (map f (range_with_len 0 n)) room old new (take n places) place (f n) are finds)
+pub slot_more : (f : ℕ → Value) (n room : ℕ) (old new : FoundAt) (packed after : List ℕ) (place : ℕ) → n < length packed / 4 → numbers_in after ≡ set (numbers_in packed) n place →
+    AreCoded (map f (range_with_len 0 n)) room (coded_at old (take n (numbers_in packed))) → Finds old new place (f n) →
+    AreCoded (map f (range_with_len 0 (n + 1))) room (coded_at new (take (n + 1) (numbers_in after)))
+slot_more f n room old new packed after place low is are finds =
+    rw (is, map-range_with_len_more f 0 n n (omega arith), take_more_set (numbers_in packed) n place (omega (arith, length-numbers packed, low)))
+    (coded_more (map f (range_with_len 0 n)) room old new (take n (numbers_in packed)) place (f n) are finds)
 
 -- all slots
-pub slots_all : (f : ℕ → Value) (n count room : ℕ) (found : FoundAt) (places : List ℕ) → length places ≡ count → length places ≤ n → n ≤ length places →
-    AreCoded (map f (range_with_len 0 n)) room (coded_at found (take n places)) → AreCoded (map f (range_with_len 0 count)) room (coded_at found places)
-slots_all f n count room found places long high low are =
-    let e : n ≡ count = omega (arith, long, high, low) in
-    let all : take n places ≡ places = take_all n places high in
+pub slots_all : (f : ℕ → Value) (n count room : ℕ) (found : FoundAt) (packed : List ℕ) → length packed ≡ 4 * count → count ≤ n → n ≤ count →
+    AreCoded (map f (range_with_len 0 n)) room (coded_at found (take n (numbers_in packed))) → AreCoded (map f (range_with_len 0 count)) room (coded_at found (numbers_in packed))
+slots_all f n count room found packed long high low are =
+    let e : n ≡ count = omega (arith, high, low) in
+    let all : take n (numbers_in packed) ≡ numbers_in packed = take_all n (numbers_in packed) (omega (arith, length-numbers packed, long, high)) in
     subst (λ (ps : List ℕ). AreCoded (map f (range_with_len 0 count)) room (coded_at found ps)) all
-    (subst (λ (m : ℕ). AreCoded (map f (range_with_len 0 m)) room (coded_at found (take n places))) e are)
+    (subst (λ (m : ℕ). AreCoded (map f (range_with_len 0 m)) room (coded_at found (take n (numbers_in packed)))) e are)
 
 -- there are no more texts than slots
 pub few_texts : (f : ℕ → Value) (n room : ℕ) (coded : CodedAt) → AreCoded (map f (range_with_len 0 n)) room coded → length coded.texts ≤ n

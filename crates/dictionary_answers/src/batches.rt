@@ -11,7 +11,7 @@ ghost use Rattle.dictionary_answers.specs.Answer.{coded_bytes, column_bytes, col
 
 use crate::built::{column_over, column_validity};
 use crate::coding::Stop;
-use crate::columns::code_column;
+use crate::columns::code_packed;
 use arrays::{Batch, Cells, Column, Texts};
 use arrow_schema::{DataType, Field, Schema};
 use hash_seed::HashSeed;
@@ -136,11 +136,10 @@ fn answer_column(
 {
     match data_type {
         DataType::Dictionary(_) => {
-            let coded = code_column(alloc, seed, column, room)?;
-            let places = coded.places();
-            let validity = column_validity(alloc, column, places)?;
-            let (made, texts) = column_over(alloc, validity, places, coded.texts())?;
-            Ok((made, Some(texts), coded.left()))
+            let (found, packed) = code_packed(alloc, seed, column, room)?;
+            let validity = column_validity(alloc, column, &packed)?;
+            let (made, texts) = column_over(alloc, validity, packed, found.texts())?;
+            Ok((made, Some(texts), found.left()))
         }
         _ => Ok((column.slice(0, column.len())?, None, room)),
     }

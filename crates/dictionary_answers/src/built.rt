@@ -1,8 +1,6 @@
 //! Columns of indices that are built of places among texts.
 
-ghost use Rattle.std.specs.Prelude.{◌≡◌, ◌≤◌, ◌<◌, ◌^◌, ℕ, List, IfOk, length, map};
-ghost use Rattle.std.specs.List.{flat_map};
-ghost use Rattle.byteorder.specs.Endian.{little_bytes};
+ghost use Rattle.std.specs.Prelude.{◌≡◌, ◌≤◌, ◌<◌, ◌^◌, ◌/◌, ℕ, List, IfOk, length, map};
 ghost use Rattle.arrow_schema.specs.declared.data_type.IntegerType.TheVariants.{Int32};
 ghost use Rattle.scan_base.specs.Limits.{most_values};
 ghost use Rattle.scan_base.specs.declared.value.Value.{Value};
@@ -13,13 +11,13 @@ ghost use Rattle.arrays.specs.Written.{offsets_from, texts_joined};
 ghost use Rattle.dictionary_answers.specs.Firsts.{bytes_in, AreLed};
 ghost use Rattle.dictionary_answers.specs.Answer.{LiesOver};
 ghost use Rattle.dictionary_answers.specs.Coded.{held};
-ghost use Rattle.dictionary_answers.specs.inside.Packed.{packed_places, shown, AreValidWhereSome};
+ghost use Rattle.dictionary_answers.specs.inside.Packed.{numbers_in, AreValidWhereSome};
 
 use crate::coding::NO_PLACE;
+use crate::packed::{clear_marks, pack_numbers, unpack_numbers};
 use arrays::{Cells, Column, Dictionary, Nulls, Slots, Texts, Values};
 use arrow_schema::IntegerType;
 use bitmap::{Bits, BitsBuilder};
-use byteorder::{ByteOrder, LittleEndian};
 use bytes::Bytes;
 use std::alloc::{AllocError, Global};
 use std::sync::Arc;
@@ -44,31 +42,34 @@ pub fn column_of_indices(
     ensures part { IfOk result (λ made. texts_values made.1 ≡ map Text (map (λ text. text.now) texts.now)) }
 {
     let validity = places_validity(alloc, places)?;
-    column_over(alloc, validity, places, texts)
+    let packed = pack_numbers(alloc, places)?;
+    column_over(alloc, validity, packed, texts)
 }
 
-/// The same, where the validity bits are made already.
+/// The same, where the validity bits are made already, and the places stand in four bytes each.
 pub(crate) fn column_over(
     alloc: Global,
     validity: Option<Bits>,
-    places: &[u32],
+    mut packed: Vec<u8>,
     texts: &[&str],
 ) -> Result<(Column, Texts), AllocError>
-    requires valid { AreValidWhereSome validity (map held places.now) }
-    requires led { (values : List Value) × AreLed (map (λ text. text.now) texts.now) (map held places.now) values }
+    requires valid { AreValidWhereSome validity (map held (numbers_in packed.items)) }
+    requires led { (values : List Value) × AreLed (map (λ text. text.now) texts.now) (map held (numbers_in packed.items)) values }
     requires few { length texts.now ≤ most_values }
     requires short { bytes_in (map (λ text. text.now) texts.now) < 2 ^ 31 }
-    ensures values { IfOk result (λ made. AreLed (map (λ text. text.now) texts.now) (map held places.now) (values_of made.0)) }
+    ensures values { IfOk result (λ made. AreLed (map (λ text. text.now) texts.now) (map held (numbers_in packed.items)) (values_of made.0)) }
     ensures over { IfOk result (λ made. LiesOver (map (λ text. text.now) texts.now) made.0) }
-    ensures long { IfOk result (λ made. made.0.len ≡ length places.now) }
+    ensures long { IfOk result (λ made. made.0.len ≡ length packed.items / 4) }
     ensures part { IfOk result (λ made. texts_values made.1 ≡ map Text (map (λ text. text.now) texts.now)) }
 {
     let part = part_of(alloc, texts)?;
     let dictionary = dictionary_of(alloc, part.share()?)?;
-    let packed = Bytes::from_vec(pack_places(alloc, &validity, places)?)?;
+    let count = packed.len() / 4;
+    clear_marks(&validity, &mut packed);
     let _values = dictionary.len();
-    let indices = Values::Indices(IntegerType::Int32, packed, Arc::new(alloc, dictionary)?);
-    let column = Column::new(Slots::from_parts(validity, places.len(), indices));
+    let bytes = Bytes::from_vec(packed)?;
+    let indices = Values::Indices(IntegerType::Int32, bytes, Arc::new(alloc, dictionary)?);
+    let column = Column::new(Slots::from_parts(validity, count, indices));
     Ok((column, part))
 }
 
@@ -80,10 +81,10 @@ pub(crate) fn column_over(
 pub(crate) fn column_validity(
     alloc: Global,
     column: &Column,
-    places: &[u32],
+    packed: &[u8],
 ) -> Result<Option<Bits>, AllocError>
-    requires led { (texts : List (List ℕ)) × AreLed texts (map held places.now) (values_of column.now) }
-    ensures { IfOk result (λ validity. AreValidWhereSome validity (map held places.now)) }
+    requires led { (texts : List (List ℕ)) × AreLed texts (map held (numbers_in packed.now)) (values_of column.now) }
+    ensures { IfOk result (λ validity. AreValidWhereSome validity (map held (numbers_in packed.now))) }
 {
     if column.null_count() == 0 {
         return Ok(None);
@@ -91,7 +92,7 @@ pub(crate) fn column_validity(
     let (first, len) = (column.first(), column.len());
     match column.slots().nulls() {
         Nulls::AtZeros(bits) => Ok(Some(bits.slice(first, first + len)?)),
-        _ => places_validity(alloc, places),
+        _ => places_validity(alloc, &unpack_numbers(alloc, packed)?),
     }
 }
 
@@ -107,43 +108,6 @@ fn places_validity(alloc: Global, places: &[u32]) -> Result<Option<Bits>, AllocE
         bits.push(*place != NO_PLACE)?;
     }
     Ok(Some(bits.into_bits()?))
-}
-
-// The places, four bytes each, and 0 where there is none.
-fn pack_places(
-    alloc: Global,
-    validity: &Option<Bits>,
-    places: &[u32],
-) -> Result<Vec<u8>, AllocError>
-    requires { AreValidWhereSome validity.now (map held places.now) }
-    ensures { IfOk result (λ packed. packed.items ≡ packed_places (map held places.now)) }
-{
-    match validity {
-        None => pack_numbers(alloc, places),
-        Some(_) => pack_numbers(alloc, without_marks(alloc, places)?.as_slice()),
-    }
-}
-
-// The places, and 0 where there is none.
-fn without_marks(alloc: Global, places: &[u32]) -> Result<Vec<u32>, AllocError>
-    ensures { IfOk result (λ made. made.items ≡ map shown places.now) }
-{
-    places
-        .iter()
-        .map(|place| if *place == NO_PLACE { 0 } else { *place })
-        .collect(alloc)
-}
-
-// Numbers, four bytes each, the lowest first.
-fn pack_numbers(alloc: Global, numbers: &[u32]) -> Result<Vec<u8>, AllocError>
-    ensures { IfOk result (λ packed. packed.items ≡ flat_map (little_bytes 4) numbers.now) }
-{
-    let Some(room) = numbers.len().checked_mul(4) else {
-        return Err(AllocError);
-    };
-    let mut packed = vec![in alloc; 0; room]?;
-    LittleEndian::write_u32_into(numbers, &mut packed);
-    Ok(packed)
 }
 
 // A dictionary of one part.

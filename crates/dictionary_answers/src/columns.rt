@@ -1,6 +1,6 @@
 //! Coding columns slot by slot.
 
-ghost use Rattle.std.specs.Prelude.{◌≡◌, ◌<◌, ◌+◌, ◌^◌, ◌∷◌, [], All, IfErr, IfOk, OnOk, length, nat_eq};
+ghost use Rattle.std.specs.Prelude.{◌≡◌, ◌<◌, ◌+◌, ◌*◌, ◌^◌, ◌∷◌, [], All, IfErr, IfOk, OnOk, length, nat_eq};
 ghost use Rattle.indexmap.specs.IndexMap.{get};
 ghost use Rattle.scan_base.specs.Value.{IsTextOrNull};
 ghost use Rattle.arrays.specs.Column.{values_of};
@@ -12,11 +12,13 @@ ghost use Rattle.dictionary_answers.specs.declared.coding.Stop.TheVariants.{OutO
 ghost use Rattle.dictionary_answers.specs.Firsts.{bytes_in, firsts, firsts_behind};
 ghost use Rattle.dictionary_answers.specs.Coded.{AreCoded, coded_at};
 ghost use Rattle.dictionary_answers.specs.inside.Coding.{Finds};
+ghost use Rattle.dictionary_answers.specs.inside.Packed.{numbers_in};
 ghost use Rattle.dictionary_answers.specs.inside.Table.{AreMet, IsTable};
 
 use crate::coding::{Coded, NO_PLACE, Stop};
 use crate::found::Found;
 use crate::indices::{IndexColumn, IndexElement, is_valid, valid_index};
+use crate::packed::{put_number, unpack_numbers, zeros};
 use arrays::{Cells, Column, Indices, Layout};
 use arrow_schema::IntegerType;
 use hash_seed::HashSeed;
@@ -45,10 +47,27 @@ pub fn code_column<'t>(
     ensures coded { IfOk result (AreCoded (values_of column.now) room) }
     ensures full { IfErr result (λ stop. stop ≡ OutOfRoom → room < bytes_in (firsts (values_of column.now))) }
 {
-    let mut found = Found::new(alloc, seed, room);
-    let mut places = vec![in alloc; NO_PLACE; column.len()]?;
-    code_slots(alloc, seed, &mut found, column, &mut places)?;
+    let (found, packed) = code_packed(alloc, seed, column, room)?;
+    let places = unpack_numbers(alloc, &packed)?;
     Ok(Coded::new(found, places))
+}
+
+/// The same, where the places stand in four bytes each.
+pub(crate) fn code_packed<'t>(
+    alloc: Global,
+    seed: HashSeed,
+    column: &'t Column,
+    room: usize,
+) -> Result<(Found<'t>, Vec<u8>), Stop>
+    requires small { column.now.len < 2 ^ 31 }
+    requires texts { All IsTextOrNull (values_of column.now) }
+    ensures coded { IfOk result (λ made. AreCoded (values_of column.now) room (coded_at made.0 (numbers_in made.1.items))) }
+    ensures full { IfErr result (λ stop. stop ≡ OutOfRoom → room < bytes_in (firsts (values_of column.now))) }
+{
+    let mut found = Found::new(alloc, seed, room);
+    let mut packed = zeros(alloc, column.len())?;
+    code_slots(alloc, seed, &mut found, column, &mut packed)?;
+    Ok((found, packed))
 }
 
 // Codes each slot.
@@ -57,21 +76,21 @@ fn code_slots<'t>(
     seed: HashSeed,
     found: &mut Found<'t>,
     column: &'t Column,
-    places: &mut [u32],
+    packed: &mut [u8],
 ) -> Result<(), Stop>
     requires small { column.now.len < 2 ^ 31 }
     requires texts { All IsTextOrNull (values_of column.now) }
-    requires long { length places.old ≡ column.now.len }
+    requires long { length packed.old ≡ 4 * column.now.len }
     requires none { AreCoded [] (found.old).left (coded_at found.old []) }
-    ensures coded { OnOk result (AreCoded (values_of column.now) (found.old).left (coded_at found.new places.new)) }
+    ensures coded { OnOk result (AreCoded (values_of column.now) (found.old).left (coded_at found.new (numbers_in packed.new))) }
     ensures full { IfErr result (λ stop. stop ≡ OutOfRoom → (found.old).left < bytes_in (firsts (values_of column.now))) }
 {
     match column.layout() {
         Layout::Indices(cells) => {
             let of = IndexColumn { column, cells };
-            code_indices(alloc, seed, found, &of, places)
+            code_indices(alloc, seed, found, &of, packed)
         }
-        _ => code_values(found, column, places),
+        _ => code_values(found, column, packed),
     }
 }
 
@@ -79,18 +98,18 @@ fn code_slots<'t>(
 fn code_values<'t>(
     found: &mut Found<'t>,
     column: &'t Column,
-    places: &mut [u32],
+    packed: &mut [u8],
 ) -> Result<(), Stop>
     requires small { column.now.len < 2 ^ 31 }
     requires texts { All IsTextOrNull (values_of column.now) }
-    requires long { length places.old ≡ column.now.len }
+    requires long { length packed.old ≡ 4 * column.now.len }
     requires none { AreCoded [] (found.old).left (coded_at found.old []) }
-    ensures coded { OnOk result (AreCoded (values_of column.now) (found.old).left (coded_at found.new places.new)) }
+    ensures coded { OnOk result (AreCoded (values_of column.now) (found.old).left (coded_at found.new (numbers_in packed.new))) }
     ensures full { IfErr result (λ stop. stop ≡ OutOfRoom → (found.old).left < bytes_in (firsts (values_of column.now))) }
 {
-    let _count = column.len();
-    for place in 0..places.len() {
-        places[place] = found.place_of_value(column.value_at(place))?;
+    for place in 0..column.len() {
+        let number = found.place_of_value(column.value_at(place))?;
+        put_number(packed, place, number);
     }
     Ok(())
 }
@@ -102,21 +121,21 @@ fn code_indices<'t>(
     seed: HashSeed,
     found: &mut Found<'t>,
     of: &IndexColumn<'t>,
-    places: &mut [u32],
+    packed: &mut [u8],
 ) -> Result<(), Stop>
     requires small { (of.now).column.now.len < 2 ^ 31 }
     requires cells { (of.now).column.now.layout ≡ layout.Indices (of.now).cells }
-    requires long { length places.old ≡ (of.now).column.now.len }
+    requires long { length packed.old ≡ 4 * (of.now).column.now.len }
     requires none { AreCoded [] (found.old).left (coded_at found.old []) }
-    ensures coded { OnOk result (AreCoded (values_of (of.now).column.now) (found.old).left (coded_at found.new places.new)) }
+    ensures coded { OnOk result (AreCoded (values_of (of.now).column.now) (found.old).left (coded_at found.new (numbers_in packed.new))) }
     ensures full { IfErr result (λ stop. stop ≡ OutOfRoom → (found.old).left < bytes_in (firsts (values_of (of.now).column.now))) }
 {
-    if is_worth_a_table(&of.cells, places.len()) {
+    if is_worth_a_table(&of.cells, of.column.len()) {
         let mut table = vec![in alloc; NO_PLACE; of.cells.dictionary().len()]?;
-        code_near(found, &mut table, of, places)
+        code_near(found, &mut table, of, packed)
     } else {
         let mut met = IndexMap::with_hasher(alloc, seed);
-        code_far(found, &mut met, of, places)
+        code_far(found, &mut met, of, packed)
     }
 }
 
@@ -130,19 +149,20 @@ fn code_far<'t>(
     found: &mut Found<'t>,
     met: &mut IndexMap<usize, u32, HashSeed>,
     of: &IndexColumn<'t>,
-    places: &mut [u32],
+    packed: &mut [u8],
 ) -> Result<(), Stop>
     requires small { (of.now).column.now.len < 2 ^ 31 }
     requires cells { (of.now).column.now.layout ≡ layout.Indices (of.now).cells }
-    requires long { length places.old ≡ (of.now).column.now.len }
+    requires long { length packed.old ≡ 4 * (of.now).column.now.len }
     requires none { AreCoded [] (found.old).left (coded_at found.old []) }
     requires met { AreMet (of.now).cells.dictionary (found.old).texts (get nat_eq met.old) }
-    ensures coded { OnOk result (AreCoded (values_of (of.now).column.now) (found.old).left (coded_at found.new places.new)) }
+    ensures coded { OnOk result (AreCoded (values_of (of.now).column.now) (found.old).left (coded_at found.new (numbers_in packed.new))) }
     ensures full { IfErr result (λ stop. stop ≡ OutOfRoom → (found.old).left < bytes_in (firsts (values_of (of.now).column.now))) }
 {
-    let (first, _count) = (of.column.first(), of.column.len());
-    for place in 0..places.len() {
-        places[place] = far_place(found, met, &of.cells, first + place)?;
+    let (first, count) = (of.column.first(), of.column.len());
+    for place in 0..count {
+        let number = far_place(found, met, &of.cells, first + place)?;
+        put_number(packed, place, number);
     }
     Ok(())
 }
@@ -173,21 +193,21 @@ fn code_near<'t>(
     found: &mut Found<'t>,
     table: &mut [u32],
     of: &IndexColumn<'t>,
-    places: &mut [u32],
+    packed: &mut [u8],
 ) -> Result<(), Stop>
     requires small { (of.now).column.now.len < 2 ^ 31 }
     requires cells { (of.now).column.now.layout ≡ layout.Indices (of.now).cells }
-    requires long { length places.old ≡ (of.now).column.now.len }
+    requires long { length packed.old ≡ 4 * (of.now).column.now.len }
     requires none { AreCoded [] (found.old).left (coded_at found.old []) }
     requires table { IsTable (of.now).cells.dictionary (found.old).texts table.old }
-    ensures coded { OnOk result (AreCoded (values_of (of.now).column.now) (found.old).left (coded_at found.new places.new)) }
+    ensures coded { OnOk result (AreCoded (values_of (of.now).column.now) (found.old).left (coded_at found.new (numbers_in packed.new))) }
     ensures full { IfErr result (λ stop. stop ≡ OutOfRoom → (found.old).left < bytes_in (firsts (values_of (of.now).column.now))) }
 {
     match of.cells.index_type() {
-        IntegerType::Int8 | IntegerType::UInt8 => code_elements::<u8>(found, table, of, places),
-        IntegerType::Int16 | IntegerType::UInt16 => code_elements::<u16>(found, table, of, places),
-        IntegerType::Int32 | IntegerType::UInt32 => code_elements::<u32>(found, table, of, places),
-        IntegerType::Int64 | IntegerType::UInt64 => code_elements::<u64>(found, table, of, places),
+        IntegerType::Int8 | IntegerType::UInt8 => code_elements::<u8>(found, table, of, packed),
+        IntegerType::Int16 | IntegerType::UInt16 => code_elements::<u16>(found, table, of, packed),
+        IntegerType::Int32 | IntegerType::UInt32 => code_elements::<u32>(found, table, of, packed),
+        IntegerType::Int64 | IntegerType::UInt64 => code_elements::<u64>(found, table, of, packed),
     }
 }
 
@@ -196,21 +216,21 @@ fn code_elements<'t, E: IndexElement>(
     found: &mut Found<'t>,
     table: &mut [u32],
     of: &IndexColumn<'t>,
-    places: &mut [u32],
+    packed: &mut [u8],
 ) -> Result<(), Stop>
     requires small { (of.now).column.now.len < 2 ^ 31 }
     requires cells { (of.now).column.now.layout ≡ layout.Indices (of.now).cells }
     requires width { byte_width (of.now).cells.index ≡ E.WIDTH }
-    requires long { length places.old ≡ (of.now).column.now.len }
+    requires long { length packed.old ≡ 4 * (of.now).column.now.len }
     requires none { AreCoded [] (found.old).left (coded_at found.old []) }
     requires table { IsTable (of.now).cells.dictionary (found.old).texts table.old }
-    ensures coded { OnOk result (AreCoded (values_of (of.now).column.now) (found.old).left (coded_at found.new places.new)) }
+    ensures coded { OnOk result (AreCoded (values_of (of.now).column.now) (found.old).left (coded_at found.new (numbers_in packed.new))) }
     ensures full { IfErr result (λ stop. stop ≡ OutOfRoom → (found.old).left < bytes_in (firsts (values_of (of.now).column.now))) }
 {
     if of.column.null_count() == 0 {
-        code_valid::<E>(found, table, of, places)
+        code_valid::<E>(found, table, of, packed)
     } else {
-        code_some::<E>(found, table, of, places)
+        code_some::<E>(found, table, of, packed)
     }
 }
 
@@ -219,23 +239,24 @@ fn code_valid<'t, E: IndexElement>(
     found: &mut Found<'t>,
     table: &mut [u32],
     of: &IndexColumn<'t>,
-    places: &mut [u32],
+    packed: &mut [u8],
 ) -> Result<(), Stop>
     requires small { (of.now).column.now.len < 2 ^ 31 }
     requires cells { (of.now).column.now.layout ≡ layout.Indices (of.now).cells }
     requires width { byte_width (of.now).cells.index ≡ E.WIDTH }
     requires valid { null_count (of.now).column.now ≡ 0 }
-    requires long { length places.old ≡ (of.now).column.now.len }
+    requires long { length packed.old ≡ 4 * (of.now).column.now.len }
     requires none { AreCoded [] (found.old).left (coded_at found.old []) }
     requires table { IsTable (of.now).cells.dictionary (found.old).texts table.old }
-    ensures coded { OnOk result (AreCoded (values_of (of.now).column.now) (found.old).left (coded_at found.new places.new)) }
+    ensures coded { OnOk result (AreCoded (values_of (of.now).column.now) (found.old).left (coded_at found.new (numbers_in packed.new))) }
     ensures full { IfErr result (λ stop. stop ≡ OutOfRoom → (found.old).left < bytes_in (firsts (values_of (of.now).column.now))) }
 {
-    let (first, _count, _slots) = (of.column.first(), of.column.len(), of.cells.len());
+    let (first, count, _slots) = (of.column.first(), of.column.len(), of.cells.len());
     let (values, dictionary) = (of.cells.values(), of.cells.dictionary());
-    for place in 0..places.len() {
+    for place in 0..count {
         let index = E::index_at(values, first + place);
-        places[place] = found.place_of_index(table, dictionary, index)?;
+        let number = found.place_of_index(table, dictionary, index)?;
+        put_number(packed, place, number);
     }
     Ok(())
 }
@@ -245,20 +266,21 @@ fn code_some<'t, E: IndexElement>(
     found: &mut Found<'t>,
     table: &mut [u32],
     of: &IndexColumn<'t>,
-    places: &mut [u32],
+    packed: &mut [u8],
 ) -> Result<(), Stop>
     requires small { (of.now).column.now.len < 2 ^ 31 }
     requires cells { (of.now).column.now.layout ≡ layout.Indices (of.now).cells }
     requires width { byte_width (of.now).cells.index ≡ E.WIDTH }
-    requires long { length places.old ≡ (of.now).column.now.len }
+    requires long { length packed.old ≡ 4 * (of.now).column.now.len }
     requires none { AreCoded [] (found.old).left (coded_at found.old []) }
     requires table { IsTable (of.now).cells.dictionary (found.old).texts table.old }
-    ensures coded { OnOk result (AreCoded (values_of (of.now).column.now) (found.old).left (coded_at found.new places.new)) }
+    ensures coded { OnOk result (AreCoded (values_of (of.now).column.now) (found.old).left (coded_at found.new (numbers_in packed.new))) }
     ensures full { IfErr result (λ stop. stop ≡ OutOfRoom → (found.old).left < bytes_in (firsts (values_of (of.now).column.now))) }
 {
-    let (first, _count) = (of.column.first(), of.column.len());
-    for place in 0..places.len() {
-        places[place] = near_place::<E>(found, table, &of.cells, first + place)?;
+    let (first, count) = (of.column.first(), of.column.len());
+    for place in 0..count {
+        let number = near_place::<E>(found, table, &of.cells, first + place)?;
+        put_number(packed, place, number);
     }
     Ok(())
 }

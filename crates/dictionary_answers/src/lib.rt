@@ -7,6 +7,7 @@ pub mod coding;
 pub mod columns;
 mod found;
 mod indices;
+mod packed;
 
 pub use crate::batches::{CodedBatch, ColumnDictionary, code_batch};
 pub use crate::built::column_of_indices;

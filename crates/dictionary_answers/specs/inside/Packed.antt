@@ -1,13 +1,18 @@
 -- Inside: places, as the indices of slots are kept.
-use Rattle.std.specs.Prelude.{◌≡◌, ◌<◌, ℕ, Bool, List, length, get_or, Option, None, is_some, unwrap_or, nat_eq, if◌then◌else◌}
-use Rattle.std.specs.List.{flat_map}
-use Rattle.byteorder.specs.Endian.{little_bytes}
+use Rattle.std.specs.Prelude.{◌≡◌, ◌<◌, ◌*◌, ◌/◌, ℕ, Bool, List, length, map, get_or, Option, None, is_some, unwrap_or, nat_eq, if◌then◌else◌}
+use Rattle.std.specs.List.{range_with_len}
 use Rattle.dictionary_answers.specs.Coded.{no_place}
+use Rattle.arrays.specs.Number.{element_at}
 use Rattle.arrays.specs.Validity.{is_valid, IsLong}
 
--- the places, four bytes each, and 0 where there is none
-abbrev pub packed_places : List (Option ℕ) → List ℕ
-packed_places places = flat_map (λ place. little_bytes 4 (unwrap_or place 0)) places
+-- the numbers of 32 bits that stand in these bytes, four bytes each, the lowest first
+unfoldable pub numbers_in : List ℕ → List ℕ
+numbers_in bytes = map (λ k. element_at 4 bytes k) (range_with_len 0 (length bytes / 4))
+
+-- the bytes are those of the places, four bytes each, and 0 where there is none
+pub record ArePacked (bytes : List ℕ) (places : List (Option ℕ)) : Type 0 where
+  pub long : length places ≡ length bytes / 4
+  pub each : (k : ℕ) → k < length places → element_at 4 bytes k ≡ unwrap_or (get_or places k None) 0
 
 -- a number in a list of places, as it is packed
 abbrev pub shown : ℕ → ℕ

@@ -6,23 +6,24 @@ use Rattle.arrays.specs.Column.{slot_of, values_of}
 use Rattle.dictionary_answers.specs.Firsts.{bytes_in, firsts, firsts_behind}
 use Rattle.dictionary_answers.specs.Coded.{coded_at}
 use Rattle.dictionary_answers.specs.inside.Coding.{Finds}
+use Rattle.dictionary_answers.specs.inside.Packed.{numbers_in}
 use Rattle.dictionary_answers.proofs.Indexed.{slot_there}
 use Rattle.dictionary_answers.proofs.Slots.{slot_more, few_texts, none_fit}
 use Rattle.dictionary_answers.proofs.columns.code_far.Goals as goal
 
 pub far_place-requires-clause-few : goal.far_place-requires-clause-few
 far_place-requires-clause-few c =
-    omega (arith, few_texts (slot_of c.args.of.now.column.now) c.loop-place.place c.args.found.now.left (coded_at c.loop-place.found (take c.loop-place.place c.loop-place.places)) c.loop-place.invariant.coded, c.loop-place-test.true, c.requires.long, c.requires.small)
+    omega (arith, few_texts (slot_of c.args.of.now.column.now) c.loop-place.place c.args.found.now.left (coded_at c.loop-place.found (take c.loop-place.place (numbers_in c.loop-place.packed))) c.loop-place.invariant.coded, c.loop-place-test.true, c.requires.long, c.requires.small)
 
-pub returns-in_err-places-clause-full : goal.returns-in_err-places-clause-full
-returns-in_err-places-clause-full c =
+pub returns-in_err-number-clause-full : goal.returns-in_err-number-clause-full
+returns-in_err-number-clause-full c =
     let found = c.loop-place.found in
     let column = c.args.of.now.column.now in
     let place = c.loop-place.place in
     let low : place < column.len = omega (arith, c.loop-place-test.true, c.requires.long) in
     let is = slot_there column c.args.of.now.cells c.first-first.result place c.requires.cells c.first-first.ensures in
     let step : bytes_in found.texts + found.left < bytes_in (firsts_behind found.texts (layout_slot (layout.Indices c.args.of.now.cells) (c.first-first.result + place) ∷ [])) → c.args.found.now.left < bytes_in (firsts (values_of column)) =
-    λ full. none_fit (slot_of column) place column.len c.args.found.now.left (coded_at found (take place c.loop-place.places)) c.loop-place.invariant.coded low
+    λ full. none_fit (slot_of column) place column.len c.args.found.now.left (coded_at found (take place (numbers_in c.loop-place.packed))) c.loop-place.invariant.coded low
     (subst (λ (v : Value). bytes_in found.texts + found.left < bytes_in (firsts_behind found.texts (v ∷ []))) is full) in
     search (rules, step)
 
@@ -32,8 +33,8 @@ loop-place-preserved c =
     let place = c.loop-place.place in
     let is = slot_there column c.args.of.now.cells c.first-first.result place c.requires.cells c.first-first.ensures in
     record {
-      coded = slot_more (slot_of column) place c.args.found.now.left c.loop-place.found c.far_place.new.found c.loop-place.places c.in_ok-places.field-0
-          (omega (arith, c.loop-place-test.true)) c.loop-place.invariant.coded
-          (subst (λ (v : Value). Finds c.loop-place.found c.far_place.new.found c.in_ok-places.field-0 v) is c.in_ok-places.ensures.found);
-      met = c.in_ok-places.ensures.met;
+      coded = slot_more (slot_of column) place c.args.found.now.left c.loop-place.found c.far_place.new.found c.loop-place.packed c.put_number.new.bytes c.in_ok-number.number
+          (omega (arith, c.loop-place-test.true, c.requires.long)) c.put_number.ensures c.loop-place.invariant.coded
+          (subst (λ (v : Value). Finds c.loop-place.found c.far_place.new.found c.in_ok-number.number v) is c.in_ok-number.ensures.found);
+      met = c.in_ok-number.ensures.met;
     }

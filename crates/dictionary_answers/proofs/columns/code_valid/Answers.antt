@@ -5,6 +5,7 @@ use Rattle.arrays.specs.Column.{slot_of, values_of}
 use Rattle.dictionary_answers.specs.Firsts.{bytes_in, firsts, firsts_behind}
 use Rattle.dictionary_answers.specs.Coded.{coded_at}
 use Rattle.dictionary_answers.specs.inside.Coding.{Finds}
+use Rattle.dictionary_answers.specs.inside.Packed.{numbers_in}
 use Rattle.dictionary_answers.specs.inside.Table.{IsTable}
 use Rattle.dictionary_answers.proofs.Indexed.{index_led, room_for, slot_within}
 use Rattle.dictionary_answers.proofs.Slots.{slot_more, slots_all, few_texts, none_fit}
@@ -12,7 +13,7 @@ use Rattle.dictionary_answers.proofs.columns.code_valid.Goals as goal
 
 pub place_of_index-requires-clause-few : goal.place_of_index-requires-clause-few
 place_of_index-requires-clause-few g c =
-    omega (arith, few_texts (slot_of c.args.of.now.column.now) c.loop-place.place c.args.found.now.left (coded_at c.loop-place.found (take c.loop-place.place c.loop-place.places)) c.loop-place.invariant.coded, c.loop-place-test.true, c.requires.long, c.requires.small)
+    omega (arith, few_texts (slot_of c.args.of.now.column.now) c.loop-place.place c.args.found.now.left (coded_at c.loop-place.found (take c.loop-place.place (numbers_in c.loop-place.packed))) c.loop-place.invariant.coded, c.loop-place-test.true, c.requires.long, c.requires.small)
 
 pub index_at-index-requires : goal.index_at-index-requires
 index_at-index-requires g c =
@@ -33,8 +34,8 @@ place_of_index-requires-clause-within g c =
     c.values-values.ensures c.dictionary-dictionary.ensures c.first-first.ensures c.len-slots.ensures.stands c.len-count.ensures.stands c.requires.valid low c.index_at-index.ensures in
     led.0
 
-pub returns-in_err-places-clause-full : goal.returns-in_err-places-clause-full
-returns-in_err-places-clause-full g c =
+pub returns-in_err-number-clause-full : goal.returns-in_err-number-clause-full
+returns-in_err-number-clause-full g c =
     let found = c.loop-place.found in
     let column = c.args.of.now.column.now in
     let place = c.loop-place.place in
@@ -42,7 +43,7 @@ returns-in_err-places-clause-full g c =
     let led = index_led column c.args.of.now.cells g.E.IndexElement.WIDTH c.first-first.result place c.index_at-index.result c.values-values.result.now c.dictionary-dictionary.result.now c.requires.cells c.requires.width
     c.values-values.ensures c.dictionary-dictionary.ensures c.first-first.ensures c.len-slots.ensures.stands c.len-count.ensures.stands c.requires.valid low c.index_at-index.ensures in
     let step : bytes_in found.texts + found.left < bytes_in (firsts_behind found.texts (get_or c.dictionary-dictionary.result.now c.index_at-index.result Null ∷ [])) → c.args.found.now.left < bytes_in (firsts (values_of column)) =
-    λ full. none_fit (slot_of column) place column.len c.args.found.now.left (coded_at found (take place c.loop-place.places)) c.loop-place.invariant.coded low
+    λ full. none_fit (slot_of column) place column.len c.args.found.now.left (coded_at found (take place (numbers_in c.loop-place.packed))) c.loop-place.invariant.coded low
     (subst (λ (v : Value). bytes_in found.texts + found.left < bytes_in (firsts_behind found.texts (v ∷ []))) led.1 full) in
     search (rules, step)
 
@@ -54,14 +55,14 @@ loop-place-preserved g c =
     let led = index_led column c.args.of.now.cells g.E.IndexElement.WIDTH c.first-first.result place c.index_at-index.result c.values-values.result.now c.dictionary-dictionary.result.now c.requires.cells c.requires.width
     c.values-values.ensures c.dictionary-dictionary.ensures c.first-first.ensures c.len-slots.ensures.stands c.len-count.ensures.stands c.requires.valid low c.index_at-index.ensures in
     record {
-      coded = slot_more (slot_of column) place c.args.found.now.left c.loop-place.found c.place_of_index.new.self c.loop-place.places c.in_ok-places.field-0
-          (omega (arith, c.loop-place-test.true)) c.loop-place.invariant.coded
-          (subst (λ (v : Value). Finds c.loop-place.found c.place_of_index.new.self c.in_ok-places.field-0 v) led.1 c.in_ok-places.ensures.found);
-      table = subst (λ (d : List Value). IsTable d c.place_of_index.new.self.texts c.place_of_index.new.table) c.dictionary-dictionary.ensures c.in_ok-places.ensures.table;
+      coded = slot_more (slot_of column) place c.args.found.now.left c.loop-place.found c.place_of_index.new.self c.loop-place.packed c.put_number.new.bytes c.in_ok-number.number
+          (omega (arith, c.loop-place-test.true, c.requires.long)) c.put_number.ensures c.loop-place.invariant.coded
+          (subst (λ (v : Value). Finds c.loop-place.found c.place_of_index.new.self c.in_ok-number.number v) led.1 c.in_ok-number.ensures.found);
+      table = subst (λ (d : List Value). IsTable d c.place_of_index.new.self.texts c.place_of_index.new.table) c.dictionary-dictionary.ensures c.in_ok-number.ensures.table;
     }
 
 pub returns-clause-coded : goal.returns-clause-coded
 returns-clause-coded g c =
     let column = c.args.of.now.column.now in
-    slots_all (slot_of column) c.loop-place.place column.len c.args.found.now.left c.loop-place.found c.loop-place.places
+    slots_all (slot_of column) c.loop-place.place column.len c.args.found.now.left c.loop-place.found c.loop-place.packed
     (omega (arith, c.requires.long)) (omega (arith, c.loop-place-test.false)) (omega arith) c.loop-place.invariant.coded
