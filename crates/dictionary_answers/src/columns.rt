@@ -95,11 +95,7 @@ fn code_slots<'t>(
 }
 
 // Codes each slot by its value.
-fn code_values<'t>(
-    found: &mut Found<'t>,
-    column: &'t Column,
-    packed: &mut [u8],
-) -> Result<(), Stop>
+fn code_values<'t>(found: &mut Found<'t>, column: &'t Column, packed: &mut [u8]) -> Result<(), Stop>
     requires small { column.now.len < 2 ^ 31 }
     requires texts { All IsTextOrNull (values_of column.now) }
     requires long { length packed.old ≡ 4 * column.now.len }

@@ -1,5 +1,5 @@
 -- Inside: places, as the indices of slots are kept.
-use Rattle.std.specs.Prelude.{◌≡◌, ◌<◌, ◌*◌, ◌/◌, ℕ, Bool, List, length, map, get_or, Option, None, is_some, unwrap_or, nat_eq, if◌then◌else◌}
+use Rattle.std.specs.Prelude.{◌≡◌, ◌<◌, ◌/◌, ℕ, Bool, List, length, map, get_or, Option, None, is_some, unwrap_or, nat_eq, if◌then◌else◌}
 use Rattle.std.specs.List.{range_with_len}
 use Rattle.dictionary_answers.specs.Coded.{no_place}
 use Rattle.arrays.specs.Number.{element_at}

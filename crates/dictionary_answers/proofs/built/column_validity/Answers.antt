@@ -4,12 +4,13 @@ use Rattle.scan_base.specs.Value.{is_null}
 use Rattle.arrays.specs.Layout.{layout_count, layout_slot}
 use Rattle.arrays.specs.declared.layout.Layout.{Layout}
 use Rattle.dictionary_answers.specs.Coded.{held}
+use Rattle.dictionary_answers.specs.inside.Packed.{numbers_in}
 use Rattle.dictionary_answers.proofs.Marks.{valid_none, valid_own}
 use Rattle.dictionary_answers.proofs.built.column_validity.Goals as goal
 
 pub returns-then-null_count-eq0 : goal.returns-then-null_count-eq0
 returns-then-null_count-eq0 c =
-    valid_none c.requires.led.0 (map held c.args.places.now) c.args.column.now c.requires.led.1 (sym c.null_count.ensures ∙ c.if-null_count-eq0.true)
+    valid_none c.requires.led.0 (map held (numbers_in c.args.packed.now)) c.args.column.now c.requires.led.1 (sym c.null_count.ensures ∙ c.if-null_count-eq0.true)
 
 -- a bit of some of a list
 of_some : (bits : List Bool) (first n k : ℕ) → k < n → get_or (take n (drop first bits)) k false ≡ get_or bits (first + k) false
@@ -23,7 +24,7 @@ returns-in_ok-slice-in-AtZeros c =
     let first = c.first-first.result in
     let n : ℕ = (first + c.len-len.result) - first in
     let many : n ≡ column.len = omega (arith, c.len-len.ensures.count) in
-    valid_own c.requires.led.0 (map held c.args.places.now) column all own c.requires.led.1 (c.in_ok-slice-in-AtZeros.ensures.long ∙ many)
+    valid_own c.requires.led.0 (map held (numbers_in c.args.packed.now)) column all own c.requires.led.1 (c.in_ok-slice-in-AtZeros.ensures.long ∙ many)
     (λ k low. ap (λ (xs : List Bool). get_or xs k false) c.in_ok-slice-in-AtZeros.ensures.value ∙ of_some all first n k (omega (arith, low, many))
     ∙ ap (λ (f : ℕ). get_or all (f + k) false) c.first-first.ensures)
     (λ k low.

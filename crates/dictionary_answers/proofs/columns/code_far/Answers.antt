@@ -8,7 +8,7 @@ use Rattle.dictionary_answers.specs.Coded.{coded_at}
 use Rattle.dictionary_answers.specs.inside.Coding.{Finds}
 use Rattle.dictionary_answers.specs.inside.Packed.{numbers_in}
 use Rattle.dictionary_answers.proofs.Indexed.{slot_there}
-use Rattle.dictionary_answers.proofs.Slots.{slot_more, few_texts, none_fit}
+use Rattle.dictionary_answers.proofs.Slots.{slot_more, slots_all, few_texts, none_fit}
 use Rattle.dictionary_answers.proofs.columns.code_far.Goals as goal
 
 pub far_place-requires-clause-few : goal.far_place-requires-clause-few
@@ -38,3 +38,9 @@ loop-place-preserved c =
           (subst (λ (v : Value). Finds c.loop-place.found c.far_place.new.found c.in_ok-number.number v) is c.in_ok-number.ensures.found);
       met = c.in_ok-number.ensures.met;
     }
+
+pub returns-clause-coded : goal.returns-clause-coded
+returns-clause-coded c =
+    let column = c.args.of.now.column.now in
+    slots_all (slot_of column) c.loop-place.place column.len c.args.found.now.left c.loop-place.found c.loop-place.packed
+    (omega (arith, c.requires.long)) (omega (arith, c.loop-place-test.false)) (omega arith) c.loop-place.invariant.coded

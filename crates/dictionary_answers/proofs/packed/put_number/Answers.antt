@@ -1,4 +1,4 @@
-use Rattle.std.proofs.Common.{◌≡◌, ◌<◌, ◌-◌, ◌*◌, ◌^◌, length, arith, refl}
+use Rattle.std.proofs.Common.{◌-◌, ◌*◌, length, arith, refl}
 use Rattle.dictionary_answers.proofs.Numbers.{numbers_put}
 use Rattle.dictionary_answers.proofs.packed.put_number.Goals as goal
 
