@@ -11,3 +11,5 @@ pub mod Standing
 pub mod Laws
 pub mod Place
 pub mod Log
+pub mod Expiry
+pub mod Entries

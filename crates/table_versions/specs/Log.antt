@@ -1,25 +1,33 @@
--- The log: what was accepted, in order. A put is the one kind of entry so far.
-use Rattle.std.specs.Prelude.{◌≡◌, ℕ, List, [], ◌∷◌, ◌++◌, length, All}
+-- The log: what was accepted, in order: puts, and expiries, each of which is a mark.
+use Rattle.std.specs.Prelude.{◌≡◌, ℕ, max, List, [], ◌∷◌, ◌++◌, length, All}
 use Rattle.table_versions.specs.Database.{Database, Put}
 use Rattle.table_versions.specs.Database as puts
 use Rattle.table_versions.specs.Valid.{IsPut}
 
--- an entry of a log
+-- an entry of a log: a put, or the mark of an expiry of the versions below a number
 pub data Entry : Type 0 where
   added : Put → Entry
+  expired : (version : ℕ) → Entry
 
 -- what was done to a catalog, in order
 abbrev pub Log : Type 0
 Log = List Entry
 
--- the puts of a log, in order
+-- the puts of a log, in order: a mark is no put
 abbrev pub puts_of : Log → List Put
 puts_of [] = []
 puts_of (added put ∷ log) = put ∷ puts_of log
+puts_of (expired version ∷ log) = puts_of log
 
 -- how many puts a log has: the number of its newest version
 abbrev pub puts_in : Log → ℕ
 puts_in log = length (puts_of log)
+
+-- the number of the oldest version that is not expired: the greatest mark, or 0
+abbrev pub floor_of : Log → ℕ
+floor_of [] = 0
+floor_of (added put ∷ log) = floor_of log
+floor_of (expired version ∷ log) = max version (floor_of log)
 
 -- the newest database of a log
 abbrev pub database_of : Log → Database
