@@ -1,0 +1,2 @@
+pub mod Dropping
+pub mod Versions
