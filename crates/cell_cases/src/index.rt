@@ -12,8 +12,9 @@ use version_index::VersionIndex;
 
 // The versions so far, and the one behind a put of one row.
 fn longer(alloc: Global, index: &VersionIndex) -> Result<VersionIndex, Fault>
-    requires { length index.now ≤ most_commits }
-    ensures { IfOk result (λ next. length next ≡ length index.now + 1) }
+    requires { index.now.floor + length index.now.versions ≤ most_commits }
+    ensures { IfOk result (λ next. (next.floor ≡ index.now.floor)
+        × (length next.versions ≡ length index.now.versions + 1)) }
 {
     let catalog = apply(alloc, index.newest(), one_row(alloc, "t")?)?;
     Ok(index.with(alloc, catalog)?)
@@ -21,7 +22,7 @@ fn longer(alloc: Global, index: &VersionIndex) -> Result<VersionIndex, Fault>
 
 // Versions 0 and 1.
 fn of_one_put(alloc: Global, seed: HashSeed) -> Result<VersionIndex, Fault>
-    ensures { IfOk result (λ index. length index ≡ 2) }
+    ensures { IfOk result (λ index. (index.floor ≡ 0) × (length index.versions ≡ 2)) }
 {
     let opened = VersionIndex::new(alloc, seed)?;
     longer(alloc, &opened)
@@ -33,7 +34,7 @@ fn newest_of_both(
     index: &VersionIndex,
     table: &Text,
 ) -> Result<((u64, u64), (u64, u64)), Fault>
-    requires { length index.now ≤ most_commits }
+    requires { index.now.floor + length index.now.versions ≤ most_commits }
 {
     let next = longer(alloc, index)?;
     Ok((newest(index, table), newest(&next, table)))
@@ -46,7 +47,8 @@ fn newest(index: &VersionIndex, table: &Text) -> (u64, u64) {
 
 // The number and the rows of the version of a number.
 fn found(index: &VersionIndex, number: u64, table: &Text) -> Result<(u64, u64), Fault>
-    requires { number < length index.now }
+    requires kept { index.now.floor ≤ number }
+    requires reached { number < index.now.floor + length index.now.versions }
 {
     let version = index.at(number)?;
     Ok((version.number(), rows_of(&version, table)))
@@ -67,4 +69,26 @@ pub fn versions_by_number(alloc: Global, seed: HashSeed) -> Result<String, Fault
     let (first, rows) = found(&index, 0, &table)?;
     let (second, more) = found(&index, 1, &table)?;
     Ok(format!(in alloc; "{first} {rows}, {second} {more}")?)
+}
+
+// Versions 1 and 2: version 0 was dropped before version 2 came.
+fn of_two_puts(alloc: Global, index: &VersionIndex) -> Result<VersionIndex, Fault>
+    requires { (index.now.floor ≡ 0) × (length index.now.versions ≡ 2) }
+    ensures { IfOk result (λ next. (next.floor ≡ 1) × (length next.versions ≡ 2)) }
+{
+    let kept = index.without(alloc, 1)?;
+    longer(alloc, &kept)
+}
+
+/// An index of which version 0 was dropped, with a version more: the oldest version's number, and versions 1 and 2, each found by
+/// its number. Then version 0 of the index of which it was made.
+pub fn a_version_is_dropped(alloc: Global, seed: HashSeed) -> Result<String, Fault> {
+    let table = Text::new(alloc, "t")?;
+    let index = of_one_put(alloc, seed)?;
+    let next = of_two_puts(alloc, &index)?;
+    let (first, rows) = found(&next, 1, &table)?;
+    let (second, more) = found(&next, 2, &table)?;
+    let (old, none) = found(&index, 0, &table)?;
+    let floor = next.floor();
+    Ok(format!(in alloc; "{floor}: {first} {rows}, {second} {more}; {old} {none}")?)
 }

@@ -26,10 +26,14 @@ fn main(rt: HostRuntime) -> io::Result<()> {
     let seed = HashSeed::new(&rt)?;
     let seen = alone::refusals(&rt, alloc, seed);
     println!(rt; "{}", line(alloc, "refusals", seen)?)?;
+    let seen = alone::expiries(&rt, alloc, seed);
+    println!(rt; "{}", line(alloc, "expiries", seen)?)?;
     let seen = index::an_index_stays(alloc, seed);
     println!(rt; "{}", line(alloc, "an_index_stays", seen)?)?;
     let seen = index::versions_by_number(alloc, seed);
     println!(rt; "{}", line(alloc, "versions_by_number", seen)?)?;
+    let seen = index::a_version_is_dropped(alloc, seed);
+    println!(rt; "{}", line(alloc, "a_version_is_dropped", seen)?)?;
     let seen = several::two_look_while_one_puts(&rt, alloc, seed);
     println!(rt; "{}", line(alloc, "two_look_while_one_puts", seen)?)?;
     let seen = several::two_put_by_one_lock(&rt, alloc, seed);

@@ -1,8 +1,10 @@
--- The same answer of a put, with another value.
-use Rattle.std.proofs.Common.{◌≡◌, ◌∙◌, Result, Ok, Err}
+-- The same answer of a put, with another value, and of an expiry.
+use Rattle.std.proofs.Common.{◌≡◌, ℕ, ap, sym, ◌∙◌, Result, Ok, Err}
 use Rattle.scan_base.specs.declared.fault.Fault.{Fault}
 use Rattle.scan_base.specs.Reading.{RefusesFirst}
 use Rattle.table_versions.specs.Database.{Put}
+use Rattle.table_versions.specs.Log.{floor_of}
+use Rattle.version_cell.specs.Expiries.{ExpiresBehind}
 use Rattle.version_cell.specs.Puts.{PutsBehind, after_log}
 use Rattle.version_cell.specs.Seats.{Seat}
 
@@ -30,4 +32,12 @@ refused_so X Y fault old put new behind = record {
   met = behind.met;
   answered = behind.answered;
   first = refused_first_so X Y fault (after_log behind.log put) behind.first;
+}
+
+-- an expiry that was done, by a seat that has then seen the same
+pub expired_so : (floor : ℕ) (old : Seat) (version : ℕ) (seen new : Seat) → ExpiresBehind (Ok floor) old version seen → new.log ≡ seen.log → ExpiresBehind (Ok floor) old version new
+expired_so floor old version seen new behind same = record {
+  log = behind.log;
+  met = behind.met;
+  answered = (behind.answered.0, same ∙ behind.answered.1, behind.answered.2 ∙ ap floor_of (sym same));
 }

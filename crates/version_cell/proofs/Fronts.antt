@@ -6,7 +6,8 @@ use Rattle.std.proofs.Common.{Bool, true, false, ◌≡◌, ◌⊎◌, inl, inr,
 use mathlib.Core.List.{IsPrefix}
 use Rattle.scan_base.specs.declared.fault.Fault.{Fault}
 use Rattle.table_versions.specs.Database.{Put}
-use Rattle.table_versions.specs.Log.{Log, added, Begins}
+use Rattle.table_versions.specs.Log.{Log, added, expired, Begins}
+use Rattle.table_versions.specs.Expiry.{IsExpired}
 use Rattle.version_cell.specs.Puts.{IsAnswered}
 
 -- each list begins with itself
@@ -48,6 +49,11 @@ either_begins false xs ys zs m n e f p q is = let front = prefix_shorter ys xs z
 pub goes_on : {X : Type 0} (result : Result X Fault) (log : Log) (put : Put) (next : Log) → IsAnswered result log put next → Begins log next
 goes_on (Ok receipt) log put next answered = (added put ∷ [], answered.0)
 goes_on (Err fault) log put next answered = ([], answered.0 ∙ sym (append-nil log))
+
+-- and so does the log behind an expiry
+pub goes_on_so : (result : Result ℕ Fault) (log : Log) (version : ℕ) (next : Log) → IsExpired result log version next → Begins log next
+goes_on_so (Ok floor) log version next answered = (expired version ∷ [], answered.1)
+goes_on_so (Err fault) log version next answered = ([], answered.0 ∙ sym (append-nil log))
 
 -- who had seen no more than a log, and learns of a later one, has seen that
 pub learns_all : (old log next new : Log) → Begins old log → Begins log next → (new ≡ old) ⊎ (new ≡ next) → Begins next new → new ≡ next

@@ -1,5 +1,5 @@
 pub mod Fronts
 pub mod Answering
 pub mod Adding
-pub mod Versions
+pub mod Accepting
 pub mod Entries

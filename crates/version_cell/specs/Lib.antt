@@ -1,6 +1,5 @@
-pub mod Rules
-pub mod Made
 pub mod Seats
 pub mod Puts
+pub mod Expiries
+pub mod Rules
 pub mod Blanks
-pub mod Versions

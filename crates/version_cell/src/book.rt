@@ -1,29 +1,15 @@
 //! The log of a cell, as a history that only grows.
-ghost use Rattle.std.specs.Prelude.{◌≡◌, ◌+◌, ◌<◌, ◌^◌, ◌++◌, ◌∷◌, [], length, MatchBool, IfSome};
-ghost use Rattle.table_versions.specs.Log.{added, puts_in, Begins};
-ghost use Rattle.table_versions.specs.Stored.{put_of};
+ghost use Rattle.std.specs.Prelude.{◌≡◌, ◌+◌, ◌<◌, ◌≤◌, ◌^◌, ◌++◌, ◌∷◌, [], length, MatchBool, IfSome};
+ghost use Rattle.table_versions.specs.Log.{puts_in, Begins};
 ghost use Rattle.version_cell.specs.Rules.{head_of};
 
 use logbook::{Gain, Offer, Plain, Play, Rule, Seen, Start, Word};
 use std::marker::{Brand, Model};
-use std::snapshot::Snapshot;
 use std::sync::ledger::Ledger;
-use table_versions::Put;
+use table_versions::Entry;
 
-/// An entry as the log has it: a put by its rows, and not by its batches. It has no bytes.
-#[derive(Drop)]
-pub struct Entry {
-    put: Snapshot<Put>,
-}
-
-impl Model for Entry {
-    ghost use Rattle.table_versions.specs.Log.{Entry, added};
-    ghost use Rattle.table_versions.specs.Stored.{put_of};
-
-    ghost Value = { Entry };
-
-    ghost view = { λ e. added (put_of e.put.value) };
-}
+// How many entries a log may have.
+const MOST_ENTRIES: u64 = 4_611_686_018_427_387_904;
 
 /// The rule of the book: its first word is the length of the log.
 pub struct Law;
@@ -55,7 +41,7 @@ impl Gain<Entry, u64> for Nothing {
     ghost after = { λ names about answer. ftrue };
 }
 
-/// A step that adds a put.
+/// A step that adds an entry.
 pub struct Add;
 
 impl Play<Entry, u64> for Add {
@@ -64,14 +50,12 @@ impl Play<Entry, u64> for Add {
     ghost then = { Adds };
 }
 
-impl Plain<Snapshot<Put>, Entry, u64> for Add {
+impl Plain<Entry, Entry, u64> for Add {
     ghost use Rattle.std.specs.Prelude.{None};
-    ghost use Rattle.table_versions.specs.Log.{added};
-    ghost use Rattle.table_versions.specs.Stored.{put_of};
 
-    ghost ask = { λ put. added (put_of put.value) };
+    ghost ask = { λ entry. entry };
 
-    ghost state = { λ put. None };
+    ghost state = { λ entry. None };
 }
 
 /// Which cell it is: the book of its log, and the ledger in which its entries are counted. Each call of a program picks it.
@@ -109,7 +93,12 @@ impl Opened {
         ensures log { result.1.seen.log ≡ [] }
     {
         let Opened { head, seen } = self;
-        (head, History { entries: 0, seen })
+        let history = History {
+            entries: 0,
+            puts: 0,
+            seen,
+        };
+        (head, history)
     }
 }
 
@@ -120,16 +109,25 @@ pub type Head = Word<Entry, u64, Law>;
 #[derive(Drop)]
 pub struct History {
     entries: u64,
+    puts: u64,
     pub seen: Seen<Entry, u64, Law>,
     pub ghost counted: { entries ≡ length seen.log },
+    pub ghost numbered: { puts ≡ puts_in seen.log },
 }
 
 impl History {
-    /// How many puts it has: a put is the one kind of entry.
+    /// How many puts it has: a mark is none.
     pub fn puts(&self) -> u64
         ensures { result ≡ puts_in self.now.seen.log }
     {
-        self.entries
+        self.puts
+    }
+
+    /// Whether it has as many entries as it may have.
+    pub fn is_full(&self) -> bool
+        ensures { MatchBool result (2 ^ 62 ≤ length self.now.seen.log) (length self.now.seen.log < 2 ^ 62) }
+    {
+        self.entries >= MOST_ENTRIES
     }
 
     /// A copy.
@@ -138,6 +136,7 @@ impl History {
     {
         History {
             entries: self.entries,
+            puts: self.puts,
             seen: self.seen.again(),
         }
     }
@@ -153,16 +152,27 @@ impl History {
         self.entries <= other.entries
     }
 
-    /// The history with a put added. None where the log is longer than this.
-    pub fn with(&self, head: &Head, put: &Snapshot<Put>) -> Option<History>
+    // How many puts it has with an entry added.
+    #[tactic(auto, using(crate::proofs::Entries::puts_in_more, crate::proofs::Entries::few_puts))]
+    fn puts_with(&self, entry: &Entry) -> u64
+        requires { length self.now.seen.log < 2 ^ 62 }
+        ensures { result ≡ puts_in (self.now.seen.log ++ entry.now ∷ []) }
+    {
+        if entry.is_mark() {
+            self.puts
+        } else {
+            self.puts + 1
+        }
+    }
+
+    /// The history with an entry added. None where the log is longer than this.
+    pub fn with(&self, head: &Head, entry: &Entry) -> Option<History>
         requires head { head.now ≡ head_of self.now.seen.book }
         requires room { length self.now.seen.log < 2 ^ 62 }
-        ensures { IfSome result (λ h. (h.seen.book ≡ self.now.seen.book) × (h.seen.log ≡ self.now.seen.log ++ added (put_of put.now.value) ∷ [])) }
+        ensures { IfSome result (λ h. (h.seen.book ≡ self.now.seen.book) × (h.seen.log ≡ self.now.seen.log ++ entry.now ∷ [])) }
     {
         let mut seen = self.seen.again();
-        let mut offer: Offer<Entry, u64, Law, Nothing> = seen.plain::<Nothing, Snapshot<Put>, Add>(
-            put,
-        );
+        let mut offer: Offer<Entry, u64, Law, Nothing> = seen.plain::<Nothing, Entry, Add>(entry);
         let mut pen = seen.no_pen();
         let entries = self.entries;
         let found = head.compare_exchange::<Add, Nothing>(
@@ -177,6 +187,7 @@ impl History {
         }
         Some(History {
             entries: entries + 1,
+            puts: self.puts_with(entry),
             seen,
         })
     }

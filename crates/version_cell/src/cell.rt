@@ -1,12 +1,11 @@
 //! How a cell is made.
 
-ghost use Rattle.std.specs.Prelude.{◌≡◌, ◌≤◌, ◌<◌, [], length, drop, map, All, IfOk, IfErr, IfSome};
+ghost use Rattle.std.specs.Prelude.{◌≡◌, ◌≤◌, ◌<◌, [], length, drop, All, IfOk, IfErr, IfSome};
 ghost use Rattle.std.specs.Arc.{arc_value};
 ghost use Rattle.scan_base.specs.declared.fault.Fault.TheVariants.{OutOfMemory};
-ghost use Rattle.table_versions.specs.Stored.{tables_of};
 ghost use Rattle.version_cell.specs.Blanks.{IsNamed, most_seats};
 ghost use Rattle.version_cell.specs.Seats.{seat};
-ghost use Rattle.version_cell.specs.Versions.{versions_of};
+ghost use Rattle.version_index.specs.Versions.{IsIndexOf};
 
 use crate::book::{CellName, History, Opened};
 use crate::publisher::{CellWriter, Publisher};
@@ -33,18 +32,17 @@ pub struct Blank {
 }
 
 impl Model for Blank {
-    ghost use Rattle.std.specs.Prelude.{◌≡◌, ◌≤◌, ◌<◌, [], map};
+    ghost use Rattle.std.specs.Prelude.{◌≡◌, ◌≤◌, ◌<◌, []};
     ghost use Rattle.std.specs.Arc.{arc_value};
-    ghost use Rattle.table_versions.specs.Stored.{tables_of};
     ghost use Rattle.version_cell.specs.Blanks.{BlankAt, most_seats};
-    ghost use Rattle.version_cell.specs.Versions.{versions_of};
+    ghost use Rattle.version_index.specs.Versions.{IsIndexOf};
 
     ghost Value = { BlankAt };
 
     ghost view = { λ b. record { book = b.opened.seen.book; ledger = b.ledger.name; seats = b.seats } };
 
     ghost invariant = { λ b. (0 < b.seats) × (b.seats ≤ most_seats) × (b.ledger.parts ≡ b.seats)
-        × (map tables_of (arc_value b.index) ≡ versions_of []) };
+        × IsIndexOf (arc_value b.index) [] };
 }
 
 /// A cell with so many seats. Hashes of the values of its versions begin with the seed.
@@ -52,7 +50,6 @@ impl Model for Blank {
 /// # Errors
 ///
 /// F21 (`Fault::OutOfMemory`) where memory is refused.
-#[tactic(auto, unfolding(crate::specs::Versions::versions_of))]
 pub fn open(alloc: Global, seed: HashSeed, seats: usize) -> Result<Blank, Fault>
     requires { (0 < seats) × (seats ≤ most_seats) }
     ensures ok { IfOk result (λ blank. blank.seats ≡ seats) }

@@ -4,7 +4,6 @@
 mod book;
 pub mod cell;
 pub mod gathered;
-mod made;
 mod publisher;
 pub mod putter;
 pub mod scanner;

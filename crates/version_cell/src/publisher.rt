@@ -1,16 +1,16 @@
 //! Who publishes: the log of a cell grows, and its seats are shown the versions.
 
-ghost use Rattle.std.specs.Prelude.{◌≡◌, ◌≢◌, ◌<◌, ◌++◌, ◌∷◌, [], map, drop, fold, IfOk, IfErr, IsOk, Err};
+ghost use Rattle.std.specs.Prelude.{◌≡◌, ◌≢◌, ◌<◌, ◌^◌, ◌++◌, ◌∷◌, [], length, drop, fold, IfOk, IfErr, IsOk, Err};
 ghost use Rattle.std.specs.Arc.{arc_value};
-ghost use Rattle.scan_base.specs.Limits.{most_commits};
 ghost use Rattle.scan_base.specs.Reading.{RefusesFirst};
 ghost use Rattle.scan_base.specs.declared.fault.Fault.TheVariants.{OutOfMemory};
-ghost use Rattle.table_versions.specs.Log.{added, puts_of, puts_in, IsLog};
-ghost use Rattle.table_versions.specs.Stored.{put_of, tables_of};
+ghost use Rattle.table_versions.specs.Expiry.{IsExpired};
+ghost use Rattle.table_versions.specs.Log.{added, puts_in, IsLog};
+ghost use Rattle.table_versions.specs.Stored.{put_of};
 ghost use Rattle.table_versions.specs.Valid.{IsPut};
 ghost use Rattle.version_cell.specs.Puts.{after_log, IsAnswered};
-ghost use Rattle.version_cell.specs.Rules.{head_of};
-ghost use Rattle.version_cell.specs.Versions.{versions_of};
+ghost use Rattle.version_cell.specs.Rules.{head_of, Accepts};
+ghost use Rattle.version_index.specs.Versions.{IsIndexOf};
 
 use crate::book::{CellName, Head, History};
 use crate::shown::{Entered, Publishes, Shown, Store};
@@ -21,7 +21,7 @@ use std::alloc::Global;
 use std::marker::{Model, PhantomData};
 use std::sync::{Arc, Wait};
 use std::{snapshot, thread};
-use table_versions::Put;
+use table_versions::{Entry, Put};
 use version_index::VersionIndex;
 
 pub(crate) type CellWriter<C> = Writer<Store, Store, Entered, Shown<C>>;
@@ -81,8 +81,9 @@ impl<C: CellName, R: Wait + Drop> Publisher<C, R> {
 
     // The versions behind a put, or why it is refused. Nothing has changed yet.
     fn prepare(&self, alloc: Global, put: Put) -> Result<Arc<VersionIndex>, Fault>
-        ensures ok { IfOk result (λ index. map tables_of (arc_value index) ≡ versions_of (puts_of (self.now ++ added (put_of put) ∷ []))) }
+        ensures ok { IfOk result (λ index. IsIndexOf (arc_value index) (self.now ++ added (put_of put) ∷ [])) }
         ensures accepted { IfOk result (λ _. IsOk (after_log self.now (put_of put))) }
+        ensures room { IfOk result (λ _. length self.now < 2 ^ 62) }
         ensures typed { IfOk result (λ _. IsPut (put_of put)) }
         ensures err { IfErr result (λ fault. fault ≢ OutOfMemory
             → after_log self.now (put_of put) ≡ Err fault) }
@@ -91,34 +92,31 @@ impl<C: CellName, R: Wait + Drop> Publisher<C, R> {
         self.store().after(alloc, put)
     }
 
-    // Adds the put to the book and shows the version behind it, and gives its number. From here on nothing can refuse the put.
-    fn commit(&mut self, index: Arc<VersionIndex>, made_by: &snapshot::Snapshot<Put>) -> u64
-        requires kept { map tables_of (arc_value index)
-            ≡ versions_of (puts_of (self.old ++ added (put_of made_by.now.value) ∷ [])) }
-        requires accepted { IsOk (after_log self.old (put_of made_by.now.value)) }
-        ensures log { self.new ≡ self.old ++ added (put_of made_by.now.value) ∷ [] }
-        ensures number { result ≡ puts_in self.new }
+    // Adds an entry to the book and shows the versions behind it. From here on nothing can refuse the entry.
+    fn commit(&mut self, index: Arc<VersionIndex>, entry: &Entry)
+        requires kept { IsIndexOf (arc_value index) (self.old ++ entry.now ∷ []) }
+        requires accepted { Accepts self.old entry.now }
+        requires room { length self.old < 2 ^ 62 }
+        ensures { self.new ≡ self.old ++ entry.now ∷ [] }
     {
-        let store = Store::new(index, self.record(made_by));
-        let number = store.history.puts();
+        let store = Store::new(index, self.record(entry));
         let writer = self.writer.take().unwrap();
-        let writer = publish(&self.rt, writer, store);
+        let writer = publish(&self.rt, writer, store, entry);
         let gone = self.writer.replace(writer);
         let None = gone else {
             unreachable!();
         };
-        number
     }
 
-    // The history with the put added. It asks again where the book were longer than what is shown, which it never is.
-    fn record(&self, made_by: &snapshot::Snapshot<Put>) -> History
-        requires few { puts_in self.now < most_commits }
+    // The history with the entry added. It asks again where the book were longer than what is shown, which it never is.
+    fn record(&self, entry: &Entry) -> History
+        requires room { length self.now < 2 ^ 62 }
         ensures book { result.seen.book ≡ C.book }
-        ensures log { result.seen.log ≡ self.now ++ added (put_of made_by.now.value) ∷ [] }
+        ensures log { result.seen.log ≡ self.now ++ entry.now ∷ [] }
     {
         let shown = self.store();
         for _ in self.rt.forever() {
-            if let Some(history) = shown.history.with(&self.head, made_by) {
+            if let Some(history) = shown.history.with(&self.head, entry) {
                 return history;
             }
             thread::yield_now();
@@ -143,13 +141,23 @@ impl<C: CellName, R: Wait + Drop> Publisher<C, R> {
         ensures typed { IfOk result (λ _. IsPut (put_of put)) }
     {
         let made_by = snapshot::Snapshot::of(&put);
+        let entry = Entry::put(snapshot::Snapshot::of(&put));
         let index = self.prepare(alloc, put)?;
-        let number = self.commit(index, &made_by);
+        self.commit(index, &entry);
         Ok(Receipt {
-            number,
+            number: self.store().history.puts(),
             put: made_by,
             of: PhantomData,
         })
+    }
+
+    // Drops the versions below a number, and gives the floor behind it. It waits as a put does.
+    pub(crate) fn expire(&mut self, alloc: Global, version: u64) -> Result<u64, Fault>
+        ensures { IsExpired result self.old version self.new }
+    {
+        let index = self.store().without(alloc, version)?;
+        self.commit(index, &Entry::mark(version));
+        Ok(self.store().floor())
     }
 }
 
@@ -164,16 +172,22 @@ impl<C: CellName, R: Wait + Drop> Drop for Publisher<C, R> {
     }
 }
 
-// Shows a store.
-pub(crate) fn publish<C: CellName, R: Wait>(
+// Shows a store behind an entry. Behind a mark it shows it twice: the copy which is not shown keeps the versions that were
+// dropped, until the next time.
+fn publish<C: CellName, R: Wait>(
     rt: &R,
     writer: CellWriter<C>,
     store: Store,
+    entry: &Entry,
 ) -> CellWriter<C>
     requires { store.history.seen.book ≡ C.book }
     ensures { result.desk.shown.value.history.seen ≡ store.history.seen }
 {
-    show(rt, push(rt, writer, store))
+    let writer = show(rt, push(rt, writer, store));
+    if entry.is_mark() {
+        return show(rt, writer);
+    }
+    writer
 }
 
 // Adds a store to what is to be shown. It asks again where there is no room.
@@ -198,9 +212,10 @@ fn push<C: CellName, R: Wait>(rt: &R, writer: CellWriter<C>, store: Store) -> Ce
 fn show<C: CellName, R: Wait>(rt: &R, writer: CellWriter<C>) -> CellWriter<C>
     requires { (fold (λ _ store. store.history.seen) writer.desk.shown.value.history.seen
         (drop writer.behind writer.log.items)).book ≡ C.book }
-    ensures { result.desk.shown.value.history.seen
+    ensures shown { result.desk.shown.value.history.seen
         ≡ fold (λ _ store. store.history.seen) writer.desk.shown.value.history.seen
         (drop writer.behind writer.log.items) }
+    ensures pending { drop result.behind result.log.items ≡ [] }
 {
     let mut writer = writer;
     for _ in rt.forever() {

@@ -2,6 +2,7 @@
 
 ghost use Rattle.std.specs.Prelude.{◌≡◌, IfOk};
 ghost use Rattle.scan_base.specs.Reading.{RefusesFirst};
+ghost use Rattle.table_versions.specs.Expiry.{IsExpired};
 ghost use Rattle.table_versions.specs.Log.{puts_in, IsLog};
 ghost use Rattle.table_versions.specs.Stored.{put_of};
 ghost use Rattle.table_versions.specs.Valid.{IsPut};
@@ -67,5 +68,18 @@ impl<C: CellName, R: Wait + Drop> Putter<C, R> {
         ensures typed { IfOk result (λ _. IsPut (put_of put)) }
     {
         self.publisher.put(alloc, put)
+    }
+
+    /// Marks the versions below a number as expired, and gives the floor: the greatest number that was so marked. From then on no
+    /// seat gets a version below it, and their memory is given back where nobody else has them. It waits as `put` does.
+    ///
+    /// # Errors
+    ///
+    /// F18 (`Fault::VersionUnknown`) where the log has fewer puts, and F21 (`Fault::OutOfMemory`) only where it has as many. Nothing
+    /// has changed then.
+    pub fn expire(&mut self, alloc: Global, version: u64) -> Result<u64, Fault>
+        ensures { IsExpired result self.old version self.new }
+    {
+        self.publisher.expire(alloc, version)
     }
 }

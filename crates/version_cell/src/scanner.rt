@@ -1,13 +1,12 @@
 //! Who looks.
 
 ghost use Rattle.std.specs.Prelude.{◌≡◌, ◌+◌, ◌⊎◌, ◌≤◌, ◌<◌, ◌++◌, ◌∷◌, [], length, IfOk, IfErr, IfSome, MatchBool};
-ghost use Rattle.scan_base.specs.declared.fault.Fault.TheVariants.{OutOfMemory, VersionUnknown};
-ghost use Rattle.table_versions.specs.Log.{added, puts_in, database_of, version, Begins};
-ghost use Rattle.table_versions.specs.Stored.{put_of, tables_of};
+ghost use Rattle.scan_base.specs.declared.fault.Fault.TheVariants.{OutOfMemory, VersionExpired, VersionUnknown};
+ghost use Rattle.table_versions.specs.Log.{puts_in, floor_of, database_of, version, Begins};
+ghost use Rattle.table_versions.specs.Stored.{tables_of};
 ghost use Rattle.version_cell.specs.Seats.{seat, EntersOnce, MakesNone, MayEnter};
 
 use crate::book::{CellName, History};
-use crate::made::{Made, none_made, one_more};
 use crate::publisher::CellWriter;
 use crate::shown::{Entered, Enters, Shown, Store};
 use crate::tally::Tally;
@@ -17,7 +16,7 @@ use scan_base::Fault;
 use std::marker::Model;
 use std::sync::ledger::Share;
 use std::{mem, snapshot};
-use table_versions::{Put, Snapshot};
+use table_versions::{Entries, Entry, Snapshot};
 
 type CellReader<C> = Reader<Store, Entered, Shown<C>>;
 
@@ -27,7 +26,7 @@ type CellReader<C> = Reader<Store, Entered, Shown<C>>;
 pub struct Scanner<C: CellName> {
     history: History,
     reader: Option<CellReader<C>>,
-    made: snapshot::Snapshot<Made>,
+    made: snapshot::Snapshot<Entries>,
     // Each of these entries is counted in it.
     share: Share<C>,
 }
@@ -61,7 +60,7 @@ impl<C: CellName> Scanner<C> {
         Some(Scanner {
             history: history.again(),
             reader: Some(reader),
-            made: none_made(),
+            made: Entries::none(),
             share,
         })
     }
@@ -116,20 +115,26 @@ impl<C: CellName> Scanner<C> {
     ///
     /// # Errors
     ///
-    /// F18 (`Fault::VersionUnknown`) where that log has fewer puts, and F21 (`Fault::OutOfMemory`) as `current` does.
+    /// F18 (`Fault::VersionUnknown`) where that log has fewer puts, F19 (`Fault::VersionExpired`) where the number is below its
+    /// floor, and F21 (`Fault::OutOfMemory`) as `current` does.
     pub fn at(&mut self, number: u64) -> Result<Snapshot, Fault>
         ensures made { MakesNone self.old self.new }
         ensures begins { Begins self.old.log self.new.log }
         ensures ok { IfOk result (λ snapshot. EntersOnce self.old self.new
             × (number ≤ puts_in self.new.log) × (snapshot.number ≡ number)
             × (tables_of snapshot.catalog ≡ version self.new.log number)) }
+        ensures kept { IfOk result (λ _. floor_of self.new.log ≤ number) }
         ensures err { IfErr result (λ fault.
             ((fault ≡ VersionUnknown) × EntersOnce self.old self.new × (puts_in self.new.log < number))
-            ⊎ ((fault ≡ OutOfMemory) × MayEnter self.old self.new)) }
+            ⊎ (((fault ≡ VersionExpired) × EntersOnce self.old self.new × (number ≤ puts_in self.new.log)
+            × (number < floor_of self.new.log)) ⊎ ((fault ≡ OutOfMemory) × MayEnter self.old self.new))) }
     {
         let store = self.enter()?;
         if number > store.history.puts() {
             return Err(Fault::VersionUnknown);
+        }
+        if number < store.floor() {
+            return Err(Fault::VersionExpired);
         }
         Ok(store.version(number)?)
     }
@@ -161,13 +166,13 @@ impl<C: CellName> Scanner<C> {
         }
     }
 
-    // One put more was made through the seat, and is counted.
-    pub(crate) fn count_made(&mut self, tally: &mut Tally<C>, put: snapshot::Snapshot<Put>)
+    // One entry more was made through the seat, and is counted.
+    pub(crate) fn count_made(&mut self, tally: &mut Tally<C>, entry: &Entry)
         ensures tally { tally.new ≡ tally.old + 1 }
-        ensures made { self.new ≡ seat self.old.log self.old.entered self.old.enters (self.old.made ++ added (put_of put.value) ∷ []) }
+        ensures made { self.new ≡ seat self.old.log self.old.entered self.old.enters (self.old.made ++ entry.now ∷ []) }
     {
-        let before = mem::replace(&mut self.made, none_made());
-        self.made = one_more(before, put);
+        let before = mem::replace(&mut self.made, Entries::none());
+        self.made = Entries::with(before, entry);
         tally.count(&mut self.share);
     }
 

@@ -1,9 +1,11 @@
 //! A putter that threads share under one lock.
 
 ghost use Rattle.std.specs.Prelude.{◌≡◌, [], length, IfOk};
+ghost use Rattle.table_versions.specs.Expiry.{IsExpired};
 ghost use Rattle.table_versions.specs.Log.{puts_in, Begins, IsLog};
 ghost use Rattle.table_versions.specs.Stored.{put_of};
 ghost use Rattle.table_versions.specs.Valid.{IsPut};
+ghost use Rattle.version_cell.specs.Expiries.{CountsExpiry, ExpiresBehind};
 ghost use Rattle.version_cell.specs.Puts.{CountsPut, IsAnswered, PutsBehind};
 ghost use Rattle.version_cell.specs.Seats.{MakesNone};
 
@@ -18,7 +20,7 @@ use scan_base::Fault;
 use std::alloc::Global;
 use std::sync::{Mutex, Wait};
 use std::thread;
-use table_versions::Put;
+use table_versions::{Entry, Put};
 
 // Who publishes, and how many entries were made through all seats. Whenever the lock is free the log has so many: each entry
 // of it was made through a seat, and counted once.
@@ -44,8 +46,23 @@ impl<C: CellName, R: Wait + Drop> Counting<C, R> {
         let Counting { publisher, tally } = self;
         let receipt = put_and_learn(publisher, alloc, seat, put)?;
         let Receipt { number, put, .. } = receipt;
-        seat.count_made(tally, put);
+        seat.count_made(tally, &Entry::put(put));
         Ok(number)
+    }
+
+    // Expires versions through a seat, and gives the floor.
+    fn expire(&mut self, alloc: Global, seat: &mut Scanner<C>, version: u64) -> Result<u64, Fault>
+        requires within { Begins seat.old.log self.old.publisher }
+        ensures answered { IsExpired result self.old.publisher version self.new.publisher }
+        ensures expiry { ExpiresBehind result seat.old version seat.new }
+        ensures made { CountsExpiry result seat.old version seat.new }
+        ensures begins { Begins seat.old.log seat.new.log }
+        ensures enters { (seat.new.enters ≡ seat.old.enters) × (seat.new.entered ≡ seat.old.entered) }
+    {
+        let Counting { publisher, tally } = self;
+        let floor = expire_and_learn(publisher, alloc, seat, version)?;
+        seat.count_made(tally, &Entry::mark(version));
+        Ok(floor)
     }
 }
 
@@ -72,7 +89,27 @@ fn put_and_learn<C: CellName, R: Wait + Drop>(
     answer
 }
 
-/// A putter that threads share under one lock. Each put is made through a seat, and stands among those of that seat.
+// Expires versions, and lets the seat see the log behind the mark.
+fn expire_and_learn<C: CellName, R: Wait + Drop>(
+    publisher: &mut Publisher<C, R>,
+    alloc: Global,
+    seat: &mut Scanner<C>,
+    version: u64,
+) -> Result<u64, Fault>
+    requires within { Begins seat.old.log publisher.old }
+    ensures answered { IsExpired result publisher.old version publisher.new }
+    ensures expiry { ExpiresBehind result seat.old version seat.new }
+    ensures begins { Begins seat.old.log seat.new.log }
+    ensures enters { (seat.new.enters ≡ seat.old.enters) × (seat.new.entered ≡ seat.old.entered) }
+    ensures made { MakesNone seat.old seat.new }
+{
+    let floor = publisher.expire(alloc, version);
+    let behind = publisher.tell();
+    seat.learn(&behind);
+    floor
+}
+
+/// A putter that threads share under one lock. Each entry is made through a seat, and stands among those of that seat.
 #[derive(Drop)]
 pub struct SharedPutter<C: CellName, R: Wait + Drop> {
     counting: Mutex<Counting<C, R>>,
@@ -116,6 +153,35 @@ impl<C: CellName, R: Wait + Drop> SharedPutter<C, R> {
             let mut counting = self.counting.lock(rt);
             if seat.is_within(&counting.publisher.tell()) {
                 return counting.put(alloc, seat, put);
+            }
+            drop(counting);
+            thread::yield_now();
+        }
+        unreachable!()
+    }
+
+    /// Marks the versions below a number as expired, lets the seat see the log behind the mark, also of a refused expiry, and gives
+    /// the floor. The lock is held as `put` holds it. It is no enter.
+    ///
+    /// # Errors
+    ///
+    /// Those of [`Putter::expire`].
+    pub fn expire(
+        &self,
+        rt: &impl Wait,
+        alloc: Global,
+        seat: &mut Scanner<C>,
+        version: u64,
+    ) -> Result<u64, Fault>
+        ensures expiry { ExpiresBehind result seat.old version seat.new }
+        ensures made { CountsExpiry result seat.old version seat.new }
+        ensures begins { Begins seat.old.log seat.new.log }
+        ensures enters { (seat.new.enters ≡ seat.old.enters) × (seat.new.entered ≡ seat.old.entered) }
+    {
+        for _ in rt.forever() {
+            let mut counting = self.counting.lock(rt);
+            if seat.is_within(&counting.publisher.tell()) {
+                return counting.expire(alloc, seat, version);
             }
             drop(counting);
             thread::yield_now();

@@ -1,17 +1,18 @@
 //! What readers take: all versions so far, beside the log that they are of.
 
-ghost use Rattle.std.specs.Prelude.{◌≡◌, ◌≢◌, ◌≤◌, ◌++◌, ◌∷◌, [], map, IfOk, IfErr, IsOk, Err};
+ghost use Rattle.std.specs.Prelude.{◌≡◌, ◌≢◌, ◌≤◌, ◌<◌, ◌^◌, ◌++◌, ◌∷◌, [], length, IfOk, IfErr, IsOk, Err};
 ghost use Rattle.std.specs.Arc.{arc_value};
 ghost use Rattle.scan_base.specs.Reading.{RefusesFirst};
 ghost use Rattle.scan_base.specs.declared.fault.Fault.TheVariants.{OutOfMemory};
 ghost use Rattle.scan_base.specs.Limits.{most_commits};
-ghost use Rattle.table_versions.specs.Log.{added, puts_of, puts_in, database_of, version};
+ghost use Rattle.table_versions.specs.Expiry.{RefusesExpiry};
+ghost use Rattle.table_versions.specs.Log.{added, expired, puts_in, floor_of, database_of, version};
 ghost use Rattle.table_versions.specs.Stored.{put_of, tables_of};
 ghost use Rattle.table_versions.specs.Valid.{IsPut};
 ghost use Rattle.version_cell.specs.Puts.{after_log};
-ghost use Rattle.version_cell.specs.Versions.{versions_of};
+ghost use Rattle.version_index.specs.Versions.{IsIndexOf};
 
-use crate::book::{CellName, Entry, History, Law};
+use crate::book::{CellName, History, Law};
 use crossbeam_utils::rule::{Outcome, Protocol};
 use left_right::Absorb;
 use logbook::Seen;
@@ -20,20 +21,20 @@ use std::alloc::{AllocError, Global};
 use std::collections::LinkedList;
 use std::marker::PhantomData;
 use std::sync::Arc;
-use table_versions::{Put, Snapshot, apply};
+use table_versions::{Entry, Put, Snapshot, apply};
 use version_index::VersionIndex;
 
-// All versions of a log.
+// All versions of a log, but for those that are expired.
 #[derive(Drop)]
 pub(crate) struct Store {
     pub(crate) index: Arc<VersionIndex>,
     pub(crate) history: History,
-    pub ghost kept: { map tables_of (arc_value index) ≡ versions_of (puts_of history.seen.log) },
+    pub ghost kept: { IsIndexOf (arc_value index) history.seen.log },
 }
 
 impl Store {
     pub(crate) fn new(index: Arc<VersionIndex>, history: History) -> Store
-        requires { map tables_of (arc_value index) ≡ versions_of (puts_of history.seen.log) }
+        requires { IsIndexOf (arc_value index) history.seen.log }
         ensures { result.history ≡ history }
     {
         Store { index, history }
@@ -52,13 +53,22 @@ impl Store {
         ensures number { result.now.number ≡ puts_in self.now.history.seen.log }
         ensures tables { tables_of result.now.catalog ≡ database_of self.now.history.seen.log }
         ensures few { puts_in self.now.history.seen.log ≤ most_commits }
+        ensures kept { floor_of self.now.history.seen.log ≤ puts_in self.now.history.seen.log }
     {
         self.index.newest()
     }
 
-    // The version of a number that was reached.
+    // The number of the oldest version that is not expired.
+    pub(crate) fn floor(&self) -> u64
+        ensures { result ≡ floor_of self.now.history.seen.log }
+    {
+        self.index.floor()
+    }
+
+    // The version of a number that was reached and is not expired.
     pub(crate) fn version(&self, number: u64) -> Result<Snapshot, AllocError>
-        requires { number ≤ puts_in self.now.history.seen.log }
+        requires kept { floor_of self.now.history.seen.log ≤ number }
+        requires reached { number ≤ puts_in self.now.history.seen.log }
         ensures number { IfOk result (λ snapshot. snapshot.number ≡ number) }
         ensures tables { IfOk result (λ snapshot. tables_of snapshot.catalog
             ≡ version self.now.history.seen.log number) }
@@ -68,16 +78,42 @@ impl Store {
 
     // The versions after a put, behind a handle.
     pub(crate) fn after(&self, alloc: Global, put: Put) -> Result<Arc<VersionIndex>, Fault>
-        ensures ok { IfOk result (λ index. map tables_of (arc_value index)
-            ≡ versions_of (puts_of (self.now.history.seen.log ++ added (put_of put) ∷ []))) }
+        ensures ok { IfOk result (λ index. IsIndexOf (arc_value index)
+            (self.now.history.seen.log ++ added (put_of put) ∷ [])) }
         ensures accepted { IfOk result (λ _. IsOk (after_log self.now.history.seen.log (put_of put))) }
+        ensures room { IfOk result (λ _. length self.now.history.seen.log < 2 ^ 62) }
         ensures typed { IfOk result (λ _. IsPut (put_of put)) }
         ensures err { IfErr result (λ fault. fault ≢ OutOfMemory
             → after_log self.now.history.seen.log (put_of put) ≡ Err fault) }
         ensures first { RefusesFirst result (after_log self.now.history.seen.log (put_of put)) }
     {
         let catalog = apply(alloc, self.newest(), put)?;
-        let index = self.index.with(alloc, catalog)?;
+        let longer = self.index.with(alloc, catalog)?;
+        let index = Arc::new(alloc, longer)?;
+        if self.history.is_full() {
+            return Err(Fault::OutOfMemory);
+        }
+        Ok(index)
+    }
+
+    // The versions after an expiry of those below a number, behind a handle.
+    pub(crate) fn without(&self, alloc: Global, version: u64) -> Result<Arc<VersionIndex>, Fault>
+        ensures ok { IfOk result (λ index. IsIndexOf (arc_value index)
+            (self.now.history.seen.log ++ expired version ∷ [])) }
+        ensures reached { IfOk result (λ _. version ≤ puts_in self.now.history.seen.log) }
+        ensures room { IfOk result (λ _. length self.now.history.seen.log < 2 ^ 62) }
+        ensures err { IfErr result (λ fault. RefusesExpiry fault self.now.history.seen.log version) }
+    {
+        if version > self.history.puts() {
+            return Err(Fault::VersionUnknown);
+        }
+        if self.history.is_full() {
+            return Err(Fault::OutOfMemory);
+        }
+        if version <= self.index.floor() {
+            return Ok(Arc::try_clone(&self.index)?);
+        }
+        let index = self.index.without(alloc, version)?;
         Ok(Arc::new(alloc, index)?)
     }
 }

@@ -1,6 +1,5 @@
 use Rattle.std.proofs.Common.{length, ap, arith}
-use Rattle.version_cell.proofs.Entries.{as_many_puts}
 use Rattle.version_cell.proofs.publisher.Publisher.record.Goals as goal
 
 pub with-requires-clause-room : goal.with-requires-clause-room
-with-requires-clause-room g c = omega (arith, as_many_puts c.args.self.now, ap length c.store-shown.ensures.log, c.requires.few)
+with-requires-clause-room g c = omega (arith, ap length c.store-shown.ensures.log, c.requires.room)

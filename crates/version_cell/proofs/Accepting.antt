@@ -1,0 +1,34 @@
+-- What a put is refused for, and what it is accepted for.
+use Rattle.std.proofs.Common.{◌≡◌, ◌<◌, true, false, take, drop, refl, ap, rules, nat_le, IsOk, Result, Ok, Err}
+use Rattle.scan_base.specs.declared.fault.Fault.{Fault}
+use Rattle.scan_base.specs.declared.fault.Fault.TheVariants.{LimitReached}
+use Rattle.scan_base.specs.Limits.{most_commits}
+use Rattle.scan_base.specs.Reading.{first_fault, RefusesFirst}
+use Rattle.table_versions.specs.Database.{Database, Put, table_at, with_table, table_after, put_faults}
+use Rattle.table_versions.specs.Log.{Log, puts_in, database_of}
+use Rattle.table_versions.proofs.Accepted.{among, unrefused}
+use Rattle.version_cell.specs.Puts.{after_log}
+
+-- what comes first for one kind of value comes first for another
+pub first_for : (X Y : Type 0) {Z : Type 0} (fault : Fault) (read : Result Z Fault) → RefusesFirst {X = X} (Err fault) read → RefusesFirst {X = Y} (Err fault) read
+first_for X Y fault (Ok z) first = tt
+first_for X Y fault (Err cause) first = let same : fault ≡ cause = cc in ap Err same
+
+-- nothing comes first where there is no fault
+pub none_first : {X Z : Type 0} (result : Result X Fault) (read : Result Z Fault) → IsOk read → RefusesFirst result read
+none_first result (Ok z) accepts = tt
+none_first result (Err cause) accepts = let no : false ≡ true = accepts in cc
+
+-- what an accepted put gives
+pub accepted_is : {Z : Type 0} (read : Result Z Fault) → IsOk read → (z : Z) × (read ≡ Ok z)
+accepted_is (Ok z) accepts = (z, refl)
+accepted_is (Err cause) accepts = let no : false ≡ true = accepts in cc
+
+-- an accepted put comes behind fewer than there may be
+pub few_before : (log : Log) (put : Put) (new : Database) → after_log log put ≡ Ok new → puts_in log < most_commits
+few_before log put new accepts =
+    let old = database_of log in
+    let faults = put_faults old (puts_in log) put in
+    let none = unrefused (first_fault faults) (with_table put.table (table_after put.if_exists (table_at old put.table) put) old) new accepts in
+    let few : nat_le most_commits (puts_in log) ≡ false = among (take 8 faults) (nat_le most_commits (puts_in log)) LimitReached (drop 9 faults) none in
+    search (rules, few)

@@ -1,0 +1,11 @@
+use Rattle.std.proofs.Common.{◌≡◌, [], ◌∷◌, rules}
+use Rattle.version_index.specs.Index.{IndexAt, index_at}
+use Rattle.version_index.specs.Versions.{IsIndexOf}
+use Rattle.version_index.proofs.Versions.{first_index}
+use Rattle.version_cell.proofs.cell.open.Goals as goal
+
+first_index_is : (index : IndexAt) → index ≡ index_at 0 ([] ∷ []) → IsIndexOf index []
+first_index_is index is = rw is first_index
+
+pub invariant_of-result : goal.invariant_of-result
+invariant_of-result c = search (rules, first_index_is)
