@@ -1,7 +1,7 @@
 -- What a fetch shows, and what its handle answers.
 use Rattle.std.specs.Prelude.{◌≡◌, ◌≤◌, ◌<◌, ◌⊎◌, ◌&&◌, ℕ, Bool, true, nat_le, All, List, [], ◌∷◌, length, map, take, Option, Some, None, Result, Ok}
 use Rattle.scan_base.specs.declared.fault.Fault.{Fault}
-use Rattle.scan_base.specs.declared.fault.Fault.TheVariants.{BadTicket, VersionUnknown, ResultTooLarge, OutOfMemory}
+use Rattle.scan_base.specs.declared.fault.Fault.TheVariants.{BadTicket, VersionUnknown, VersionExpired, ResultTooLarge, OutOfMemory}
 use Rattle.scan_base.specs.Reading.{◌>>=◌, demand}
 use Rattle.scan_base.specs.Limits.{most_query_bytes, most_answer_rows}
 use Rattle.arrow_schema.specs.declared.schema.Schema.{Schema}
@@ -35,12 +35,14 @@ is_ordered (Tables number) = true
 abbrev pub may_mean : HandleAt → Bool
 may_mean handle = is_short handle && is_ordered handle
 
--- What a fetch shows before any memory is taken, where so many puts were accepted: its handle, whose version was reached,
--- whose text is short enough, and whose range is in order. The first fault in this order.
-abbrev pub handle_shown : ℕ → Payload → Result HandleAt Fault
-handle_shown accepted ticket = do
+-- What a fetch shows before any memory is taken, where versions below a floor are expired and so many puts were accepted: its
+-- handle, whose version was reached and is not expired, whose text is short enough, and whose range is in order. The first
+-- fault in this order.
+abbrev pub handle_shown : ℕ → ℕ → Payload → Result HandleAt Fault
+handle_shown floor accepted ticket = do
   handle ← handle_asked ticket
   _ ← demand (nat_le (version_of handle) accepted) VersionUnknown
+  _ ← demand (nat_le floor (version_of handle)) VersionExpired
   _ ← demand (may_mean handle) BadTicket
   Ok handle
 
