@@ -4,7 +4,7 @@ use Rattle.std.specs.List.{flat_map}
 use Rattle.std.proofs.lemmas.List.{take-append-le}
 use Rattle.std.proofs.Math.Seq.{take-append_seam}
 use Rattle.scan_base.specs.declared.fault.Fault.{Fault}
-use Rattle.scan_base.specs.declared.fault.Fault.TheVariants.{BadTicket, VersionUnknown}
+use Rattle.scan_base.specs.declared.fault.Fault.TheVariants.{BadTicket, VersionExpired, VersionUnknown}
 use Rattle.scan_base.specs.Reading.{◌>>=◌, demand}
 use Rattle.endpoint_split.specs.declared.ranges.Range.{Range}
 use Rattle.endpoint_split.specs.Split.{IsPartition, ranges_of}
@@ -19,7 +19,7 @@ use Rattle.table_versions.specs.Database as puts
 use Rattle.table_versions.proofs.Logs.{begun_puts}
 use Rattle.typed_plan.specs.Meaning.{meaning}
 use Rattle.typed_plan.proofs.Ranges.{ranges_join}
-use Rattle.table_versions.specs.Log.{Log, puts_of, puts_in, database_of, version, Begins}
+use Rattle.table_versions.specs.Log.{Log, puts_of, puts_in, floor_of, database_of, version, Begins}
 use Rattle.flight_info.specs.Payloads.{Payload}
 use Rattle.flight_info.specs.Meant.{Asks, first_rows}
 use Rattle.fetch_stream.specs.Fetches.{FetchAt, version_of, may_mean}
@@ -84,15 +84,22 @@ reaches : (log : Log) (ticket : Payload) (handle : HandleAt) (payloads : List Pa
 reaches log ticket handle payloads is (inr lacks) = absurd cc
 reaches log ticket handle payloads is (inl reply) = by (nat_le (version_of handle) (puts_in log)) refl (rw is at reply)
   where
+    kept : Bool → Result HandleAt Fault
+    kept there = demand there VersionExpired >>= λ _. (demand (may_mean handle) BadTicket >>= λ _. Ok handle)
+
     shown : Bool → Result HandleAt Fault
-    shown there = demand there VersionUnknown >>= λ _. (demand (may_mean handle) BadTicket >>= λ _. Ok handle)
+    shown there = demand there VersionUnknown >>= λ _. kept (nat_le (floor_of log) (version_of handle))
 
     plain : (b : Bool) → version_of handle ≤ puts_in log → FetchBy log (demand b BadTicket >>= λ _. Ok handle) payloads None → Reached log handle payloads
     plain true within at = record { reached = within; at = at }
     plain false within at = absurd cc
 
+    unexpired : (there : Bool) → version_of handle ≤ puts_in log → FetchBy log (kept there) payloads None → Reached log handle payloads
+    unexpired true within at = plain (may_mean handle) within at
+    unexpired false within at = absurd cc
+
     by : (there : Bool) → nat_le (version_of handle) (puts_in log) ≡ there → FetchBy log (shown there) payloads None → Reached log handle payloads
-    by true within at = plain (may_mean handle) (search (rules, within)) at
+    by true within at = unexpired (nat_le (floor_of log) (version_of handle)) (search (rules, within)) at
     by false within at = absurd cc
 
 abbrev query_at : ℕ → List ℕ → Range → HandleAt

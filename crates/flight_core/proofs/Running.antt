@@ -8,16 +8,17 @@ use Rattle.scan_base.specs.Reading.{◌>>=◌, demand}
 use Rattle.endpoint_split.specs.Handle.{HandleAt}
 use Rattle.ipc_batch.specs.Said.{Rows}
 use Rattle.table_versions.specs.Database.{Database, Put}
-use Rattle.table_versions.specs.Log.{Log, added, puts_of, puts_in, database_of, Begins}
+use Rattle.table_versions.specs.Log.{Log, added, expired, puts_of, puts_in, database_of, Begins}
 use Rattle.table_versions.proofs.Logs.{begun_puts}
 use Rattle.flight_info.specs.Payloads.{Payload}
 use Rattle.flight_core.specs.Puts.{put_said}
-use Rattle.flight_core.specs.Asked.{Asked, put, info, tables, schema, fetch}
+use Rattle.flight_core.specs.Asked.{Asked, put, info, tables, schema, fetch, expire}
 use Rattle.flight_info.specs.Replies.{ReplyAt, whole}
+use Rattle.flight_proto.specs.Expiry.{expiry_of}
 use Rattle.flight_proto.specs.FlightInfo.{InfoSaid, info_of}
 use Rattle.flight_proto.specs.Wanted.{Wanted, wanted_in, rows_of, tables as list}
 use Rattle.flight_info.specs.Infos.{only_rows, only_tables, short_enough, RightInfo, InfoAt}
-use Rattle.flight_core.specs.Machine.{PutStep, StepOn, Run}
+use Rattle.flight_core.specs.Machine.{PutStep, ExpireStep, StepOn, Run}
 use Rattle.flight_core.specs.Headline.{FetchedAt, Fetched, Informed, RunsMeetHeadline, Pairwise}
 use Rattle.flight_info.proofs.Meaning.{same_ok}
 use Rattle.flight_core.proofs.Runs.{At, run_at}
@@ -38,12 +39,17 @@ put_grows : (log : Log) (payloads answers : List Payload) (fault : Option Fault)
 put_grows log payloads answers None after s = (added s.0 ∷ [], s.3)
 put_grows log payloads answers (Some f) after s = begins_same log after s.0
 
+expiry_grows : (log : Log) (action : Payload) (answers : List Payload) (fault : Option Fault) (after : Log) → ExpireStep log action answers fault after → Begins log after
+expiry_grows log action answers None after s = (expired s.0 ∷ [], s.3)
+expiry_grows log action answers (Some f) after s = begins_same log after s.0
+
 pub step_grows : (log : Log) (a : Asked) (r : ReplyAt) (after : Log) → StepOn log a r after → Begins log after
 step_grows log (put payloads) r after s = put_grows log payloads r.payloads r.fault after s
 step_grows log (info payload parts) r after s = begins_same log after s.0
 step_grows log (tables payload parts) r after s = begins_same log after s.0
 step_grows log (schema payload) r after s = begins_same log after s.0
 step_grows log (fetch ticket workers) r after s = begins_same log after s.0
+step_grows log (expire action) r after s = expiry_grows log action r.payloads r.fault after s
 
 run_grows : (old : Log) (asked : List Asked) (replies : List ReplyAt) (new : Log) → Run old asked replies new → Begins old new
 run_grows old [] [] new run = begins_same old new run
@@ -57,12 +63,17 @@ put_once : (log : Log) (payloads answers : List Payload) (fault : Option Fault) 
 put_once log payloads answers None a b p q = p.3 ∙ ap (λ (x : Put). log ++ added x ∷ []) (same_ok (put_said payloads) p.0 q.0 p.1 q.1) ∙ sym q.3
 put_once log payloads answers (Some f) a b p q = p.0 ∙ sym q.0
 
+expiry_once : (log : Log) (action : Payload) (answers : List Payload) (fault : Option Fault) (a b : Log) → ExpireStep log action answers fault a → ExpireStep log action answers fault b → a ≡ b
+expiry_once log action answers None a b p q = p.3 ∙ ap (λ (n : ℕ). log ++ expired n ∷ []) (same_ok (expiry_of action) p.0 q.0 p.1 q.1) ∙ sym q.3
+expiry_once log action answers (Some f) a b p q = p.0 ∙ sym q.0
+
 step_once : (log : Log) (s : Asked) (r : ReplyAt) (a b : Log) → StepOn log s r a → StepOn log s r b → a ≡ b
 step_once log (put payloads) r a b p q = put_once log payloads r.payloads r.fault a b p q
 step_once log (info payload parts) r a b p q = p.0 ∙ sym q.0
 step_once log (tables payload parts) r a b p q = p.0 ∙ sym q.0
 step_once log (schema payload) r a b p q = p.0 ∙ sym q.0
 step_once log (fetch ticket workers) r a b p q = p.0 ∙ sym q.0
+step_once log (expire action) r a b p q = expiry_once log action r.payloads r.fault a b p q
 
 run_once : (old : Log) (asked : List Asked) (replies : List ReplyAt) (a b : Log) → Run old asked replies a → Run old asked replies b → a ≡ b
 run_once old [] [] a b p q = p ∙ sym q

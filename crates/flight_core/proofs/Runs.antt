@@ -6,13 +6,13 @@ use Rattle.std.proofs.lemmas.List.{take_more, take_all, map-append}
 use Rattle.scan_base.specs.declared.fault.Fault.{Fault}
 use Rattle.flight_core.specs.declared.event.Event.{Event}
 use Rattle.flight_info.specs.Payloads.{Payload}
-use Rattle.flight_core.specs.Asked.{Asked, put, info, tables, schema, fetch}
+use Rattle.flight_core.specs.Asked.{Asked, put, info, tables, schema, fetch, expire}
 use Rattle.flight_info.specs.Replies.{ReplyAt}
 use Rattle.flight_core.specs.Event.{asked_in}
 use Rattle.table_versions.specs.Database.{Database, Put, after}
 use Rattle.table_versions.specs.Log.{Log, added, puts_in, database_of, IsLog}
-use Rattle.table_versions.proofs.Logs.{is_log-added}
-use Rattle.flight_core.specs.Machine.{PutStep, StepOn, Run}
+use Rattle.table_versions.proofs.Logs.{is_log-added, is_log-expired}
+use Rattle.flight_core.specs.Machine.{PutStep, ExpireStep, StepOn, Run}
 use Rattle.flight_core.specs.Laws.{RefusalsLeaveNothing}
 use Rattle.flight_info.proofs.Results.{same_some}
 
@@ -62,12 +62,17 @@ put_refused : (log : Log) (payloads answers : List Payload) (fault : Option Faul
 put_refused log payloads answers None f after e s = absurd cc
 put_refused log payloads answers (Some g) f after e s = s.0
 
+expiry_refused : (log : Log) (action : Payload) (answers : List Payload) (fault : Option Fault) (f : Fault) (after : Log) → fault ≡ Some f → ExpireStep log action answers fault after → after ≡ log
+expiry_refused log action answers None f after e s = absurd cc
+expiry_refused log action answers (Some g) f after e s = s.0
+
 step_refused : (log : Log) (one : Asked) (r : ReplyAt) (f : Fault) (after : Log) → r.fault ≡ Some f → StepOn log one r after → after ≡ log
 step_refused log (put payloads) r f after e s = put_refused log payloads r.payloads r.fault f after e s
 step_refused log (info payload parts) r f after e s = s.0
 step_refused log (tables payload parts) r f after e s = s.0
 step_refused log (schema payload) r f after e s = s.0
 step_refused log (fetch ticket workers) r f after e s = s.0
+step_refused log (expire action) r f after e s = expiry_refused log action r.payloads r.fault f after e s
 
 pub refusals_leave_nothing : RefusalsLeaveNothing
 refusals_leave_nothing asked replies last run place one reply fault here answered refused =
@@ -91,12 +96,17 @@ put_step_is_log : (log : Log) (payloads answers : List Payload) (fault : Option 
 put_step_is_log log payloads answers None new is s = put_is_log log s.0 new is s.2 s.3
 put_step_is_log log payloads answers (Some fault) new is s = same_is_log log new is s.0
 
+expiry_is_log : (log : Log) (action : Payload) (answers : List Payload) (fault : Option Fault) (new : Log) → IsLog log → ExpireStep log action answers fault new → IsLog new
+expiry_is_log log action answers None new is s = subst (λ (l : Log). IsLog l) (sym s.3) (is_log-expired log s.0 is)
+expiry_is_log log action answers (Some fault) new is s = same_is_log log new is s.0
+
 step_is_log : (log : Log) (one : Asked) (r : ReplyAt) (new : Log) → IsLog log → StepOn log one r new → IsLog new
 step_is_log log (put payloads) r new is s = put_step_is_log log payloads r.payloads r.fault new is s
 step_is_log log (info payload parts) r new is s = same_is_log log new is s.0
 step_is_log log (tables payload parts) r new is s = same_is_log log new is s.0
 step_is_log log (schema payload) r new is s = same_is_log log new is s.0
 step_is_log log (fetch ticket workers) r new is s = same_is_log log new is s.0
+step_is_log log (expire action) r new is s = expiry_is_log log action r.payloads r.fault new is s
 
 pub run_is_log : (old : Log) (asked : List Asked) (replies : List ReplyAt) (new : Log) → IsLog old → Run old asked replies new → IsLog new
 run_is_log old [] [] new is run = same_is_log old new is run

@@ -1,15 +1,13 @@
 -- The versions of puts, one after another.
-use Rattle.std.proofs.Common.{◌≡◌, ℕ, zero, suc, ◌+◌, ◌-◌, ◌<◌, ◌≤◌, List, [], ◌∷◌, ◌++◌, length, map, take, refl, sym, ap, ◌∙◌, arith, Some, Ok}
+use Rattle.std.proofs.Common.{◌≡◌, ℕ, zero, suc, ◌+◌, ◌-◌, ◌<◌, ◌≤◌, max, List, [], ◌∷◌, ◌++◌, length, take, drop, refl, sym, ap, ◌∙◌, arith, length-append, Some, Ok}
 use Rattle.std.specs.List.{slice_get}
-use Rattle.std.specs.Option.{option_map}
-use Rattle.std.proofs.lemmas.Option.{slice_get-map}
-use Rattle.std.proofs.lemmas.List.{map-append, length-map}
+use Rattle.std.proofs.lemmas.List.{length-drop, drop-drop, drop-append-le}
 use Rattle.table_versions.specs.Database.{Database, Put, after, accepted, after_all, database_of}
 use Rattle.table_versions.specs.Log as logs
-use Rattle.table_versions.specs.Log.{Log, added, puts_of, puts_in}
+use Rattle.table_versions.specs.Log.{Log, added, expired, puts_of, puts_in, floor_of}
 use Rattle.table_versions.proofs.Databases.{logs_grow}
-use Rattle.table_versions.proofs.Logs.{puts_of-added}
-use Rattle.flight_core.specs.Versions.{versions_from, versions_of}
+use Rattle.table_versions.proofs.Logs.{puts_of-added, puts_of-expired, floor_of-added, floor_of-expired}
+use Rattle.flight_core.specs.Versions.{versions_from, versions_of, AreKept}
 use Rattle.flight_info.proofs.Results.{same_some}
 
 -- how many puts come after one more
@@ -41,44 +39,75 @@ database_of-more log put new e =
     let grown = logs_grow log put new e in
     ap database_of (sym grown.0) ∙ grown.1
 
+versions_from-length : (old : Database) (n : ℕ) (log : List Put) → length (versions_from old n log) ≡ length log
+versions_from-length old n [] = refl
+versions_from-length old n (p ∷ ps) = ap suc (versions_from-length (accepted old (after old n p)) (n + 1) ps)
+
+versions_of-length : (log : List Put) → length (versions_of log) ≡ suc (length log)
+unfolding versions_of
+versions_of-length log = ap suc (versions_from-length [] 0 log)
+
 versions_of-more : (log : List Put) (put : Put) → versions_of (log ++ put ∷ []) ≡ versions_of log ++ (suc (length log), database_of (log ++ put ∷ [])) ∷ []
 unfolding versions_of
 versions_of-more log put =
-    versions_from-more [] 0 log put ∙ ap (λ m. versions_from [] 0 log ++ (m, database_of (log ++ put ∷ [])) ∷ []) (none_before (suc (length log)))
+    ap (λ l. (0, []) ∷ l) (versions_from-more [] 0 log put
+    ∙ ap (λ m. versions_from [] 0 log ++ (m, database_of (log ++ put ∷ [])) ∷ []) (none_before (suc (length log))))
 
-versions_of-at : (log : List Put) (k : ℕ) → k < length log → slice_get (versions_of log) k ≡ Some (suc k, database_of (take (suc k) log))
+versions_of-at : (log : List Put) (k : ℕ) → k ≤ length log → slice_get (versions_of log) k ≡ Some (k, database_of (take k log))
 unfolding versions_of
-versions_of-at log k lt = versions_from-at [] 0 log k lt ∙ ap (λ m. Some (m, database_of (take (suc k) log))) (none_before (suc k))
+versions_of-at log zero le = refl
+versions_of-at log (suc k) le = versions_from-at [] 0 log k (omega (arith, le)) ∙ ap (λ m. Some (m, database_of (take (suc k) log))) (none_before (suc k))
 
--- ---- a list of items, each seen as a version and as the put that made it
+slice_get-drop : {X : Type 0} (k i : ℕ) (xs : List X) → slice_get (drop k xs) i ≡ slice_get xs (k + i)
+slice_get-drop zero i xs = let e : 0 + i ≡ i = omega arith in rw e refl
+slice_get-drop (suc k) i [] = refl
+slice_get-drop (suc k) i (x ∷ xs) = let e : suc k + i ≡ suc (k + i) = omega arith in rw e (slice_get-drop k i xs)
 
-abbrev pub entries : {X : Type 0} → (X → Put) → List X → Log
-entries put xs = map (λ x. added (put x)) xs
+-- ---- versions of a log that are kept
 
-pub puts_of_entries : {X : Type 0} (put : X → Put) (xs : List X) → puts_of (entries put xs) ≡ map put xs
-puts_of_entries put [] = refl
-puts_of_entries put (x ∷ xs) = ap (λ puts. put x ∷ puts) (puts_of_entries put xs)
+-- version 0 is all that there is at first
+pub first_kept : AreKept 0 ((0, []) ∷ []) []
+unfolding versions_of
+first_kept = record { floor = refl; versions = refl; there = omega arith }
 
--- there are as many puts as items
-pub puts_in_entries : {X : Type 0} (put : X → Put) (xs : List X) → puts_in (entries put xs) ≡ length xs
-puts_in_entries put xs = ap length (puts_of_entries put xs) ∙ length-map {B = Put} xs put
+module _ (floor : ℕ) (kept : List (ℕ × Database)) (log : Log) (are : AreKept floor kept log) where
+  pub kept_length : floor + length kept ≡ suc (puts_in log)
+  kept_length =
+      let long : length kept ≡ suc (puts_in log) - floor_of log = ap length are.versions ∙ length-drop (floor_of log) (versions_of (puts_of log)) ∙ ap (λ n. n - floor_of log) (versions_of-length (puts_of log)) in
+      omega (arith, long, are.floor, are.there)
 
--- item n - 1 is version n
-pub entry_at : {X : Type 0} (view : X → ℕ × Database) (put : X → Put) (xs : List X) (n : ℕ) (x : X) → map view xs ≡ versions_of (puts_of (entries put xs))
-    → 0 < n → n ≤ length xs → slice_get xs (n - 1) ≡ Some x → view x ≡ (n, logs.version (entries put xs) n)
-entry_at view put xs n x kept some within at =
-    let k = n - 1 in
-    let next : suc k ≡ n = omega arith in
-    let lt : k < length (puts_of (entries put xs)) = omega (arith, puts_in_entries put xs) in
-    same_some (ap (option_map view) (sym at) ∙ sym (slice_get-map view xs k) ∙ ap (λ l. slice_get l k) kept ∙ versions_of-at (puts_of (entries put xs)) k lt)
-    ∙ ap (λ m. (m, logs.version (entries put xs) m)) next
+  pub kept_at : (n : ℕ) (x : ℕ × Database) → floor_of log ≤ n → n ≤ puts_in log → slice_get kept (n - floor) ≡ Some x → x ≡ (n, logs.version log n)
+  kept_at n x low within at =
+      let all = versions_of (puts_of log) in
+      let place : floor_of log + (n - floor) ≡ n = omega (arith, low, are.floor) in
+      same_some (sym at ∙ ap (λ l. slice_get l (n - floor)) are.versions ∙ slice_get-drop (floor_of log) (n - floor) all ∙ ap (slice_get all) place ∙ versions_of-at (puts_of log) n within)
 
--- one item more
-pub kept_more : {X : Type 0} (view : X → ℕ × Database) (put : X → Put) (xs : List X) (x : X) (new : Database) → map view xs ≡ versions_of (puts_of (entries put xs))
-    → after (logs.database_of (entries put xs)) (puts_in (entries put xs)) (put x) ≡ Ok new → view x ≡ (suc (puts_in (entries put xs)), new)
-    → map view (xs ++ x ∷ []) ≡ versions_of (puts_of (entries put (xs ++ x ∷ [])))
-kept_more view put xs x new kept made is =
-    let puts = puts_of (entries put xs) in
-    map-append view xs (x ∷ []) ∙ ap (λ l. l ++ view x ∷ []) kept ∙ ap (λ v. versions_of puts ++ v ∷ []) (is ∙ ap (λ d. (suc (length puts), d)) (sym (database_of-more puts (put x) new made)))
-    ∙ sym (versions_of-more puts (put x))
-    ∙ ap versions_of (sym (ap puts_of (map-append (λ x. added (put x)) xs (x ∷ [])) ∙ puts_of-added (entries put xs) (put x)))
+  -- one version more
+  pub kept_more : (put : Put) (new : Database) → after (logs.database_of log) (puts_in log) put ≡ Ok new → AreKept floor (kept ++ (suc (puts_in log), new) ∷ []) (log ++ added put ∷ [])
+  kept_more put new made =
+      let old = puts_of log in
+      let low = floor_of log in
+      let within : low ≤ length (versions_of old) = omega (arith, are.there, versions_of-length old) in
+      let versions : kept ++ (suc (puts_in log), new) ∷ [] ≡ drop low (versions_of (old ++ put ∷ [])) =
+      ap (λ l. l ++ (suc (puts_in log), new) ∷ []) are.versions ∙ ap (λ d. drop low (versions_of old) ++ (suc (puts_in log), d) ∷ []) (sym (database_of-more old put new made))
+      ∙ sym (drop-append-le low (versions_of old) ((suc (length old), database_of (old ++ put ∷ [])) ∷ []) within) ∙ ap (drop low) (sym (versions_of-more old put)) in
+      let more : low ≤ length (old ++ put ∷ []) = omega (arith, are.there, length-append old (put ∷ [])) in
+      record {
+        floor = are.floor ∙ sym (floor_of-added log put);
+        versions = versions ∙ ap (λ n. drop n (versions_of (old ++ put ∷ []))) (sym (floor_of-added log put)) ∙ ap (λ ps. drop (floor_of (log ++ added put ∷ [])) (versions_of ps)) (sym (puts_of-added log put));
+        there = rw (floor_of-added log put, puts_of-added log put) more;
+      }
+
+  -- those below a number are dropped
+  pub kept_cut : (number : ℕ) → number ≤ puts_in log → AreKept (max floor number) (drop (number - floor) kept) (log ++ expired number ∷ [])
+  kept_cut number within =
+      let all = versions_of (puts_of log) in
+      let lifted : floor_of (log ++ expired number ∷ []) ≡ max floor number = omega (arith, floor_of-expired log number, are.floor) in
+      let place : floor_of log + (number - floor) ≡ max floor number = omega (arith, are.floor) in
+      let versions : drop (number - floor) kept ≡ drop (max floor number) all = ap (drop (number - floor)) are.versions ∙ drop-drop (number - floor) (floor_of log) all ∙ ap (λ n. drop n all) place in
+      let there : max floor number ≤ puts_in log = omega (arith, within, are.floor, are.there) in
+      record {
+        floor = sym lifted;
+        versions = versions ∙ ap (λ n. drop n all) (sym lifted) ∙ ap (λ ps. drop (floor_of (log ++ expired number ∷ [])) (versions_of ps)) (sym (puts_of-expired log number));
+        there = rw (lifted, puts_of-expired log number) there;
+      }

@@ -1,15 +1,16 @@
 -- The core as a machine: what is asked is answered by one step on a log.
-use Rattle.std.specs.Prelude.{◌≡◌, ◌⊎◌, pos, List, [], ◌∷◌, ◌++◌, length, Option, Some, None, Result, Ok, Err, IsOk, IfErr}
+use Rattle.std.specs.Prelude.{◌≡◌, ◌⊎◌, ◌≤◌, ℕ, pos, nat_le, List, [], ◌∷◌, ◌++◌, length, Option, Some, None, Result, Ok, Err, IsOk, IfErr}
 use Rattle.scan_base.specs.declared.fault.Fault.{Fault}
-use Rattle.scan_base.specs.declared.fault.Fault.TheVariants.{OutOfMemory}
-use Rattle.scan_base.specs.Reading.{◌>>=◌}
+use Rattle.scan_base.specs.declared.fault.Fault.TheVariants.{OutOfMemory, VersionUnknown}
+use Rattle.scan_base.specs.Reading.{◌>>=◌, demand}
+use Rattle.flight_proto.specs.Expiry.{expiry_of, floor_bytes}
 use Rattle.flight_proto.specs.PutResult.{rows_put_bytes}
 use Rattle.table_versions.specs.Database.{Database, Put, after}
 use Rattle.flight_core.specs.Refusals.{RefusedFor}
 use Rattle.flight_info.specs.Payloads.{Payload}
-use Rattle.flight_core.specs.Asked.{Asked, put, info, tables, schema, fetch}
+use Rattle.flight_core.specs.Asked.{Asked, put, info, tables, schema, fetch, expire}
 use Rattle.flight_info.specs.Replies.{ReplyAt}
-use Rattle.table_versions.specs.Log.{Log, added, puts_in, database_of, version}
+use Rattle.table_versions.specs.Log.{Log, added, expired, puts_in, floor_of, database_of, version}
 use Rattle.flight_core.specs.Puts.{put_glance, put_said}
 use Rattle.fetch_stream.specs.Fetches.{version_of, handle_shown, FetchAt}
 use Rattle.fetch_stream.specs.Streams.{StreamAt, Opens}
@@ -30,6 +31,22 @@ PutStep log payloads answers None new = (put : Put) × (put_said payloads ≡ Ok
 PutStep log payloads answers (Some fault) new = (new ≡ log) × (answers ≡ [])
     × RefusedFor (put_glance payloads) (database_put log payloads) fault
 
+-- the number below which an action expires the versions of a log, where the log reaches it, or the first fault
+abbrev pub expiry_due : Log → Payload → Result ℕ Fault
+expiry_due log action = do
+  version ← expiry_of action
+  _ ← demand (nat_le version (puts_in log)) VersionUnknown
+  Ok version
+
+-- An expiry: its mark stands at the end of the log, and it is answered by the floor behind it. A refused one changes nothing
+-- and has no payload: an action that does not read is refused for its own fault, and else for the number, or because memory
+-- was refused.
+abbrev pub ExpireStep : Log → Payload → List Payload → Option Fault → Log → Type 0
+ExpireStep log action answers None new = (version : ℕ) × (expiry_of action ≡ Ok version) × (version ≤ puts_in log)
+    × (new ≡ log ++ expired version ∷ []) × (answers ≡ floor_bytes (floor_of new) ∷ [])
+ExpireStep log action answers (Some fault) new = (new ≡ log) × (answers ≡ [])
+    × RefusedFor (expiry_of action) (expiry_due log action) fault
+
 -- the answer to what a fetch shows: the fault that is seen there, or the answer at the handle's version
 abbrev pub FetchBy : Log → Result HandleAt Fault → List Payload → Option Fault → Type 0
 FetchBy log (Err cause) payloads fault = (payloads ≡ []) × (fault ≡ Some cause)
@@ -42,7 +59,7 @@ LacksLook ticket payloads fault = IsOk (handle_asked ticket) × (payloads ≡ []
 -- the answer to a fetch at a log
 abbrev pub FetchIn : Log → Payload → List Payload → Option Fault → Type 0
 FetchIn log ticket payloads fault =
-    FetchBy log (handle_shown (puts_in log) ticket) payloads fault ⊎ LacksLook ticket payloads fault
+    FetchBy log (handle_shown (floor_of log) (puts_in log) ticket) payloads fault ⊎ LacksLook ticket payloads fault
 
 -- the stream of what a fetch shows, or the fault that is seen there
 abbrev pub OpensBy : Log → Result HandleAt Fault → Result StreamAt Fault → Type 0
@@ -51,7 +68,7 @@ OpensBy log (Ok handle) result = Opens (version log (version_of handle)) handle 
 
 -- the stream of a fetch at a log, or why there is none
 abbrev pub OpensIn : Log → Payload → Result StreamAt Fault → Type 0
-OpensIn log ticket result = OpensBy log (handle_shown (puts_in log) ticket) result
+OpensIn log ticket result = OpensBy log (handle_shown (floor_of log) (puts_in log) ticket) result
     ⊎ (IsOk (handle_asked ticket) × (result ≡ Err OutOfMemory))
 
 -- at this log what is asked may be answered by this reply, and then the log is the last one
@@ -64,10 +81,11 @@ StepOn log (tables payload parts) reply new = (new ≡ log)
 StepOn log (schema payload) reply new = (new ≡ log)
     × SchemaAt (database_of log) (schema_wanted payload) reply.payloads reply.fault
 StepOn log (fetch ticket workers) reply new = (new ≡ log) × FetchIn log ticket reply.payloads reply.fault
+StepOn log (expire action) reply new = ExpireStep log action reply.payloads reply.fault new
 
 -- A fetch is refused for the fault that it shows before any memory is taken, and never for want of memory in its place.
 abbrev pub FetchShown : Log → Payload → Option Fault → Type 0
-FetchShown log ticket fault = IfErr (handle_shown (puts_in log) ticket) (λ cause. fault ≡ Some cause)
+FetchShown log ticket fault = IfErr (handle_shown (floor_of log) (puts_in log) ticket) (λ cause. fault ≡ Some cause)
 
 -- the same of what is asked, where it is a fetch
 abbrev pub AsShown : Log → Asked → Option Fault → Type 0

@@ -1,6 +1,7 @@
 -- Inside: the versions of puts, each with its number.
-use Rattle.std.specs.Prelude.{ℕ, ◌+◌, List, [], ◌∷◌}
+use Rattle.std.specs.Prelude.{◌≡◌, ◌≤◌, ℕ, ◌+◌, List, [], ◌∷◌, drop}
 use Rattle.table_versions.specs.Database.{Database, Put, after, accepted}
+use Rattle.table_versions.specs.Log.{Log, puts_of, puts_in, floor_of}
 use Rattle.table_versions.specs.Stored.{VersionAt, tables_of}
 
 -- the database after each of these puts, and how many were accepted up to it, where n were before them
@@ -10,10 +11,16 @@ versions_from database n (put ∷ puts) =
     (n + 1, accepted database (after database n put))
     ∷ versions_from (accepted database (after database n put)) (n + 1) puts
 
--- versions 1 and up
+-- version 0 and up
 unfoldable pub versions_of : List Put → List (ℕ × Database)
-versions_of puts = versions_from [] 0 puts
+versions_of puts = (0, []) ∷ versions_from [] 0 puts
 
 -- the number of a version, and its database
 abbrev pub numbered : VersionAt → ℕ × Database
 numbered version = (version.number, tables_of version.catalog)
+
+-- the versions of a log from its floor on, which the log reaches
+pub record AreKept (floor : ℕ) (kept : List (ℕ × Database)) (log : Log) : Type 0 where
+  pub floor : floor ≡ floor_of log
+  pub versions : kept ≡ drop (floor_of log) (versions_of (puts_of log))
+  pub there : floor_of log ≤ puts_in log

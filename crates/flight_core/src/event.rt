@@ -15,4 +15,6 @@ pub enum Event {
     Schema { payload: Bytes },
     /// DoGet: a Ticket, and how many workers may scan for its answer, which is the same for any number.
     Fetch { ticket: Bytes, workers: usize },
+    /// DoAction: an Action that asks for an expiry of old versions.
+    Expire { action: Bytes },
 }

@@ -9,7 +9,8 @@ ghost use Rattle.flight_core.specs.Event.{asked_in};
 ghost use Rattle.table_versions.specs.Log.{Log, IsLog, ArePuts, puts_of, puts_in, database_of};
 ghost use Rattle.flight_core.specs.Headline.{Headline};
 ghost use Rattle.flight_core.specs.Laws.{RefusedLeaveNothing};
-ghost use Rattle.flight_core.specs.Machine.{PutStep, StepOn, Run, FetchIn, FetchShown, AsShown};
+ghost use Rattle.flight_core.specs.Machine.{PutStep, ExpireStep, StepOn, Run, FetchIn, FetchShown, AsShown};
+ghost use Rattle.flight_proto.specs.Expiry.{floor_bytes};
 ghost use Rattle.table_versions.specs.Database.{after};
 ghost use Rattle.flight_core.specs.Refusals.{GivesBehind};
 ghost use Rattle.table_versions.specs.Stored.{put_of};
@@ -22,7 +23,7 @@ use crate::put::read_put;
 use bytes::Bytes;
 use fetch_stream::{Execution, Executor, answer_fetch, read_ticket, version_of};
 use flight_info::{Reply, answer_info, answer_schema, answer_tables, payload_of};
-use flight_proto::put_rows_put;
+use flight_proto::{put_floor, put_rows_put, read_expiry};
 use hash_seed::HashSeed;
 use scan_base::Fault;
 use std::alloc::{AllocError, Global};
@@ -93,10 +94,42 @@ fn step_fetch<X: Executor>(
     }
 }
 
-/// Answers one event. A put that is accepted stands at the end of the log; any other event changes nothing.
-/// The reply's fault is one of those of `read_put` and `Plain::put`; of `answer_info`, `answer_tables` or
-/// `answer_schema`, at the newest version; or of `read_ticket`, `Plain::at` and `answer_fetch`, in that order: what a
-/// fetch shows before any memory is taken is never answered by want of it. Each payload has at most 16,777,216 bytes.
+// The payloads that answer an expiry, which say the floor.
+fn floor_answer(alloc: Global, floor: u64) -> Result<Vec<Bytes>, AllocError>
+    ensures said { IfOk result (λ payloads. payloads.items ≡ floor_bytes floor ∷ []) }
+    ensures fits { IfOk result (λ payloads. FitMessages payloads.items) }
+{
+    let mut payload = Vec::new(alloc);
+    put_floor(&mut payload, floor)?;
+    let mut payloads = Vec::new(alloc);
+    payloads.push(payload_of(payload)?)?;
+    Ok(payloads)
+}
+
+// Answers an expiry. Its answer is made first.
+fn step_expiry(alloc: Global, plain: &mut Plain, action: &[u8]) -> Reply
+    ensures step { ExpireStep plain.old action.now result.payloads result.fault plain.new }
+    ensures puts { ArePuts plain.old → ArePuts plain.new }
+    ensures fits { FitMessages result.payloads }
+{
+    let version = match read_expiry(action) {
+        Ok(version) => version,
+        Err(fault) => return Reply::refusal(alloc, fault),
+    };
+    let Ok(answer) = floor_answer(alloc, plain.floor().max(version)) else {
+        return Reply::refusal(alloc, Fault::OutOfMemory);
+    };
+    match plain.expire(version) {
+        Ok(_) => Reply::whole(answer),
+        Err(fault) => Reply::refusal(alloc, fault),
+    }
+}
+
+/// Answers one event. A put that is accepted stands at the end of the log, and so does the mark of an expiry; any other
+/// event changes nothing. The reply's fault is one of those of `read_put` and `Plain::put`; of `answer_info`,
+/// `answer_tables` or `answer_schema`, at the newest version; of `read_ticket`, `Plain::at` and `answer_fetch`, in that
+/// order; or of `read_expiry` and `Plain::expire`. What a fetch shows before any memory is taken is never answered by want
+/// of it. Each payload has at most 16,777,216 bytes.
 /// The payloads of a fetch are made by the executor.
 pub fn step<X: Executor>(alloc: Global, executor: &X, plain: &mut Plain, event: &Event) -> Reply
     // The reply is one that the event may get at the log, and the log goes on as the event says.
@@ -129,6 +162,7 @@ pub fn step<X: Executor>(alloc: Global, executor: &X, plain: &mut Plain, event: 
             let execution = Execution { executor, workers };
             step_fetch(alloc, plain, ticket.as_slice(), execution)
         }
+        Event::Expire { action } => step_expiry(alloc, plain, action.as_slice()),
     }
 }
 

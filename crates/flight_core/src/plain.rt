@@ -1,10 +1,11 @@
 //! All versions in a list, without threads.
 
-ghost use Rattle.std.specs.Prelude.{◌≡◌, ◌≢◌, ◌≤◌, ◌<◌, ◌++◌, ◌∷◌, [], IfOk, IfErr, IsOk, Ok, Err};
+ghost use Rattle.std.specs.Prelude.{◌≡◌, ◌≢◌, ◌⊎◌, ◌≤◌, ◌<◌, ◌++◌, ◌∷◌, [], IfOk, IfErr, IsOk, Ok, Err};
 ghost use Rattle.scan_base.specs.Reading.{RefusesFirst, first_fault};
 ghost use Rattle.flight_core.specs.Versions.{numbered};
-ghost use Rattle.scan_base.specs.declared.fault.Fault.TheVariants.{OutOfMemory, VersionUnknown};
-ghost use Rattle.table_versions.specs.Log.{added, puts_in, database_of, version};
+ghost use Rattle.scan_base.specs.declared.fault.Fault.TheVariants.{OutOfMemory, VersionExpired, VersionUnknown};
+ghost use Rattle.table_versions.specs.Expiry.{IsExpired};
+ghost use Rattle.table_versions.specs.Log.{added, puts_in, floor_of, database_of, version};
 ghost use Rattle.table_versions.specs.Database.{after, put_faults};
 ghost use Rattle.table_versions.specs.Stored.{put_of, tables_of};
 ghost use Rattle.table_versions.specs.Valid.{IsPut};
@@ -13,49 +14,38 @@ use hash_seed::HashSeed;
 use scan_base::Fault;
 use std::alloc::Global;
 use std::marker::Model;
-use std::snapshot;
 use std::sync::Arc;
-use table_versions::{CatalogVersion, Put, Snapshot, apply, refusal};
+use std::{mem, snapshot};
+use table_versions::{CatalogVersion, Entries, Entry, Put, Snapshot, apply, refusal};
 
-// A version, and the put that made it, which contracts alone see.
-struct Version {
-    made: Snapshot,
-    put: snapshot::Snapshot<Put>,
-}
-
-// Written out, so that dropping it is one call (docs/DECISIONS.md).
-impl Drop for Version {
-    fn drop(self) {
-        let Version { made: _, put: _ } = self;
-    }
-}
-
-/// All versions. Contracts see them as the log, whose entries are the accepted puts.
+/// The versions that are not expired. Contracts see them as the log.
 pub struct Plain {
-    empty: Snapshot,
-    later: Vec<Version>,
+    floor: u64,
+    kept: Vec<Snapshot>,
+    log: snapshot::Snapshot<Entries>,
 }
 
 // Written out, so that dropping it is one call (docs/DECISIONS.md).
 impl Drop for Plain {
     fn drop(self) {
-        let Plain { empty: _, later: _ } = self;
+        let Plain {
+            floor: _,
+            kept: _,
+            log: _,
+        } = self;
     }
 }
 
 impl Model for Plain {
-    ghost use Rattle.std.specs.Prelude.{[], map, ◌≡◌};
-    ghost use Rattle.table_versions.specs.Log.{Log, added, puts_of};
-    ghost use Rattle.table_versions.specs.Stored.{put_of};
-    ghost use Rattle.flight_core.specs.Versions.{versions_of, numbered};
+    ghost use Rattle.std.specs.Prelude.{map};
+    ghost use Rattle.table_versions.specs.Log.{Log};
+    ghost use Rattle.flight_core.specs.Versions.{numbered, AreKept};
 
     ghost Value = { Log };
 
-    ghost view = { λ p. map (λ version. added (put_of version.put.value)) p.later.items };
+    ghost view = { λ p. p.log.value.entries };
 
-    ghost invariant = { λ p. (numbered p.empty ≡ (0, []))
-        × (map (λ version. numbered version.made) p.later.items
-        ≡ versions_of (puts_of (map (λ version. added (put_of version.put.value)) p.later.items))) };
+    ghost invariant = { λ p. AreKept p.floor (map numbered p.kept.items) p.log.value.entries };
 }
 
 impl Plain {
@@ -64,34 +54,42 @@ impl Plain {
     /// # Errors
     ///
     /// F21 (`Fault::OutOfMemory`) where memory is refused.
-    #[tactic(auto, unfolding(crate::specs::Versions::versions_of))]
     pub fn new(alloc: Global, seed: HashSeed) -> Result<Plain, Fault>
         ensures ok { IfOk result (λ plain. plain ≡ []) }
         ensures err { IfErr result (λ fault. fault ≡ OutOfMemory) }
     {
         let catalog = Arc::new(alloc, CatalogVersion::empty(alloc, seed))?;
+        let mut kept = Vec::new(alloc);
+        kept.push(Snapshot::new(0, catalog))?;
         Ok(Plain {
-            empty: Snapshot::new(0, catalog),
-            later: Vec::new(alloc),
+            floor: 0,
+            kept,
+            log: Entries::none(),
         })
     }
 
-    // The number of the newest version.
-    fn newest(&self) -> usize
-        ensures { result ≡ puts_in self.now }
+    /// The number of the oldest version that is not expired.
+    pub fn floor(&self) -> u64
+        ensures { result ≡ floor_of self.now }
     {
-        self.later.len()
+        self.floor
     }
 
-    // The version of a number that was reached.
-    fn version(&self, number: usize) -> &Snapshot
-        requires { number ≤ puts_in self.now }
+    // The number of the newest version.
+    fn newest(&self) -> u64
+        ensures number { result ≡ puts_in self.now }
+        ensures kept { floor_of self.now ≤ puts_in self.now }
+    {
+        self.floor + self.kept.len() as u64 - 1
+    }
+
+    // The version of a number that was reached and is not expired.
+    fn version(&self, number: u64) -> &Snapshot
+        requires kept { floor_of self.now ≤ number }
+        requires reached { number ≤ puts_in self.now }
         ensures { numbered result.now ≡ (number, version self.now number) }
     {
-        if number == 0 {
-            return &self.empty;
-        }
-        &self.later[number - 1].made
+        &self.kept[(number - self.floor) as usize]
     }
 
     /// The newest version. It takes no memory.
@@ -106,17 +104,23 @@ impl Plain {
     ///
     /// # Errors
     ///
-    /// F18 (`Fault::VersionUnknown`) where fewer puts were accepted, and no other.
+    /// F18 (`Fault::VersionUnknown`) where fewer puts were accepted, F19 (`Fault::VersionExpired`) where the number is below the
+    /// floor, and no other.
     pub fn at(&self, number: u64) -> Result<&Snapshot, Fault>
         ensures within { IfOk result (λ _. number ≤ puts_in self.now) }
+        ensures kept { IfOk result (λ _. floor_of self.now ≤ number) }
         ensures number { IfOk result (λ snapshot. snapshot.now.number ≡ number) }
         ensures tables { IfOk result (λ snapshot. tables_of snapshot.now.catalog ≡ version self.now number) }
-        ensures err { IfErr result (λ fault. (fault ≡ VersionUnknown) × (puts_in self.now < number)) }
+        ensures err { IfErr result (λ fault. ((fault ≡ VersionUnknown) × (puts_in self.now < number))
+            ⊎ ((fault ≡ VersionExpired) × (number ≤ puts_in self.now) × (number < floor_of self.now))) }
     {
-        if number > self.newest() as u64 {
+        if number > self.newest() {
             return Err(Fault::VersionUnknown);
         }
-        Ok(self.version(number as usize))
+        if number < self.floor {
+            return Err(Fault::VersionExpired);
+        }
+        Ok(self.version(number))
     }
 
     /// Why a put is refused, if it is. It takes no memory.
@@ -140,13 +144,34 @@ impl Plain {
             × (fault ≢ OutOfMemory → after (database_of self.old) (puts_in self.old) (put_of put) ≡ Err fault)) }
         ensures first { RefusesFirst result (after (database_of self.old) (puts_in self.old) (put_of put)) }
     {
-        let made_by = snapshot::Snapshot::of(&put);
+        let entry = Entry::put(snapshot::Snapshot::of(&put));
         let catalog = apply(alloc, self.current(), put)?;
-        let number = self.later.len() as u64 + 1;
-        self.later.push(Version {
-            made: Snapshot::new(number, Arc::new(alloc, catalog)?),
-            put: made_by,
-        })?;
+        let number = self.newest() + 1;
+        self.kept
+            .push(Snapshot::new(number, Arc::new(alloc, catalog)?))?;
+        let before = mem::replace(&mut self.log, Entries::none());
+        self.log = Entries::with(before, &entry);
         Ok(())
+    }
+
+    /// Marks the versions below a number as expired, drops them, and gives the floor: the greatest number that was so marked.
+    ///
+    /// # Errors
+    ///
+    /// F18 (`Fault::VersionUnknown`) where fewer puts were accepted, and F21 (`Fault::OutOfMemory`) only where as many were. Nothing
+    /// has changed then.
+    pub fn expire(&mut self, version: u64) -> Result<u64, Fault>
+        ensures { IsExpired result self.old version self.new }
+    {
+        if version > self.newest() {
+            return Err(Fault::VersionUnknown);
+        }
+        let count = version.saturating_sub(self.floor) as usize;
+        let kept = self.kept.split_off(count)?;
+        let before = mem::replace(&mut self.log, Entries::none());
+        self.kept = kept;
+        self.floor = self.floor.max(version);
+        self.log = Entries::with(before, &Entry::mark(version));
+        Ok(self.floor)
     }
 }

@@ -1,10 +1,16 @@
-use Rattle.std.proofs.Common.{arith, ap}
-use Rattle.table_versions.specs.Log.{puts_in}
-use Rattle.table_versions.specs.Stored.{put_of}
-use Rattle.flight_core.proofs.Versions.{puts_in_entries}
+use Rattle.std.proofs.Common.{◌≡◌, ◌+◌, suc, length, map, arith, ap, subst}
+use Rattle.std.proofs.lemmas.List.{length-map}
+use Rattle.table_versions.specs.Log.{Log, puts_in, floor_of}
+use Rattle.flight_core.specs.Versions.{numbered}
+use Rattle.flight_core.proofs.Versions.{kept_length}
 use Rattle.flight_core.proofs.plain.Plain.newest.Goals as goal
 
-pub returns : goal.returns
-returns c =
-    let many = puts_in_entries (λ v. put_of v.put.value) c.self.inside.later.items in
-    omega (arith, c.len.ensures, many, ap puts_in c.self.view_is)
+pub returns-clause-number : goal.returns-clause-number
+returns-clause-number c =
+    let kept = c.self.inside.kept.items in
+    let log = c.self.inside.log.value.entries in
+    let long = kept_length c.self.inside.floor (map numbered kept) log c.self.invariant in
+    omega (arith, long, length-map kept numbered, c.len.ensures, ap puts_in c.self.view_is)
+
+pub returns-clause-kept : goal.returns-clause-kept
+returns-clause-kept c = rw (← c.self.view_is) c.self.invariant.there

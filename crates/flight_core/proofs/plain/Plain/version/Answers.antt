@@ -1,25 +1,29 @@
-use Rattle.std.proofs.Common.{◌≡◌, ◌≤◌, ◌<◌, ◌-◌, length, Some, arith, subst, sym, refl}
+use Rattle.std.proofs.Common.{◌≡◌, ◌≤◌, ◌<◌, ◌-◌, length, map, Some, arith, subst, sym, refl, ap, ◌∙◌}
 use Rattle.std.specs.List.{slice_get}
-use Rattle.std.proofs.lemmas.Option.{slice_get_read}
-use Rattle.table_versions.specs.Log.{Log, puts_in, version}
-use Rattle.table_versions.specs.Stored.{put_of}
+use Rattle.std.specs.Option.{option_map}
+use Rattle.std.proofs.lemmas.List.{length-map}
+use Rattle.std.proofs.lemmas.Option.{slice_get-map, slice_get_read}
+use Rattle.table_versions.specs.Log.{Log, puts_in, floor_of, version}
 use Rattle.flight_core.specs.Versions.{numbered}
-use Rattle.flight_core.proofs.Versions.{entries, puts_in_entries, entry_at}
+use Rattle.flight_core.proofs.Versions.{kept_length, kept_at}
 use Rattle.flight_core.proofs.plain.Plain.version.Goals as goal
-
-pub returns : goal.returns
-returns c =
-    let later = c.self.inside.later.items in
-    let n = c.args.number in
-    let some : 0 < n = omega (arith, c.if-number-eq0.false) in
-    let asked : n ≤ puts_in (entries (λ v. put_of v.put.value) later) = subst (λ (log : Log). n ≤ puts_in log) (sym c.self.view_is) c.requires in
-    let within : n ≤ length later = omega (arith, asked, puts_in_entries (λ v. put_of v.put.value) later) in
-    let at : slice_get later (n - 1) ≡ Some c.index.result.now = slice_get_read later (length later) (n - 1) c.index.result.now refl (omega arith) c.index.ensures in
-    let is = entry_at (λ v. numbered v.made) (λ v. put_of v.put.value) later n c.index.result.now c.self.invariant.1 some within at in
-    subst (λ (log : Log). numbered c.index.result.now.made ≡ (n, version log n)) c.self.view_is is
 
 pub index-requires : goal.index-requires
 index-requires c =
-    let later = c.self.inside.later.items in
-    let asked : c.args.number ≤ puts_in (entries (λ v. put_of v.put.value) later) = subst (λ (log : Log). c.args.number ≤ puts_in log) (sym c.self.view_is) c.requires in
-    omega (arith, asked, puts_in_entries (λ v. put_of v.put.value) later, c.if-number-eq0.false)
+    let kept = c.self.inside.kept.items in
+    let long = kept_length c.self.inside.floor (map numbered kept) c.self.inside.log.value.entries c.self.invariant in
+    omega (arith, long, length-map kept numbered, c.requires.reached, c.requires.kept, ap puts_in c.self.view_is, ap floor_of c.self.view_is, c.self.invariant.floor)
+
+pub returns : goal.returns
+returns c =
+    let kept = c.self.inside.kept.items in
+    let floor = c.self.inside.floor in
+    let log = c.self.inside.log.value.entries in
+    let n = c.args.number in
+    let long = kept_length floor (map numbered kept) log c.self.invariant in
+    let low : floor_of log ≤ n = subst (λ (l : Log). floor_of l ≤ n) (sym c.self.view_is) c.requires.kept in
+    let within : n ≤ puts_in log = subst (λ (l : Log). n ≤ puts_in l) (sym c.self.view_is) c.requires.reached in
+    let small : n - floor < length kept = omega (arith, long, length-map kept numbered, low, within, c.self.invariant.floor) in
+    let at : slice_get kept (n - floor) ≡ Some c.index.result.now = slice_get_read kept (length kept) (n - floor) c.index.result.now refl small c.index.ensures in
+    let seen : slice_get (map numbered kept) (n - floor) ≡ Some (numbered c.index.result.now) = slice_get-map numbered kept (n - floor) ∙ ap (option_map numbered) at in
+    subst (λ (l : Log). numbered c.index.result.now ≡ (n, version l n)) c.self.view_is (kept_at floor (map numbered kept) log c.self.invariant n (numbered c.index.result.now) low within seen)
