@@ -1,13 +1,18 @@
 -- The versions of puts, one after another.
-use Rattle.std.proofs.Common.{◌≡◌, ℕ, zero, suc, ◌+◌, ◌-◌, ◌<◌, ◌≤◌, max, List, [], ◌∷◌, ◌++◌, length, take, drop, refl, sym, ap, ◌∙◌, arith, length-append, Some, Ok}
+use Rattle.std.proofs.Common.{◌≡◌, ℕ, zero, suc, ◌+◌, ◌-◌, ◌<◌, ◌≤◌, max, nat_le, false, rules, List, [], ◌∷◌, ◌++◌, length, map, take, drop, refl, sym, ap, subst, ◌∙◌, arith, length-append, Some, Ok}
 use Rattle.std.specs.List.{slice_get}
-use Rattle.std.proofs.lemmas.List.{length-drop, drop-drop, drop-append-le}
-use Rattle.table_versions.specs.Database.{Database, Put, after, accepted, after_all, database_of}
+use Rattle.std.proofs.lemmas.List.{map-append, length-drop, drop-drop, drop-map, drop-append-le}
+use Rattle.scan_base.specs.declared.fault.Fault.TheVariants.{LimitReached}
+use Rattle.scan_base.specs.Limits.{most_commits}
+use Rattle.scan_base.specs.Reading.{first_fault}
+use Rattle.table_versions.specs.Database.{Database, Put, after, accepted, after_all, database_of, table_at, with_table, table_after, put_faults}
 use Rattle.table_versions.specs.Log as logs
 use Rattle.table_versions.specs.Log.{Log, added, expired, puts_of, puts_in, floor_of}
+use Rattle.table_versions.specs.Stored.{VersionAt, tables_of}
+use Rattle.table_versions.proofs.Accepted.{among, unrefused}
 use Rattle.table_versions.proofs.Databases.{logs_grow}
 use Rattle.table_versions.proofs.Logs.{puts_of-added, puts_of-expired, floor_of-added, floor_of-expired}
-use Rattle.flight_core.specs.Versions.{versions_from, versions_of, AreKept}
+use Rattle.flight_core.specs.Versions.{versions_from, versions_of, numbered, AreKept}
 use Rattle.flight_info.proofs.Results.{same_some}
 
 -- how many puts come after one more
@@ -63,12 +68,21 @@ slice_get-drop zero i xs = let e : 0 + i ≡ i = omega arith in rw e refl
 slice_get-drop (suc k) i [] = refl
 slice_get-drop (suc k) i (x ∷ xs) = let e : suc k + i ≡ suc (k + i) = omega arith in rw e (slice_get-drop k i xs)
 
+-- an accepted put comes behind fewer than there may be
+few_before : (log : Log) (put : Put) (new : Database) → after (logs.database_of log) (puts_in log) put ≡ Ok new → puts_in log < most_commits
+few_before log put new accepts =
+    let old = logs.database_of log in
+    let faults = put_faults old (puts_in log) put in
+    let none = unrefused (first_fault faults) (with_table put.table (table_after put.if_exists (table_at old put.table) put) old) new accepts in
+    let few : nat_le most_commits (puts_in log) ≡ false = among (take 8 faults) (nat_le most_commits (puts_in log)) LimitReached (drop 9 faults) none in
+    search (rules, few)
+
 -- ---- versions of a log that are kept
 
 -- version 0 is all that there is at first
 pub first_kept : AreKept 0 ((0, []) ∷ []) []
 unfolding versions_of
-first_kept = record { floor = refl; versions = refl; there = omega arith }
+first_kept = record { floor = refl; versions = refl; there = omega arith; few = omega arith }
 
 module _ (floor : ℕ) (kept : List (ℕ × Database)) (log : Log) (are : AreKept floor kept log) where
   pub kept_length : floor + length kept ≡ suc (puts_in log)
@@ -92,10 +106,12 @@ module _ (floor : ℕ) (kept : List (ℕ × Database)) (log : Log) (are : AreKep
       ap (λ l. l ++ (suc (puts_in log), new) ∷ []) are.versions ∙ ap (λ d. drop low (versions_of old) ++ (suc (puts_in log), d) ∷ []) (sym (database_of-more old put new made))
       ∙ sym (drop-append-le low (versions_of old) ((suc (length old), database_of (old ++ put ∷ [])) ∷ []) within) ∙ ap (drop low) (sym (versions_of-more old put)) in
       let more : low ≤ length (old ++ put ∷ []) = omega (arith, are.there, length-append old (put ∷ [])) in
+      let few : length (old ++ put ∷ []) ≤ most_commits = omega (arith, few_before log put new made, length-append old (put ∷ [])) in
       record {
         floor = are.floor ∙ sym (floor_of-added log put);
         versions = versions ∙ ap (λ n. drop n (versions_of (old ++ put ∷ []))) (sym (floor_of-added log put)) ∙ ap (λ ps. drop (floor_of (log ++ added put ∷ [])) (versions_of ps)) (sym (puts_of-added log put));
         there = rw (floor_of-added log put, puts_of-added log put) more;
+        few = rw (puts_of-added log put) few;
       }
 
   -- those below a number are dropped
@@ -110,4 +126,24 @@ module _ (floor : ℕ) (kept : List (ℕ × Database)) (log : Log) (are : AreKep
         floor = sym lifted;
         versions = versions ∙ ap (λ n. drop n all) (sym lifted) ∙ ap (λ ps. drop (floor_of (log ++ expired number ∷ [])) (versions_of ps)) (sym (puts_of-expired log number));
         there = rw (lifted, puts_of-expired log number) there;
+        few = rw (puts_of-expired log number) are.few;
       }
+
+-- ---- as they are stored
+
+-- one version more
+pub stored_more : (floor : ℕ) (stored : List VersionAt) (log : Log) (put : Put) (made : VersionAt) → AreKept floor (map numbered stored) log
+    → after (logs.database_of log) (puts_in log) put ≡ Ok (tables_of made.catalog) → made.number ≡ puts_in log + 1
+    → AreKept floor (map numbered (stored ++ made ∷ [])) (log ++ added put ∷ [])
+stored_more floor stored log put made are accepts count =
+    let next : made.number ≡ suc (puts_in log) = omega (arith, count) in
+    let is : numbered made ≡ (suc (puts_in log), tables_of made.catalog) = ap (λ (n : ℕ). (n, tables_of made.catalog)) next in
+    let more : map numbered (stored ++ made ∷ []) ≡ map numbered stored ++ (suc (puts_in log), tables_of made.catalog) ∷ [] =
+    map-append numbered stored (made ∷ []) ∙ ap (λ (v : ℕ × Database). map numbered stored ++ v ∷ []) is in
+    subst (λ (kept : List (ℕ × Database)). AreKept floor kept (log ++ added put ∷ [])) (sym more) (kept_more floor (map numbered stored) log are put (tables_of made.catalog) accepts)
+
+-- those below a number are dropped
+pub stored_cut : (floor : ℕ) (stored : List VersionAt) (log : Log) (number : ℕ) → AreKept floor (map numbered stored) log → number ≤ puts_in log
+    → AreKept (max floor number) (map numbered (drop (number - floor) stored)) (log ++ expired number ∷ [])
+stored_cut floor stored log number are within =
+    subst (λ (kept : List (ℕ × Database)). AreKept (max floor number) kept (log ++ expired number ∷ [])) (drop-map numbered (number - floor) stored) (kept_cut floor (map numbered stored) log are number within)

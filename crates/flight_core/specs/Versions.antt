@@ -1,5 +1,6 @@
 -- Inside: the versions of puts, each with its number.
 use Rattle.std.specs.Prelude.{◌≡◌, ◌≤◌, ℕ, ◌+◌, List, [], ◌∷◌, drop}
+use Rattle.scan_base.specs.Limits.{most_commits}
 use Rattle.table_versions.specs.Database.{Database, Put, after, accepted}
 use Rattle.table_versions.specs.Log.{Log, puts_of, puts_in, floor_of}
 use Rattle.table_versions.specs.Stored.{VersionAt, tables_of}
@@ -19,8 +20,9 @@ versions_of puts = (0, []) ∷ versions_from [] 0 puts
 abbrev pub numbered : VersionAt → ℕ × Database
 numbered version = (version.number, tables_of version.catalog)
 
--- the versions of a log from its floor on, which the log reaches
-pub record AreKept (floor : ℕ) (kept : List (ℕ × Database)) (log : Log) : Type 0 where
-  pub floor : floor ≡ floor_of log
+-- the versions of a log from its floor on, which the log reaches, and which are no more than there may be
+pub record AreKept (from : ℕ) (kept : List (ℕ × Database)) (log : Log) : Type 0 where
+  pub floor : from ≡ floor_of log
   pub versions : kept ≡ drop (floor_of log) (versions_of (puts_of log))
   pub there : floor_of log ≤ puts_in log
+  pub few : puts_in log ≤ most_commits

@@ -1,0 +1,63 @@
+-- Expiries, as they are answered.
+use Rattle.std.proofs.Common.{◌≡◌, ◌<◌, ◌≤◌, ℕ, Bool, true, false, nat_le, rules, List, [], ◌∷◌, length, length-append, Some, None, Result, Ok, Err, refl, ap, sym, ◌∙◌, max, arith, inl, inr}
+use Rattle.std.specs.Prelude.{IsOk}
+use Rattle.byteorder.specs.Endian.{big_bytes}
+use Rattle.scan_base.specs.declared.fault.Fault.{Fault}
+use Rattle.scan_base.specs.declared.fault.Fault.TheVariants.{OutOfMemory, VersionUnknown}
+use Rattle.scan_base.specs.Limits.{most_message_bytes}
+use Rattle.scan_base.specs.Reading.{◌>>=◌, demand}
+use Rattle.flight_proto.specs.Expiry.{expiry_of, floor_bytes}
+use Rattle.flight_proto.specs.Message.{set_fields, spelled}
+use Rattle.proto_wire.specs.Calls.{chunk_entry}
+use Rattle.proto_wire.specs.Writing.{spelling}
+use Rattle.table_versions.specs.Expiry.{IsExpired, RefusesExpiry}
+use Rattle.table_versions.specs.Log.{Log, puts_in, floor_of}
+use Rattle.table_versions.proofs.Logs.{floor_of-expired}
+use Rattle.flight_info.specs.Payloads.{Payload}
+use Rattle.flight_info.proofs.Sizes.{short_chunk, short_set}
+use Rattle.flight_core.specs.Refusals.{RefusedFor}
+use Rattle.flight_core.specs.Machine.{ExpireStep, expiry_due}
+
+-- the answer fits a message
+pub floor_fits : (floor : ℕ) → length (floor_bytes floor) ≤ most_message_bytes
+floor_fits floor =
+    let body = chunk_entry 1 (big_bytes 8 floor) in
+    let whole : length (floor_bytes floor) ≡ length (spelled (set_fields (body ∷ []))) = refl in
+    let eight : length (big_bytes 8 floor) ≡ 8 = refl in
+    omega (arith, whole, eight, short_set (body ∷ []), length-append (spelling body) [], short_chunk 1 (big_bytes 8 floor))
+
+-- an action that reads
+pub number_read : (action : Payload) (version : ℕ) → expiry_of action ≡ Ok version → IsOk (expiry_of action)
+number_read action version said = rw said refl
+
+-- the mark was added, and the answer is the floor behind it
+pub expired_reply : (log new : Log) (action : Payload) (version floor : ℕ) (answers : List Payload) → expiry_of action ≡ Ok version
+    → IsExpired (Ok floor) log version new → answers ≡ floor_bytes floor ∷ [] → ExpireStep log action answers None new
+expired_reply log new action version floor answers said is whole =
+    (version, said, is.0, is.1, whole ∙ ap (λ (n : ℕ). floor_bytes n ∷ []) is.2)
+
+-- the same of an answer that was made before the mark
+pub answered_before : (log new : Log) (action : Payload) (version floor said : ℕ) (answers : List Payload) → expiry_of action ≡ Ok version
+    → IsExpired (Ok floor) log version new → said ≡ max (floor_of log) version → answers ≡ floor_bytes said ∷ [] → ExpireStep log action answers None new
+answered_before log new action version floor said answers read is now whole =
+    let behind : floor ≡ said = is.2 ∙ ap floor_of is.1 ∙ floor_of-expired log version ∙ sym now in
+    expired_reply log new action version floor answers read is (whole ∙ ap (λ (n : ℕ). floor_bytes n ∷ []) (sym behind))
+
+-- an action that does not read is refused for its own fault
+pub unread_expiry : (log : Log) (action : Payload) (fault : Fault) → expiry_of action ≡ Err fault → RefusedFor (expiry_of action) (expiry_due log action) fault
+unread_expiry log action fault unread = rw unread refl
+
+-- one that reads may be refused for want of memory
+pub tired_expiry : (log : Log) (action : Payload) (version : ℕ) → expiry_of action ≡ Ok version → RefusedFor (expiry_of action) (expiry_due log action) OutOfMemory
+tired_expiry log action version said = rw said (λ other. absurd (other refl))
+
+-- the number is due where the log does not reach it
+pub refused_expiry : (log : Log) (action : Payload) (version : ℕ) (fault : Fault) → expiry_of action ≡ Ok version → RefusesExpiry fault log version
+    → RefusedFor (expiry_of action) (expiry_due log action) fault
+refused_expiry log action version fault said (inr tired) = rw said (λ other. absurd (other tired.0))
+refused_expiry log action version fault said (inl unknown) =
+    rw (said, unknown.0) (λ other. by (nat_le version (puts_in log)) refl)
+  where
+    by : (there : Bool) → nat_le version (puts_in log) ≡ there → (demand there VersionUnknown >>= λ _. Ok version) ≡ Err VersionUnknown
+    by false no = refl
+    by true yes = let within : version ≤ puts_in log = search (rules, yes) in absurd (omega (arith, unknown.1, within))
