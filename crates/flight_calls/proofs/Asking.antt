@@ -1,13 +1,15 @@
 -- What messages ask.
-use Rattle.std.proofs.Common.{◌≡◌, ◌⊎◌, ◌<◌, ℕ, List, [], ◌∷◌, length, Some, Result, Err, refl, sym, subst, inl, inr, append-nil}
+use Rattle.std.proofs.Common.{◌≡◌, ◌⊎◌, ◌<◌, ℕ, List, [], ◌∷◌, length, Some, Result, Ok, Err, refl, sym, subst, inl, inr, append-nil}
 use Rattle.std.specs.Prelude.{IsOk}
 use Rattle.std.proofs.lemmas.Bool.{lt-leb}
 use Rattle.scan_base.specs.declared.fault.Fault.{Fault}
 use Rattle.scan_base.specs.declared.fault.Fault.TheVariants.{BadProto, LimitReached}
 use Rattle.scan_base.specs.Limits.{most_request_bytes}
 use Rattle.scan_base.specs.Reading.{◌>>=◌}
+use Rattle.flight_proto.specs.Expiry.{expiry_of}
 use Rattle.flight_proto.specs.Wanted.{Wanted, wanted_in}
 use Rattle.flight_core.specs.Asked.{info, schema}
+use Rattle.flight_core.proofs.Expiring.{unread_expiry}
 use Rattle.flight_info.specs.Replies.{refusal}
 use Rattle.flight_info.specs.Infos.{only_rows, short_enough, rows_wanted, schema_wanted, InfoAt, SchemaAt}
 use Rattle.table_versions.specs.Log.{Log, database_of, puts_in}
@@ -16,7 +18,7 @@ use Rattle.flight_info.specs.Payloads.{Payload}
 use Rattle.flight_calls.specs.declared.setting.Options.{Options}
 use Rattle.flight_calls.specs.declared.request.Method.TheVariants as method
 use Rattle.flight_calls.specs.declared.request.Single.{Single}
-use Rattle.flight_calls.specs.declared.request.Single.TheVariants.{GetFlightInfo, GetSchema}
+use Rattle.flight_calls.specs.declared.request.Single.TheVariants.{GetFlightInfo, GetSchema, DoAction}
 use Rattle.flight_calls.specs.Calls.{Call, method_at, asked_with, asked_by}
 use Rattle.flight_calls.specs.Requests.{with_messages, IsRefused}
 
@@ -31,7 +33,7 @@ asks_none options call one at none = rw (at, none) refl
 
 -- or one message
 pub asks_one : (options : Options) (call : Call) (one : Single) (message : Payload) → method_at call.path ≡ Some (method.Single one) → call.messages ≡ message ∷ []
-    → asked_by options call ≡ asked_with options one message
+    → asked_by options call ≡ Ok (asked_with options one message)
 asks_one options call one message at alone = rw (at, alone) refl
 
 -- a message that is too long is not read
@@ -61,3 +63,7 @@ schema_unread message long looks = let no = rw (too_long message long) at looks 
 pub command_too_long : (one : Single) (message : Payload) → (one ≡ GetFlightInfo) ⊎ (one ≡ GetSchema) → most_request_bytes < length message → IsRefused one message LimitReached
 command_too_long one message (inl is) long = rw (is, too_long message long) ((λ options log. info_too_long log message options.parts long), λ options looks. info_unread message long looks)
 command_too_long one message (inr is) long = rw is ((λ options log. schema_too_long log message long), λ options looks. schema_unread message long looks)
+
+-- an action that does not read
+pub action_unread : (one : Single) (message : Payload) (fault : Fault) → one ≡ DoAction → expiry_of message ≡ Err fault → IsRefused one message fault
+action_unread one message fault is unread = rw is ((λ options log. (refl, refl, unread_expiry log message fault unread)), λ options looks. looks)

@@ -9,7 +9,7 @@ use Rattle.flight_info.specs.Replies.{ReplyAt}
 use Rattle.fetch_stream.specs.Fetches.{version_of, handle_shown}
 use Rattle.fetch_stream.specs.Streams.{StreamAt, Opens}
 use Rattle.flight_core.specs.Asked.{Asked}
-use Rattle.table_versions.specs.Log.{Log, puts_in, version}
+use Rattle.table_versions.specs.Log.{Log, puts_in, floor_of, version}
 use Rattle.flight_core.specs.Machine.{FetchBy, FetchIn, OpensBy, OpensIn}
 use Rattle.flight_calls.specs.declared.answer.Answer.TheVariants.{Stream}
 use Rattle.flight_calls.specs.Calls.{ReplyTo}
@@ -19,14 +19,14 @@ use Rattle.flight_calls.proofs.Streaming.{SendsFetch}
 -- what the ticket shows, and its stream
 record Shows (log : Log) (ticket : Payload) (stream : StreamAt) : Type 0 where
   handle : HandleAt
-  shown : handle_shown (puts_in log) ticket ≡ Ok handle
+  shown : handle_shown (floor_of log) (puts_in log) ticket ≡ Ok handle
   opens : Opens (version log (version_of handle)) handle (Ok stream)
 
 shows : (log : Log) (ticket : Payload) (stream : StreamAt) → OpensIn log ticket (Ok stream) → Shows log ticket stream
 shows log ticket stream (inr lacks) = absurd cc
-shows log ticket stream (inl opens) = by (handle_shown (puts_in log) ticket) refl opens
+shows log ticket stream (inl opens) = by (handle_shown (floor_of log) (puts_in log) ticket) refl opens
   where
-    by : (seen : Result HandleAt Fault) → handle_shown (puts_in log) ticket ≡ seen → OpensBy log seen (Ok stream) → Shows log ticket stream
+    by : (seen : Result HandleAt Fault) → handle_shown (floor_of log) (puts_in log) ticket ≡ seen → OpensBy log seen (Ok stream) → Shows log ticket stream
     by (Ok handle) is opens = record { handle = handle; shown = is; opens = opens }
     by (Err cause) is opens = absurd cc
 
@@ -50,7 +50,7 @@ stream_sent asked log new stream r a b before after answered sends =
 -- where there is no stream, its fault is the answer
 pub not_opened : (log : Log) (ticket : Payload) (fault : Fault) → OpensIn log ticket (Err fault) → FetchIn log ticket [] (Some fault)
 not_opened log ticket fault (inr lacks) = inr (lacks.0, refl, cc)
-not_opened log ticket fault (inl opens) = inl (by (handle_shown (puts_in log) ticket) fault opens)
+not_opened log ticket fault (inl opens) = inl (by (handle_shown (floor_of log) (puts_in log) ticket) fault opens)
   where
     by : (seen : Result HandleAt Fault) (fault : Fault) → OpensBy log seen (Err fault) → FetchBy log seen [] (Some fault)
     by (Err cause) fault is = (refl, cc)

@@ -4,27 +4,33 @@ use Rattle.std.proofs.lemmas.List.{append_cancel_left}
 use Rattle.scan_base.specs.declared.fault.Fault.{Fault}
 use Rattle.flight_info.specs.Payloads.{Payload}
 use Rattle.flight_info.specs.Replies.{ReplyAt}
-use Rattle.flight_core.specs.Asked.{Asked, put, info, tables, schema, fetch}
+use Rattle.flight_core.specs.Asked.{Asked, put, info, tables, schema, fetch, expire}
 use Rattle.table_versions.specs.Log.{Log}
-use Rattle.flight_core.specs.Machine.{PutStep}
+use Rattle.flight_core.specs.Machine.{PutStep, ExpireStep}
+use Rattle.flight_proto.specs.Expiry.{expiry_of}
 use Rattle.flight_core.specs.Puts.{put_said}
 use Rattle.flight_calls.specs.declared.setting.Options.{Options}
 use Rattle.flight_calls.specs.Calls.{Call, asked_by, ReplyTo}
 use Rattle.flight_calls.specs.Seats.{Seat, Moves}
 use Rattle.flight_calls.specs.Reacts.{Reacts, Answers}
-use Rattle.flight_calls.specs.Laws.{accepted_by, entries_of, entries_in_all}
+use Rattle.flight_calls.specs.Laws.{accepted_by, marked_by, entries_of, entries_in_all}
 
 put_adds : (payloads : List Payload) (log after : Log) (answers : List Payload) (fault : Option Fault) → PutStep log payloads answers fault after → after ≡ log ++ accepted_by fault (put_said payloads)
 put_adds payloads log after answers None step = rw step.1 step.3
 put_adds payloads log after answers (Some fault) step = step.0 ∙ sym (append-nil log)
 
--- a step adds the put that it accepts
+expiry_adds : (action : Payload) (log after : Log) (answers : List Payload) (fault : Option Fault) → ExpireStep log action answers fault after → after ≡ log ++ marked_by fault (expiry_of action)
+expiry_adds action log after answers None step = rw step.1 step.3
+expiry_adds action log after answers (Some fault) step = step.0 ∙ sym (append-nil log)
+
+-- a step adds the put that it accepts, or the mark
 step_adds : (asked : Result Asked Fault) (log after : Log) (reply : ReplyAt) → ReplyTo asked log reply after → after ≡ log ++ entries_of asked reply
 step_adds (Ok (put payloads)) log after reply step = put_adds payloads log after reply.payloads reply.fault step
 step_adds (Ok (info payload parts)) log after reply step = step.0 ∙ sym (append-nil log)
 step_adds (Ok (tables payload parts)) log after reply step = step.0 ∙ sym (append-nil log)
 step_adds (Ok (schema payload)) log after reply step = step.0 ∙ sym (append-nil log)
 step_adds (Ok (fetch ticket workers)) log after reply step = step.0 ∙ sym (append-nil log)
+step_adds (Ok (expire action)) log after reply step = expiry_adds action log after reply.payloads reply.fault step
 step_adds (Err fault) log after reply step = step.0 ∙ sym (append-nil log)
 
 call_adds : (moves : Moves) (asked : Result Asked Fault) (old new : Seat) (reply : ReplyAt) → Reacts moves asked old reply new → new.made ≡ old.made ++ entries_of asked reply

@@ -5,21 +5,24 @@ use Rattle.scan_base.specs.declared.fault.Fault.{Fault}
 use Rattle.scan_base.specs.declared.fault.Fault.TheVariants.{OutOfMemory}
 use Rattle.scan_base.specs.Reading.{RefusesFirst}
 use Rattle.table_versions.specs.Database.{Put, after}
+use Rattle.flight_proto.specs.Expiry.{expiry_of, floor_bytes}
 use Rattle.flight_info.specs.Payloads.{Payload}
-use Rattle.flight_info.specs.Replies.{ReplyAt, refusal}
-use Rattle.flight_core.specs.Asked.{Asked, put, info, tables, schema, fetch}
-use Rattle.table_versions.specs.Log.{Log, added, puts_in, database_of, Begins}
+use Rattle.flight_info.specs.Replies.{ReplyAt, refusal, whole}
+use Rattle.flight_core.specs.Asked.{Asked, put, info, tables, schema, fetch, expire}
+use Rattle.table_versions.specs.Expiry.{IsExpired}
+use Rattle.table_versions.specs.Log.{Log, added, expired, puts_in, database_of, Begins}
 use Rattle.flight_core.specs.Puts.{put_glance, put_said}
 use Rattle.flight_core.specs.Refusals.{RefusedFor}
 use Rattle.flight_core.specs.Machine.{PutStep}
+use Rattle.flight_core.proofs.Expiring.{number_read, expired_reply, unread_expiry, refused_expiry}
 use Rattle.flight_core.proofs.Replies.{refused_reply, unread_reply}
 use Rattle.flight_calls.specs.declared.answer.Answer.{Answer}
-use Rattle.flight_calls.specs.declared.answer.Answer.TheVariants.{Whole, Stream}
+use Rattle.flight_calls.specs.declared.answer.Answer.TheVariants.{Whole, Floor, Stream}
 use Rattle.flight_calls.specs.declared.request.Single.{Single}
 use Rattle.flight_calls.specs.declared.setting.Options.{Options}
 use Rattle.flight_calls.specs.Calls.{ReplyTo, asked_with}
 use Rattle.flight_calls.specs.Requests.{IsRefused}
-use Rattle.flight_calls.specs.Seats.{Seat, seat_of, Moves, Learns, LooksOnce, Puts, alone}
+use Rattle.flight_calls.specs.Seats.{Seat, seat_of, Moves, Expires, Learns, LooksOnce, Puts, alone}
 use Rattle.flight_calls.specs.Reacts.{StartsAt, Looks, Goes, Reacts}
 use Rattle.flight_calls.specs.Answered.{IsReplyOf, ReactsBy}
 
@@ -46,6 +49,7 @@ starts_begins (Ok (info payload parts)) seen log b = b
 starts_begins (Ok (tables payload parts)) seen log b = b
 starts_begins (Ok (schema payload)) seen log b = b
 starts_begins (Ok (fetch ticket workers)) seen log b = b
+starts_begins (Ok (expire action)) seen log b = inr b
 starts_begins (Err fault) seen log b = b
 
 -- by what changes nothing, to the log that the seat has then seen
@@ -97,16 +101,18 @@ unasked moves stays s fault = held moves (Err fault) s s (refusal fault) (reacts
 
 -- a message that is refused before it is read
 pub settled : (moves : Moves) → ((s : Seat) → moves s s.log s.log s) → (s : Seat) (options : Options) (one : Single) (message : Payload) (fault : Fault) → IsRefused one message fault
-    → ReactsBy moves (asked_with options one message) s (Whole (refusal fault)) s
+    → ReactsBy moves (Ok (asked_with options one message)) s (Whole (refusal fault)) s
 settled moves stays s options one message fault is =
-    held moves (asked_with options one message) s s (refusal fault)
-    (reacts_unseen moves stays (asked_with options one message) s (refusal fault) (is.0 options s.log) (is.1 options))
+    held moves (Ok (asked_with options one message)) s s (refusal fault)
+    (reacts_unseen moves stays (Ok (asked_with options one message)) s (refusal fault) (is.0 options s.log) (is.1 options))
 
 -- an answer that is written
 pub written : (moves : Moves) (asked : Result Asked Fault) (old new : Seat) (answer : Answer) (reply : ReplyAt) (r : ReactsBy moves asked old answer new)
     → ReplyTo asked r.log reply r.after → IsReplyOf answer reply → Reacts moves asked old reply new
 written moves asked old new (Whole whole) reply r step is =
     record { log = r.log; after = r.after; step = step; goes = r.goes; looked = rw is r.looked }
+written moves asked old new (Floor floor) reply r step is =
+    record { log = r.log; after = r.after; step = step; goes = r.goes; looked = λ other. r.looked tt }
 written moves asked old new (Stream stream) reply r step is =
     record { log = r.log; after = r.after; step = step; goes = r.goes; looked = λ other. r.looked tt }
 
@@ -157,4 +163,51 @@ put_refused moves old new payloads made fault p said = record {
     made = ([], p.at.0 ∙ sym (append-nil p.log), p.at.1 ∙ sym (append-nil old.made));
   };
   looked = λ other looks. absurd (looks_not payloads looks);
+}
+
+-- ---- expiries
+
+-- of a log that nobody shares
+pub expires_alone : (result : Result ℕ Fault) (old new : Log) (looks version : ℕ) → IsExpired result old version new → Expires alone result (seat_of old looks) version (seat_of new looks)
+expires_alone (Ok floor) old new looks version is =
+    record { log = old; next = new; at = is; marks = is.1; moved = (refl, refl); kept = (expired version ∷ [], is.1); learnt = ([], sym (append-nil new)); looks = refl }
+expires_alone (Err fault) old new looks version is =
+    record { log = old; next = new; at = is; marks = is.0; moved = (refl, refl); kept = ([], is.0 ∙ sym (append-nil old)); learnt = ([], sym (append-nil new)); looks = refl }
+
+expiry_looks_not : (action : Payload) → Looks (Ok (expire action)) → ⊥
+expiry_looks_not action looks = looks
+
+-- its action does not read
+pub expiry_unread : (moves : Moves) → ((s : Seat) → moves s s.log s.log s) → (s : Seat) (action : Payload) (fault : Fault) → expiry_of action ≡ Err fault
+    → ReactsBy moves (Ok (expire action)) s (Whole (refusal fault)) s
+expiry_unread moves stays s action fault unread =
+    held moves (Ok (expire action)) s s (refusal fault)
+    (reacts_unseen moves stays (Ok (expire action)) s (refusal fault) (refl, refl, unread_expiry s.log action fault unread) (expiry_looks_not action))
+
+-- the backend made the mark
+pub expiry_made : (moves : Moves) (old new : Seat) (action : Payload) (version floor : ℕ) → Expires moves (Ok floor) old version new → expiry_of action ≡ Ok version
+    → ReactsBy moves (Ok (expire action)) old (Floor floor) new
+expiry_made moves old new action version floor e said = record {
+  log = e.log;
+  after = e.next;
+  answered = expired_reply e.log e.next action version floor (floor_bytes floor ∷ []) said e.at refl;
+  goes = record { moved = e.moved; starts = inl (number_read action version said); learnt = e.learnt; kept = e.kept; made = (expired version ∷ [], e.at.1, e.marks) };
+  looked = λ other looks. absurd (expiry_looks_not action looks);
+}
+
+-- or refused it
+pub expiry_refused : (moves : Moves) (old new : Seat) (action : Payload) (version : ℕ) (fault : Fault) → Expires moves (Err fault) old version new → expiry_of action ≡ Ok version
+    → ReactsBy moves (Ok (expire action)) old (Whole (refusal fault)) new
+expiry_refused moves old new action version fault e said = record {
+  log = e.log;
+  after = e.next;
+  answered = (e.at.0, refl, refused_expiry e.log action version fault said e.at.1);
+  goes = record {
+    moved = e.moved;
+    starts = inl (number_read action version said);
+    learnt = e.learnt;
+    kept = e.kept;
+    made = ([], e.at.0 ∙ sym (append-nil e.log), e.marks ∙ sym (append-nil old.made));
+  };
+  looked = λ other looks. absurd (expiry_looks_not action looks);
 }

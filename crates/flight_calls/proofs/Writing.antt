@@ -83,6 +83,17 @@ unfolding FitMessages
 each_fits payloads i payload inside is fits =
     subst (λ (p : Payload). length p ≤ 16777216) (sym is) (All-get_or (λ (p : Payload). length p ≤ 16777216) payloads i payload inside fits)
 
+-- ---- one message, and the status
+
+pub one_sent : {A E : Type 0} (r : Result A E) (a b c : Option (List ℕ)) (before mid after : List ℕ) (payload : Payload) (status : Record)
+    → Sent a b before mid (spelling (Message payload)) → Sends r b c mid after (spelling status) → Sends r a c before after (answer_bytes (payload ∷ []) status)
+one_sent r a b c before mid after payload status sent last =
+    status_sent r a b c before mid after (payload ∷ []) status (subst (Sent a b before mid) (sym (append-nil (spelling (Message payload)))) sent) last
+
+pub one_not_sent : (a b : Option (List ℕ)) (before after : List ℕ) (payload : Payload) (status : Record)
+    → NotSent a b before after (spelling (Message payload)) → NotSent a b before after (answer_bytes (payload ∷ []) status)
+one_not_sent a b before after payload status failed = head_not_sent a b before after (spelling (Message payload)) (spelling status ++ []) failed
+
 -- ---- parcels
 
 -- the payloads of a parcel before one, that one, and the rest

@@ -1,5 +1,5 @@
 -- Inside: what answers a call, before it is written and then.
-use Rattle.std.specs.Prelude.{◌≡◌, ◌≢◌, ℕ, List, [], ◌++◌, Option, Some, None, Result, Ok, OnErr}
+use Rattle.std.specs.Prelude.{◌≡◌, ◌≢◌, ℕ, List, [], ◌∷◌, ◌++◌, Option, Some, None, Result, Ok, OnErr}
 use Rattle.scan_base.specs.declared.fault.Fault.{Fault}
 use Rattle.scan_base.specs.declared.fault.Fault.TheVariants.{OutOfMemory}
 use Rattle.grpc_frame.specs.Ends.{CountsFailure, FailsByTransport, Writes}
@@ -8,33 +8,37 @@ use Rattle.endpoint_split.specs.Handle.{HandleAt}
 use Rattle.table_versions.specs.Database.{Database}
 use Rattle.table_versions.specs.Table.{Table}
 use Rattle.flight_info.specs.Payloads.{Payload, FitMessages}
-use Rattle.flight_info.specs.Replies.{ReplyAt}
+use Rattle.flight_info.specs.Replies.{ReplyAt, whole}
+use Rattle.flight_proto.specs.Expiry.{floor_bytes}
 use Rattle.fetch_stream.specs.Fetches.{FetchAt, HandleMeans}
 use Rattle.fetch_stream.specs.Streams.{StreamAt, HasGiven}
 use Rattle.flight_core.specs.Asked.{Asked, fetch}
 use Rattle.table_versions.specs.Log.{Log}
 use Rattle.flight_core.specs.Machine.{OpensIn}
 use Rattle.flight_calls.specs.declared.answer.Answer.{Answer}
-use Rattle.flight_calls.specs.declared.answer.Answer.TheVariants.{Whole, Stream}
+use Rattle.flight_calls.specs.declared.answer.Answer.TheVariants.{Whole, Floor, Stream}
 use Rattle.flight_calls.specs.Calls.{ReplyTo}
 use Rattle.flight_calls.specs.Seats.{Seat, Moves}
 use Rattle.flight_calls.specs.Reacts.{Goes, HasLooked}
 use Rattle.flight_calls.specs.Owed.{answer_bytes}
 
--- what answers a call: its reply; or the stream of a fetch, which leaves the log
+-- what answers a call: its reply; or the floor behind an expiry; or the stream of a fetch, which leaves the log
 abbrev pub AnsweredBy : Result Asked Fault → Log → Answer → Log → Type 0
 AnsweredBy asked log (Whole reply) new = ReplyTo asked log reply new
+AnsweredBy asked log (Floor floor) new = ReplyTo asked log (whole (floor_bytes floor ∷ [])) new
 AnsweredBy asked log (Stream stream) new = (new ≡ log) × (ticket : Payload) × (workers : ℕ)
     × (asked ≡ Ok (fetch ticket workers)) × OpensIn log ticket (Ok stream)
 
 -- it was not refused for want of memory before it was begun
 abbrev pub IsBegun : Answer → Type 0
 IsBegun (Whole reply) = reply.fault ≢ Some OutOfMemory
+IsBegun (Floor floor) = Unit {0}
 IsBegun (Stream stream) = Unit {0}
 
 -- the reply that an answer holds, if it holds one
 abbrev pub IsReplyOf : Answer → ReplyAt → Type 0
-IsReplyOf (Whole whole) reply = reply ≡ whole
+IsReplyOf (Whole same) reply = reply ≡ same
+IsReplyOf (Floor floor) reply = reply ≡ whole (floor_bytes floor ∷ [])
 IsReplyOf (Stream stream) reply = Unit {0}
 
 -- what answers a call over a backend, before it is written
@@ -48,6 +52,7 @@ pub record ReactsBy (moves : Moves) (asked : Result Asked Fault) (old : Seat) (a
 -- each payload of a reply fits a message; those of a stream do
 abbrev pub FitsMessages : Answer → Type 0
 FitsMessages (Whole reply) = FitMessages reply.payloads
+FitsMessages (Floor floor) = Unit {0}
 FitsMessages (Stream stream) = Unit {0}
 
 -- a reply that this holds of was written, or a beginning of it

@@ -2,13 +2,13 @@
 use Rattle.std.specs.Prelude.{◌≡◌, ℕ, List, [], ◌∷◌, ◌++◌, map, Option, Some, None, Result, Ok, Err, codes, if◌then◌else◌}
 use Rattle.std.specs.Str.{bytes_eq}
 use Rattle.scan_base.specs.declared.fault.Fault.{Fault}
-use Rattle.scan_base.specs.declared.fault.Fault.TheVariants.{UnknownMethod, BadProto, UnknownCommand}
+use Rattle.scan_base.specs.declared.fault.Fault.TheVariants.{UnknownMethod, BadProto}
 use Rattle.scan_base.specs.Reading.{◌>>=◌, wanted}
 use Rattle.grpc_frame.specs.declared.record.Record.{Record}
 use Rattle.grpc_frame.specs.declared.record.Record.TheVariants.{Open, Message, End}
 use Rattle.flight_proto.specs.Wanted as wants
 use Rattle.flight_info.specs.Payloads.{Payload}
-use Rattle.flight_core.specs.Asked.{Asked, put, info, tables, schema, fetch}
+use Rattle.flight_core.specs.Asked.{Asked, put, info, tables, schema, fetch, expire}
 use Rattle.flight_info.specs.Replies.{ReplyAt, refusal}
 use Rattle.table_versions.specs.Log.{Log}
 use Rattle.flight_core.specs.Machine.{StepOn}
@@ -48,20 +48,20 @@ abbrev pub info_asked : Result wants.Wanted Fault → Payload → ℕ → Asked
 info_asked (Ok wants.tables) payload parts = tables payload parts
 info_asked _ payload parts = info payload parts
 
--- what the one message of a call asks, where the server is set so; no action is known
-abbrev pub asked_with : Options → Single → Payload → Result Asked Fault
-asked_with options single.DoGet ticket = Ok (fetch ticket options.workers)
-asked_with options single.GetFlightInfo payload = Ok (info_asked (wants.wanted_in payload) payload options.parts)
-asked_with options single.GetSchema payload = Ok (schema payload)
-asked_with options single.DoAction action = Err UnknownCommand
+-- what the one message of a call asks, where the server is set so; an action asks for an expiry
+abbrev pub asked_with : Options → Single → Payload → Asked
+asked_with options single.DoGet ticket = fetch ticket options.workers
+asked_with options single.GetFlightInfo payload = info_asked (wants.wanted_in payload) payload options.parts
+asked_with options single.GetSchema payload = schema payload
+asked_with options single.DoAction action = expire action
 
 -- what the messages ask of a method: but for a put there is one, and of another number none is read
 abbrev pub asked_of : Options → Method → List Payload → Result Asked Fault
 asked_of options method.DoPut messages = Ok (put messages)
-asked_of options (method.Single one) (message ∷ []) = asked_with options one message
+asked_of options (method.Single one) (message ∷ []) = Ok (asked_with options one message)
 asked_of options (method.Single one) _ = Err BadProto
 
--- what a call asks, or the fault of its path, of the number of its messages or of its action
+-- what a call asks, or the fault of its path or of the number of its messages
 abbrev pub asked_by : Options → Call → Result Asked Fault
 asked_by options call = wanted (method_at call.path) UnknownMethod >>= λ found. asked_of options found call.messages
 

@@ -21,8 +21,8 @@ use Rattle.flight_calls.specs.Seats.{Seat, Moves}
 use Rattle.flight_calls.specs.Reacts.{StartsAt, Reacts, Answers}
 use Rattle.flight_calls.specs.Owed.{Connection, Serves}
 
--- What a call leaves is where every later call of the connection starts, but for a put that was read, which goes by the log
--- that it meets. So an info or a schema sees each put that was accepted before it, and a fetch finds its version.
+-- What a call leaves is where every later call of the connection starts, but for a put or an expiry that was read, which goes by
+-- the log that it meets. So an info or a schema sees each put that was accepted before it, and a fetch finds its version.
 abbrev pub LaterCallsSee : Moves → Type 0
 LaterCallsSee moves = (options : Options) (one other : Result Asked Fault) (before between behind new : Seat)
     (reply answer : ReplyAt) (calls : List Call) (replies : List ReplyAt)

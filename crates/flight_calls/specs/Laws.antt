@@ -4,8 +4,9 @@ use Rattle.scan_base.specs.declared.fault.Fault.{Fault}
 use Rattle.scan_base.specs.declared.fault.Fault.TheVariants.{Transport}
 use Rattle.flight_info.specs.Replies.{ReplyAt}
 use Rattle.table_versions.specs.Database.{Put}
-use Rattle.table_versions.specs.Log.{Log, added}
-use Rattle.flight_core.specs.Asked.{Asked, put, info, tables, schema, fetch}
+use Rattle.flight_proto.specs.Expiry.{expiry_of}
+use Rattle.table_versions.specs.Log.{Log, added, expired}
+use Rattle.flight_core.specs.Asked.{Asked, put, info, tables, schema, fetch, expire}
 use Rattle.flight_core.specs.Puts.{put_said}
 use Rattle.flight_core.specs.Machine.{Run}
 use Rattle.flight_core.specs.Headline.{Headline}
@@ -34,22 +35,29 @@ accepted_by None (Ok said) = added said ∷ []
 accepted_by None (Err fault) = []
 accepted_by (Some fault) read = []
 
--- the same of what is asked
+-- the mark of the expiry that a reply tells of, if it tells of one
+abbrev pub marked_by : Option Fault → Result ℕ Fault → Log
+marked_by None (Ok version) = expired version ∷ []
+marked_by None (Err fault) = []
+marked_by (Some fault) read = []
+
+-- the entry of what is asked, if the reply tells of one
 abbrev pub entries_of : Result Asked Fault → ReplyAt → Log
 entries_of (Ok (put payloads)) reply = accepted_by reply.fault (put_said payloads)
 entries_of (Ok (info payload parts)) reply = []
 entries_of (Ok (tables payload parts)) reply = []
 entries_of (Ok (schema payload)) reply = []
 entries_of (Ok (fetch ticket workers)) reply = []
+entries_of (Ok (expire action)) reply = marked_by reply.fault (expiry_of action)
 entries_of (Err fault) reply = []
 
--- the entries of the accepted puts of calls, in order
+-- the entries of the accepted puts of calls, and the marks of their expiries, in order
 abbrev pub entries_in_all : Options → List Call → List ReplyAt → Log
 entries_in_all options (call ∷ calls) (reply ∷ replies) =
     entries_of (asked_by options call) reply ++ entries_in_all options calls replies
 entries_in_all options _ _ = []
 
--- A connection makes the accepted puts of its whole calls, in order, and no other.
+-- A connection makes the accepted puts and the marks of its whole calls, in order, and no other entry.
 abbrev pub PutsAreMade : Moves → Type 0
 PutsAreMade moves = (options : Options) (old new : Seat) (calls : List Call) (replies : List ReplyAt)
     → Answers moves options old calls replies new → new.made ≡ old.made ++ entries_in_all options calls replies

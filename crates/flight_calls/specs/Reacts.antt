@@ -2,18 +2,21 @@
 use Rattle.std.specs.Prelude.{◌≡◌, ◌≢◌, ◌⊎◌, ◌<◌, List, [], ◌∷◌, ◌++◌, IsOk, Some, Result, Ok, Err}
 use Rattle.scan_base.specs.declared.fault.Fault.{Fault}
 use Rattle.scan_base.specs.declared.fault.Fault.TheVariants.{OutOfMemory}
+use Rattle.flight_proto.specs.Expiry.{expiry_of}
 use Rattle.flight_info.specs.Infos.{handle_asked, rows_wanted, tables_wanted, schema_wanted}
 use Rattle.flight_info.specs.Replies.{ReplyAt}
-use Rattle.flight_core.specs.Asked.{Asked, put, info, tables, schema, fetch}
+use Rattle.flight_core.specs.Asked.{Asked, put, info, tables, schema, fetch, expire}
 use Rattle.table_versions.specs.Log.{Log, Begins}
 use Rattle.flight_core.specs.Puts.{put_said}
 use Rattle.flight_calls.specs.declared.setting.Options.{Options}
 use Rattle.flight_calls.specs.Calls.{Call, asked_by, ReplyTo}
 use Rattle.flight_calls.specs.Seats.{Seat, Moves}
 
--- a put that was read may go by another log than the seat's; all else by one that begins with what the seat had seen
+-- a put or an expiry that was read may go by another log than the seat's; all else by one that begins with what the seat had
+-- seen
 abbrev pub StartsAt : Result Asked Fault → Log → Log → Type 0
 StartsAt (Ok (put payloads)) seen log = IsOk (put_said payloads) ⊎ Begins seen log
+StartsAt (Ok (expire action)) seen log = IsOk (expiry_of action) ⊎ Begins seen log
 StartsAt _ seen log = Begins seen log
 
 -- what looks at the backend: an info, a list of tables, a schema or a fetch that was read
@@ -23,6 +26,7 @@ Looks (Ok (info payload parts)) = IsOk (rows_wanted payload)
 Looks (Ok (tables payload parts)) = IsOk (tables_wanted payload)
 Looks (Ok (schema payload)) = IsOk (schema_wanted payload)
 Looks (Ok (fetch ticket workers)) = IsOk (handle_asked ticket)
+Looks (Ok (expire action)) = ⊥
 Looks (Err fault) = ⊥
 
 -- what a step adds to a log, if it adds anything, is made by the seat

@@ -1,5 +1,5 @@
 -- Inside: what is held of a call while its messages come.
-use Rattle.std.specs.Prelude.{◌≡◌, List, [], ◌∷◌, ◌++◌, Some, Err}
+use Rattle.std.specs.Prelude.{◌≡◌, List, [], ◌∷◌, ◌++◌, Some, Ok, Err}
 use Rattle.scan_base.specs.declared.fault.Fault.{Fault}
 use Rattle.flight_info.specs.Payloads.{Payload}
 use Rattle.flight_core.specs.Arriving.{HasRead}
@@ -11,7 +11,8 @@ use Rattle.flight_calls.specs.declared.request.Single.{Single}
 use Rattle.flight_calls.specs.declared.request.Request.{Request}
 use Rattle.flight_calls.specs.declared.request.Request.TheVariants as request
 use Rattle.flight_calls.specs.Reacts.{Looks}
-use Rattle.flight_calls.specs.Calls.{Call, method_at, asked_with, asked_by, ReplyTo}
+use Rattle.flight_core.specs.Machine.{StepOn}
+use Rattle.flight_calls.specs.Calls.{Call, method_at, asked_with, asked_by}
 
 -- the call with more messages behind its own
 abbrev pub with_messages : Call → List Payload → Call
@@ -20,8 +21,8 @@ with_messages call more = record { path = call.path; messages = call.messages ++
 -- a message is answered by this fault, however the server is set and whatever the log is, without a look
 abbrev pub IsRefused : Single → Payload → Fault → Type 0
 IsRefused one message fault =
-    ((options : Options) (log : Log) → ReplyTo (asked_with options one message) log (refusal fault) log)
-    × ((options : Options) → Looks (asked_with options one message) → ⊥)
+    ((options : Options) (log : Log) → StepOn log (asked_with options one message) (refusal fault) log)
+    × ((options : Options) → Looks (Ok (asked_with options one message)) → ⊥)
 
 -- the one message of the call came, and it is answered by this fault
 pub record HasRefused (call : Call) (fault : Fault) : Type 0 where

@@ -4,7 +4,8 @@ use Rattle.scan_base.specs.declared.fault.Fault.{Fault}
 use Rattle.scan_base.specs.declared.fault.Fault.TheVariants.{OutOfMemory}
 use Rattle.scan_base.specs.Reading.{RefusesFirst}
 use Rattle.table_versions.specs.Database.{Put, after}
-use Rattle.table_versions.specs.Log.{Log, added, puts_in, database_of, Begins}
+use Rattle.table_versions.specs.Expiry.{IsExpired}
+use Rattle.table_versions.specs.Log.{Log, added, expired, puts_in, database_of, Begins}
 
 -- the log that the seat has seen, its looks, and the entries that it made
 pub record Seat : Type 0 where
@@ -51,6 +52,23 @@ pub record Puts (moves : Moves) (result : Result (Unit {0}) Fault) (old : Seat) 
   pub next : Log
   pub at : PutsAt result old log put next new
   pub first : RefusesFirst result (after (database_of log) (puts_in log) put)
+  pub moved : moves old log next new
+  pub kept : Begins old.log new.log
+  pub learnt : Begins next new.log
+  pub looks : new.looks ≡ old.looks
+
+-- the mark of an expiry that was done is the last entry that the seat made, and a refused one is none of them
+abbrev pub MarksAt : Result ℕ Fault → Seat → ℕ → Seat → Type 0
+MarksAt (Ok floor) old version new = new.made ≡ old.made ++ expired version ∷ []
+MarksAt (Err fault) old version new = new.made ≡ old.made
+
+-- An expiry of the versions below a number, at the log that it meets. Behind it the seat has seen that log with the mark, and
+-- all that it had seen.
+pub record Expires (moves : Moves) (result : Result ℕ Fault) (old : Seat) (version : ℕ) (new : Seat) : Type 0 where
+  pub log : Log
+  pub next : Log
+  pub at : IsExpired result log version next
+  pub marks : MarksAt result old version new
   pub moved : moves old log next new
   pub kept : Begins old.log new.log
   pub learnt : Begins next new.log

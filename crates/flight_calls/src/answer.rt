@@ -1,6 +1,6 @@
 //! Writing the answer of a call.
 
-ghost use Rattle.std.specs.Prelude.{◌≡◌, [], Result, Ok, OnErr, map};
+ghost use Rattle.std.specs.Prelude.{◌≡◌, [], ◌∷◌, Result, Ok, OnErr, map};
 ghost use Rattle.std.specs.List.{flat_map};
 ghost use Rattle.scan_base.specs.declared.fault.Fault.{Fault as FaultAt};
 ghost use Rattle.grpc_frame.specs.declared.record.Record.TheVariants.{Message};
@@ -10,6 +10,8 @@ ghost use Rattle.grpc_frame.specs.Sending.{Sends};
 ghost use Rattle.endpoint_split.specs.Handle.{HandleAt};
 ghost use Rattle.table_versions.specs.Database.{Database};
 ghost use Rattle.flight_info.specs.Payloads.{FitMessages};
+ghost use Rattle.flight_info.specs.Replies.{whole};
+ghost use Rattle.flight_proto.specs.Expiry.{floor_bytes};
 ghost use Rattle.fetch_stream.specs.Fetches.{FetchAt};
 ghost use Rattle.fetch_stream.specs.Streams.{Opens};
 ghost use Rattle.row_sources.specs.declared.turn.Patience.TheVariants.{Endless};
@@ -23,6 +25,7 @@ use crate::setting::Setting;
 use fetch_stream::{Executor, FetchStream, Opening, Parcel, Payload, Payloads, ReadsPayloads};
 use flight_core::Reply;
 use flight_core::laws::streams_answer;
+use flight_proto::floor_message;
 use grpc_frame::{Outbox, Output};
 use row_sources::{Patience, Turn};
 use scan_base::Fault;
@@ -36,6 +39,8 @@ const LOOKED_ROWS: usize = 1_048_576;
 pub enum Answer {
     /// A reply.
     Whole(Reply),
+    /// The floor behind an expiry. Writing it takes no memory.
+    Floor(u64),
     /// The payloads of a fetch, one at a time, and then a Status. Behind the first one the stream of the others is made.
     Stream(Opening),
 }
@@ -86,6 +91,7 @@ fn send_answer<W: Output, X: Executor>(
 {
     match answer {
         Answer::Whole(reply) => send_reply(writer, outbox, &reply),
+        Answer::Floor(floor) => send_floor(writer, outbox, floor),
         Answer::Stream(opening) => send_fetch(setting, writer, outbox, opening),
     }
 }
@@ -103,6 +109,18 @@ fn send_reply<W: Output>(writer: &mut W, outbox: &mut Outbox, reply: &Reply) -> 
         outbox.send_message(writer, payload.as_slice())?;
     }
     outbox.send_status(writer, reply.fault)
+}
+
+// Sends the floor behind an expiry.
+fn send_floor<W: Output>(writer: &mut W, outbox: &mut Outbox, floor: u64) -> Result<(), Fault>
+    requires failures { CanFail (W.failures writer.old) }
+    ensures bytes { Sends result (W.contents writer.old) (W.contents writer.new)
+        outbox.old outbox.new (answer_bytes (whole (floor_bytes floor ∷ []))) }
+    ensures counted { CountsFailure result (W.failures writer.old) (W.failures writer.new) }
+    ensures kind { FailsByTransport result }
+{
+    outbox.send_message(writer, &floor_message(floor))?;
+    outbox.send_status(writer, None)
 }
 
 // Sends a payload in a Message, piece by piece.

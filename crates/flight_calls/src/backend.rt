@@ -12,10 +12,10 @@ use table_versions::{Put, Snapshot};
 /// The versions of the catalog as one connection sees them.
 pub trait Backend {
     ghost use Rattle.std.specs.Prelude.{◌≡◌, ◌≤◌, ◌<◌, ◌⊎◌, IfOk, IfErr};
-    ghost use Rattle.scan_base.specs.declared.fault.Fault.TheVariants.{OutOfMemory, VersionUnknown};
+    ghost use Rattle.scan_base.specs.declared.fault.Fault.TheVariants.{OutOfMemory, VersionExpired, VersionUnknown};
     ghost use Rattle.table_versions.specs.Stored.{put_of, tables_of};
-    ghost use Rattle.table_versions.specs.Log.{Log, puts_in, database_of, version};
-    ghost use Rattle.flight_calls.specs.Seats.{Seat, Learns, LooksOnce, MayLook, Puts};
+    ghost use Rattle.table_versions.specs.Log.{Log, puts_in, floor_of, database_of, version};
+    ghost use Rattle.flight_calls.specs.Seats.{Seat, Expires, Learns, LooksOnce, MayLook, Puts};
 
     // The log that it has seen, its looks, and the entries that it made.
     ghost seat: { Self → Seat };
@@ -31,6 +31,15 @@ pub trait Backend {
     /// Nothing has changed then.
     fn put(&mut self, alloc: Global, put: Put) -> Result<(), Fault>
         ensures { Puts moves result (seat self.old) (put_of put) (seat self.new) };
+
+    /// Marks the versions below a number as expired, gives the floor behind the mark, and learns of it. It is no look.
+    ///
+    /// # Errors
+    ///
+    /// F18 (`Fault::VersionUnknown`) where the log that it meets has fewer puts, and F21 (`Fault::OutOfMemory`) only where it has as
+    /// many. Nothing has changed then.
+    fn expire(&mut self, alloc: Global, version: u64) -> Result<u64, Fault>
+        ensures { Expires moves result (seat self.old) version (seat self.new) };
 
     /// The newest version. It is one look.
     ///
@@ -48,16 +57,19 @@ pub trait Backend {
     ///
     /// # Errors
     ///
-    /// F18 (`Fault::VersionUnknown`) where the log that is then seen has fewer puts, and F21 (`Fault::OutOfMemory`) where
-    /// memory is refused.
+    /// F18 (`Fault::VersionUnknown`) where the log that is then seen has fewer puts, F19 (`Fault::VersionExpired`) where the number
+    /// is below its floor, and F21 (`Fault::OutOfMemory`) where memory is refused.
     fn at(&mut self, number: u64) -> Result<Snapshot, Fault>
         ensures learns { Learns moves (seat self.old) (seat self.new) }
         ensures ok { IfOk result (λ snapshot. LooksOnce (seat self.old) (seat self.new)
             × (number ≤ puts_in (seat self.new).log) × (snapshot.number ≡ number)
             × (tables_of snapshot.catalog ≡ version (seat self.new).log number)) }
+        ensures kept { IfOk result (λ _. floor_of (seat self.new).log ≤ number) }
         ensures err { IfErr result (λ fault. ((fault ≡ OutOfMemory) × MayLook (seat self.old) (seat self.new))
-            ⊎ ((fault ≡ VersionUnknown) × LooksOnce (seat self.old) (seat self.new)
-            × (puts_in (seat self.new).log < number))) };
+            ⊎ (((fault ≡ VersionUnknown) × LooksOnce (seat self.old) (seat self.new)
+            × (puts_in (seat self.new).log < number))
+            ⊎ ((fault ≡ VersionExpired) × LooksOnce (seat self.old) (seat self.new)
+            × (number ≤ puts_in (seat self.new).log) × (number < floor_of (seat self.new).log)))) };
 
     /// Learns what others have put. It is no look.
     fn learn(&mut self)
@@ -153,6 +165,10 @@ impl Backend for Alone {
 
     fn put(&mut self, alloc: Global, put: Put) -> Result<(), Fault> {
         self.plain.put(alloc, put)
+    }
+
+    fn expire(&mut self, _alloc: Global, version: u64) -> Result<u64, Fault> {
+        self.plain.expire(version)
     }
 
     fn current(&mut self) -> Result<Snapshot, Fault> {

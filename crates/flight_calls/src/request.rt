@@ -1,6 +1,6 @@
 //! What a call asks, while its messages come.
 
-ghost use Rattle.std.specs.Prelude.{◌≡◌, ◌++◌, ◌∷◌, [], ℕ, List, Some, IfSome};
+ghost use Rattle.std.specs.Prelude.{◌≡◌, ◌++◌, ◌∷◌, [], ℕ, List, Some, Ok, IfSome};
 ghost use Rattle.flight_info.specs.Payloads.{Payload};
 ghost use Rattle.flight_calls.specs.declared.request.Method.TheVariants as variant;
 ghost use Rattle.flight_calls.specs.Calls.{Call, method_at, asked_with, asked_by};
@@ -10,9 +10,10 @@ ghost use Rattle.flight_calls.specs.Requests.{IsRefused, Holds};
 use crate::answer::Answer;
 use crate::backend::Backend;
 use crate::setting::Options;
-use crate::step::{fetch_on, info_on, put_on, schema_on};
+use crate::step::{expire_on, fetch_on, info_on, put_on, schema_on};
 use bytes::Bytes;
 use flight_core::{PutReader, Reply};
+use flight_proto::read_expiry;
 use flight_proto::wanted::MAX_REQUEST_LEN;
 use scan_base::Fault;
 use std::alloc::Global;
@@ -95,7 +96,10 @@ fn refusal_of(method: Single, message: &[u8]) -> Option<Fault>
             }
             None
         }
-        Single::DoAction => Some(Fault::UnknownCommand),
+        Single::DoAction => match read_expiry(message) {
+            Ok(_) => None,
+            Err(fault) => Some(fault),
+        },
     }
 }
 
@@ -139,7 +143,7 @@ impl Request {
     }
 
     /// What answers the call, once its End came: a step of the core over the backend, or the stream of a fetch. F4 where
-    /// another method than DoPut has no message, and F5 for any action.
+    /// another method than DoPut has no message.
     pub fn answer<B: Backend>(self, alloc: Global, backend: &mut B, options: Options) -> Answer
         ensures reply { (call : Call) → Holds self call
             → ReactsBy B.moves (asked_by options call) (B.seat backend.old) result (B.seat backend.new) }
@@ -157,7 +161,7 @@ impl Request {
     }
 }
 
-// What answers a call of one message. No action is known (F5).
+// What answers a call of one message.
 fn answer_message<B: Backend>(
     alloc: Global,
     backend: &mut B,
@@ -165,7 +169,7 @@ fn answer_message<B: Backend>(
     message: &[u8],
     options: Options,
 ) -> Answer
-    ensures reply { ReactsBy B.moves (asked_with options method message.now)
+    ensures reply { ReactsBy B.moves (Ok (asked_with options method message.now))
         (B.seat backend.old) result (B.seat backend.new) }
     ensures short { FitsMessages result }
 {
@@ -173,6 +177,6 @@ fn answer_message<B: Backend>(
         Single::DoGet => fetch_on(alloc, backend, message, options.workers),
         Single::GetFlightInfo => { Answer::Whole(info_on(alloc, backend, message, options.parts)) }
         Single::GetSchema => Answer::Whole(schema_on(alloc, backend, message)),
-        Single::DoAction => Answer::Whole(Reply::refusal(alloc, Fault::UnknownCommand)),
+        Single::DoAction => expire_on(alloc, backend, message),
     }
 }

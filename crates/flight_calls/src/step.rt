@@ -1,13 +1,13 @@
 //! Steps of the core over a backend.
 
 ghost use Rattle.std.specs.Prelude.{◌≡◌, ◌≢◌, ◌≤◌, ◌<◌, ◌⊎◌, List, Ok, Err, IfOk, IfErr, IsOk};
-ghost use Rattle.scan_base.specs.declared.fault.Fault.TheVariants.{OutOfMemory, VersionUnknown};
+ghost use Rattle.scan_base.specs.declared.fault.Fault.TheVariants.{OutOfMemory, VersionExpired, VersionUnknown};
 ghost use Rattle.table_versions.specs.Stored.{put_of, tables_of};
 ghost use Rattle.flight_proto.specs.Wanted.{wanted_in};
 ghost use Rattle.flight_info.specs.Infos.{handle_asked, schema_wanted};
 ghost use Rattle.flight_info.specs.Payloads.{Payload, FitMessages};
-ghost use Rattle.flight_core.specs.Asked.{put, schema, fetch};
-ghost use Rattle.table_versions.specs.Log.{puts_in, version};
+ghost use Rattle.flight_core.specs.Asked.{put, schema, fetch, expire};
+ghost use Rattle.table_versions.specs.Log.{puts_in, floor_of, version};
 ghost use Rattle.flight_core.specs.Machine.{OpensIn};
 ghost use Rattle.flight_core.specs.Puts.{put_glance, put_said};
 ghost use Rattle.flight_core.specs.Refusals.{GivesBehind};
@@ -22,7 +22,7 @@ use crate::backend::Backend;
 use fetch_stream::{Opening, read_ticket, version_of};
 use flight_core::put_answer;
 use flight_info::{Reply, answer_schema, answer_wanted};
-use flight_proto::{Wanted, read_wanted};
+use flight_proto::{Wanted, read_expiry, read_wanted};
 use scan_base::Fault;
 use sql_text::MOST_BYTES;
 use std::alloc::Global;
@@ -45,6 +45,21 @@ pub fn put_on<B: Backend>(alloc: Global, backend: &mut B, read: Result<Put, Faul
     match backend.put(alloc, put) {
         Ok(()) => Reply::whole(answer),
         Err(fault) => Reply::refusal(alloc, fault),
+    }
+}
+
+// Answers an expiry. Its answer takes no memory.
+pub fn expire_on<B: Backend>(alloc: Global, backend: &mut B, action: &[u8]) -> Answer
+    ensures reply { ReactsBy B.moves (Ok (expire action.now)) (B.seat backend.old) result (B.seat backend.new) }
+    ensures short { FitsMessages result }
+{
+    let version = match read_expiry(action) {
+        Ok(version) => version,
+        Err(fault) => return Answer::Whole(Reply::refusal(alloc, fault)),
+    };
+    match backend.expire(alloc, version) {
+        Ok(floor) => Answer::Floor(floor),
+        Err(fault) => Answer::Whole(Reply::refusal(alloc, fault)),
     }
 }
 
@@ -89,8 +104,11 @@ fn version_on<B: Backend>(backend: &mut B, number: u64) -> Result<Snapshot, Faul
     ensures looked { result ≢ Err OutOfMemory → (B.seat backend.old).looks < (B.seat backend.new).looks }
     ensures ok { IfOk result (λ snapshot. (number ≤ puts_in (B.seat backend.new).log)
         × (tables_of snapshot.catalog ≡ version (B.seat backend.new).log number)) }
+    ensures kept { IfOk result (λ _. floor_of (B.seat backend.new).log ≤ number) }
     ensures err { IfErr result (λ fault. (fault ≡ OutOfMemory)
-        ⊎ ((fault ≡ VersionUnknown) × (puts_in (B.seat backend.new).log < number))) }
+        ⊎ (((fault ≡ VersionUnknown) × (puts_in (B.seat backend.new).log < number))
+        ⊎ ((fault ≡ VersionExpired) × (number ≤ puts_in (B.seat backend.new).log)
+        × (number < floor_of (B.seat backend.new).log)))) }
 {
     match backend.at(number) {
         Err(Fault::VersionUnknown) => {
