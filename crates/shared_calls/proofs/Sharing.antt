@@ -1,13 +1,14 @@
--- A put over a seat of a cell.
-use Rattle.std.proofs.Common.{◌≡◌, [], ◌∷◌, ◌++◌, Result, Ok, Err, refl, sym, ◌∙◌, append-nil}
+-- A put, and an expiry, over a seat of a cell.
+use Rattle.std.proofs.Common.{◌≡◌, ℕ, [], ◌∷◌, ◌++◌, Result, Ok, Err, refl, sym, ◌∙◌, append-nil}
 use Rattle.scan_base.specs.declared.fault.Fault.{Fault}
 use Rattle.scan_base.specs.Reading.{RefusesFirst}
 use Rattle.table_versions.specs.Database.{Database, Put}
 use Rattle.table_versions.specs.Log.{Log, added, Begins}
+use Rattle.version_cell.specs.Expiries.{CountsExpiry, ExpiresBehind}
 use Rattle.version_cell.specs.Puts.{PutsBehind, after_log}
 use Rattle.version_cell.specs.Seats as cell
-use Rattle.flight_calls.specs.Seats.{Seat, Puts}
-use Rattle.shared_calls.specs.Sharing.{onward}
+use Rattle.flight_calls.specs.Seats.{Seat, Expires, Puts}
+use Rattle.shared_calls.specs.Sharing.{onward, seat_at}
 
 -- the same log begins with all of it
 begins_same : (log same : Log) → same ≡ log → Begins log same
@@ -55,3 +56,27 @@ refused {X} fault seat next old new put behind kept enters log looks new_log new
   learnt = begins_same next.log new.log new_log;
   looks = new_looks ∙ enters ∙ sym looks;
 }
+
+-- an expiry over a seat of a cell
+pub expired_so : (result : Result ℕ Fault) (seat next : cell.Seat) (old new : Seat) (version : ℕ) → ExpiresBehind result seat version next → CountsExpiry result seat version next
+    → Begins seat.log next.log → next.enters ≡ seat.enters → old ≡ seat_at seat → new ≡ seat_at next → Expires onward result old version new
+expired_so (Ok floor) seat next old new version behind counts kept enters old_is new_is = rw (old_is, new_is) (record {
+  log = behind.log;
+  next = next.log;
+  at = behind.answered;
+  marks = counts;
+  moved = (behind.met, refl);
+  kept = kept;
+  learnt = begins_same next.log next.log refl;
+  looks = enters;
+})
+expired_so (Err fault) seat next old new version behind counts kept enters old_is new_is = rw (old_is, new_is) (record {
+  log = behind.log;
+  next = next.log;
+  at = behind.answered;
+  marks = counts;
+  moved = (behind.met, refl);
+  kept = kept;
+  learnt = begins_same next.log next.log refl;
+  looks = enters;
+})

@@ -8,7 +8,7 @@ use Rattle.flight_calls.specs.Seats.{Seat, Moves}
 abbrev pub seat_at : cell.Seat → Seat
 seat_at scanner = record { log = scanner.log; looks = scanner.enters; made = scanner.made }
 
--- Where others put into the log too: a step, also that of a put, goes from a log that goes on from what the seat had seen,
--- and the seat has then seen the log behind it, and no more.
+-- Where others put into the log too: a step, also that of a put or an expiry, goes from a log that goes on from what the seat had
+-- seen, and the seat has then seen the log behind it, and no more.
 abbrev pub onward : Moves
 onward old log after new = Begins old.log log × (new.log ≡ after)

@@ -77,6 +77,11 @@ impl<'a, C: CellName, R: Wait + Drop, H: Wait> Backend for Shared<'a, C, R, H> {
         Ok(())
     }
 
+    fn expire(&mut self, alloc: Global, version: u64) -> Result<u64, Fault> {
+        self.putter
+            .expire(self.rt, alloc, &mut self.scanner, version)
+    }
+
     fn current(&mut self) -> Result<Snapshot, Fault> {
         self.scanner.current()
     }
