@@ -97,8 +97,37 @@ note("calls that are refused whatever the tables are, each before a put")
 for call in WITH_INFOS:
     pipe("", refuse(call.method, call.messages, call.fault), FIRST_PUT)
 pipe("", refuse(b"GetFlightInfo", [bytes(1_048_577), b""], "F4"), refuse(b"DoAction", [b"", b""], "F4"),
-     refuse(b"DoAction", [b""], "F5"), refuse(b"DoAction", [chunk(1, b"scan.expire") + chunk(2, bytes(8))], "F5"), FIRST_PUT)
+     refuse(b"DoAction", [b""], "F5"), refuse(b"DoAction", [chunk(1, b"scan.expire") + chunk(2, bytes(7))], "F4"), FIRST_PUT)
 assert SELECT in PAYLOAD
+
+
+def action(version):
+    return chunk(1, b"scan.expire") + chunk(2, version.to_bytes(8, "big"))
+
+
+def expire(version, floor):
+    return "hex", wire.call(b"DoAction", [action(version)]), f"{DONE}0a08{floor:016x};"
+
+
+def at(version, rows):
+    return query_handle(version, 0, rows, ALL)
+
+
+note("old versions are expired: the floor, and fetches below it, at it and above it; the next put has the next number")
+assert action(2) == b"\x0a\x0bscan.expire\x12\x08" + bytes(7) + b"\x02"
+EXPIRED = (ONE_TO_FIVE, MORE, MORE, expire(2, 2), refuse(b"DoAction", [action(5)], "F18"), expire(1, 2), expire(0, 2),
+           refuse(b"DoGet", [ticket(at(1, 5))], "F19"), fetch(at(2, 6), A, *whole_numbers(1, 2, 3, 4, 5, 6)),
+           refuse(b"DoGet", [ticket(at(4, 8))], "F18"), expire(3, 3), refuse(b"DoGet", [ticket(at(2, 6))], "F19"),
+           fetch(at(3, 7), A, *whole_numbers(1, 2, 3, 4, 5, 6, 6)), MORE, info(PAYLOAD, A, [at(4, 8)]),
+           fetch(at(4, 8), A, *whole_numbers(1, 2, 3, 4, 5, 6, 6, 6)))
+for options in ("", "--workers 2"):
+    pipe(options, *EXPIRED)
+
+note("what is wrong with an action comes before its number, and a version that is not reached before one that is expired")
+pipe("", refuse(b"DoAction", [chunk(1, b"scan.expire")], "F4"), refuse(b"DoAction", [chunk(1, b"scan.Expire") + chunk(2, bytes(7))], "F5"),
+     refuse(b"DoAction", [b"\xff"], "F4"), refuse(b"DoAction", [action(1)], "F18"), expire(0, 0), ONE_TO_FIVE, expire(1, 1),
+     refuse(b"DoGet", [ticket(at(2, 5))], "F18"), refuse(b"DoGet", [ticket(query_handle(0, 2, 1, ALL))], "F19"),
+     refuse(b"DoGet", [ticket(query_handle(1, 2, 1, ALL))], "F17"), fetch(at(1, 5), A, *whole_numbers(1, 2, 3, 4, 5)))
 
 if __name__ == "__main__":
     (PROGRAM / "stdin").write_text("".join(f"{line}\n" for line in LINES))
