@@ -20,6 +20,10 @@ cause_lines cause = fault_line Transport ++ (cause ++ 10 ∷ [])
 abbrev pub count_line : ℕ → List ℕ
 count_line rows = decimal rows ++ codes " rows\n"
 
+-- the number of the oldest version that is not expired
+abbrev pub floor_line : ℕ → List ℕ
+floor_line floor = codes "floor " ++ decimal floor ++ codes "\n"
+
 -- the port that is listened to
 abbrev pub listening_line : ℕ → List ℕ
 listening_line port = codes "listening 127.0.0.1:" ++ decimal port ++ codes "\n"

@@ -4,7 +4,7 @@ ghost use Rattle.std.specs.Prelude.{◌++◌};
 ghost use Rattle.std.specs.Fmt.{decimal};
 ghost use Rattle.grpc_frame.specs.Ends.{CanFail, CountsFailure, FailsByTransport, Writes};
 ghost use Rattle.grpc_frame.specs.Sending.{Sends};
-ghost use Rattle.command_ends.specs.Printing.{count_line, listening_line};
+ghost use Rattle.command_ends.specs.Printing.{count_line, floor_line, listening_line};
 
 use grpc_frame::{Outbox, Output};
 use itoa::Buffer;
@@ -54,6 +54,35 @@ fn send_listening<W: Output>(outbox: &mut Outbox, output: &mut W, port: u16) -> 
 {
     outbox.send_part(output, b"listening 127.0.0.1:")?;
     send_number(outbox, output, u64::from(port), b"\n")
+}
+
+/// Prints the number of the oldest version that is not expired, in a line.
+///
+/// # Errors
+///
+/// `Fault::Transport` where a write failed. It is counted, and a beginning of the line is written.
+pub fn print_floor<W: Output>(alloc: Global, output: &mut W, floor: u64) -> Result<(), Fault>
+    requires { CanFail (W.failures output.old) }
+    ensures bytes { Writes result (W.contents output.old) (W.contents output.new) (floor_line floor) }
+    ensures counted { CountsFailure result (W.failures output.old) (W.failures output.new) }
+    ensures kind { FailsByTransport result }
+{
+    let mut outbox = Outbox::new(alloc);
+    send_floor(&mut outbox, output, floor)?;
+    outbox.flush(output)
+}
+
+// Sends the line of a floor.
+#[tactic(auto, using(grpc_frame::proofs::Sending::sending))]
+fn send_floor<W: Output>(outbox: &mut Outbox, output: &mut W, floor: u64) -> Result<(), Fault>
+    requires { CanFail (W.failures output.old) }
+    ensures bytes { Sends result (W.contents output.old) (W.contents output.new)
+        outbox.old outbox.new (floor_line floor) }
+    ensures counted { CountsFailure result (W.failures output.old) (W.failures output.new) }
+    ensures kind { FailsByTransport result }
+{
+    outbox.send_part(output, b"floor ")?;
+    send_number(outbox, output, floor, b"\n")
 }
 
 // Sends a number in decimal, and what stands behind it.
