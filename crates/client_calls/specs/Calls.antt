@@ -7,7 +7,7 @@ use Rattle.grpc_frame.specs.declared.record.Record.TheVariants.{Open, Message, E
 use Rattle.grpc_frame.specs.Records.{spelling}
 use Rattle.flight_info.specs.Payloads.{Payload}
 use Rattle.client_calls.specs.declared.call.Method.{Method}
-use Rattle.client_calls.specs.declared.call.Method.TheVariants.{DoPut, GetFlightInfo, DoGet}
+use Rattle.client_calls.specs.declared.call.Method.TheVariants.{DoPut, GetFlightInfo, DoGet, DoAction}
 
 -- the service's part of a path
 abbrev pub service : List ℕ
@@ -18,6 +18,7 @@ abbrev pub path_of : Method → List ℕ
 path_of DoPut = service ++ codes "DoPut"
 path_of GetFlightInfo = service ++ codes "GetFlightInfo"
 path_of DoGet = service ++ codes "DoGet"
+path_of DoAction = service ++ codes "DoAction"
 
 -- the records of a call
 abbrev pub call_records : Method → List Payload → List Record

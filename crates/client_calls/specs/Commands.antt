@@ -5,6 +5,7 @@ use Rattle.scan_base.specs.declared.fault.Fault.TheVariants.{BadProto}
 use Rattle.scan_base.specs.declared.put_options.PutMode.{PutMode}
 use Rattle.scan_base.specs.declared.put_options.PutMode.TheVariants.{Create, Append, Replace}
 use Rattle.scan_base.specs.Reading.{◌>>=◌, Gives, GivesUnlessMemory, RefusesFirst}
+use Rattle.flight_proto.specs.Expiry.{floor_said}
 use Rattle.flight_proto.specs.Any.{AnySaid, any_bytes, type_url_of}
 use Rattle.flight_proto.specs.FlightData.{DataSaid, data_bytes}
 use Rattle.flight_proto.specs.FlightDescriptor.{DescriptorSaid}
@@ -71,6 +72,12 @@ count_of message = rows_put_of message >>= rows_counted
 -- reading it gives that count, or its fault: it takes no memory
 abbrev pub ReadsCount : Result ℕ Fault → Payload → Type 0
 ReadsCount result message = Gives (λ (rows : ℕ). rows) result (count_of message)
+
+-- ---- what answers an expiry
+
+-- reading it gives the floor, or its fault: it takes no memory
+abbrev pub ReadsFloor : Result ℕ Fault → Payload → Type 0
+ReadsFloor result message = Gives (λ (floor : ℕ). floor) result (floor_said message)
 
 -- ---- what answers an info
 

@@ -24,6 +24,8 @@ pub enum Method {
     GetFlightInfo,
     /// Fetches rows.
     DoGet,
+    /// Expires old versions.
+    DoAction,
 }
 
 const PUT_PATH: &[u8] = b"/arrow.flight.protocol.FlightService/DoPut";
@@ -31,6 +33,8 @@ const PUT_PATH: &[u8] = b"/arrow.flight.protocol.FlightService/DoPut";
 const INFO_PATH: &[u8] = b"/arrow.flight.protocol.FlightService/GetFlightInfo";
 
 const GET_PATH: &[u8] = b"/arrow.flight.protocol.FlightService/DoGet";
+
+const ACTION_PATH: &[u8] = b"/arrow.flight.protocol.FlightService/DoAction";
 
 // The kind bytes of the records that begin and end a call.
 const OPEN: u8 = 1;
@@ -47,6 +51,7 @@ impl Method {
             Method::DoPut => PUT_PATH,
             Method::GetFlightInfo => INFO_PATH,
             Method::DoGet => GET_PATH,
+            Method::DoAction => ACTION_PATH,
         }
     }
 }
