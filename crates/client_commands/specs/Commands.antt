@@ -1,22 +1,23 @@
 -- What each command of a client does.
-use Rattle.std.specs.Prelude.{◌≡◌, ◌≢◌, ◌⊎◌, ℕ, List, Option, Some, None, Result, Ok, Err, codes}
+use Rattle.std.specs.Prelude.{◌≡◌, ◌≢◌, ◌⊎◌, ℕ, List, [], ◌∷◌, Option, Some, None, Result, Ok, Err, codes}
 use Rattle.std.specs.List.{flat_map}
 use Rattle.scan_base.specs.declared.fault.Fault.{Fault}
 use Rattle.scan_base.specs.declared.fault.Fault.TheVariants.{OutOfMemory, Transport}
+use Rattle.flight_proto.specs.Expiry.{expiry_bytes}
 use Rattle.flight_proto.specs.Wanted.{Wanted, rows_of, tables}
 use Rattle.ipc_stream.specs.declared.message.IpcMessage.{IpcMessage}
 use Rattle.table_versions.specs.Table.{Table}
 use Rattle.row_lines.specs.Lines.{name_line}
-use Rattle.client_calls.specs.declared.call.Method.TheVariants.{DoPut}
+use Rattle.client_calls.specs.declared.call.Method.TheVariants.{DoPut, DoAction}
 use Rattle.client_calls.specs.declared.failure.Failure.{Failure}
 use Rattle.client_calls.specs.declared.failure.Failure.TheVariants.{Found}
 use Rattle.client_calls.specs.declared.putting.Target.{Target}
 use Rattle.client_calls.specs.Answers.{AnswersOne}
-use Rattle.client_calls.specs.Commands.{put_payloads, ReadsCount}
+use Rattle.client_calls.specs.Commands.{put_payloads, ReadsCount, ReadsFloor}
 use Rattle.client_calls.specs.Outcome.{Calls, Line}
 use Rattle.command_line.specs.declared.request.Format.{Format}
 use Rattle.command_ends.specs.Network.{Ends}
-use Rattle.command_ends.specs.Printing.{Said, Prints, cause_lines, count_line, fault_line}
+use Rattle.command_ends.specs.Printing.{Said, Prints, cause_lines, count_line, fault_line, floor_line}
 use Rattle.command_ends.specs.Whole.{Source, ReadsMessages}
 use Rattle.command_ends.specs.declared.exit_status.ExitStatus.{ExitStatus}
 use Rattle.command_ends.specs.declared.exit_status.ExitStatus.TheVariants.{FaultAtThisEnd}
@@ -98,6 +99,13 @@ FetchesNames view (Err failure) old new =
 -- a line for each name
 abbrev pub ListsTables : (Option Ends → Type 0) → ExitStatus → Desk → Desk → Type 0
 ListsTables Gives status old new = Connects Gives (FetchesNames (λ (names : List (List ℕ)). names)) (Tells (flat_map name_line)) status old new
+
+-- ---- expire
+
+-- the versions below a number are expired, and the line of the floor is printed
+abbrev pub Expires : (Option Ends → Type 0) → ℕ → ExitStatus → Desk → Desk → Type 0
+Expires Gives version status old new =
+    Connects Gives (Calls DoAction (expiry_bytes version ∷ []) (AnswersOne ReadsFloor)) (Tells floor_line) status old new
 
 -- ---- put
 

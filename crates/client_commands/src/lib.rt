@@ -6,6 +6,7 @@
 
 mod apart;
 mod connecting;
+pub mod expire;
 mod fetching;
 mod lost;
 mod names;
