@@ -6,7 +6,7 @@ use Rattle.clap.specs.Simple.{App, new_app, with_rule, with_subcommand}
 use Rattle.clap.specs.declared.builder.value_parser.ValueParser.{ValueParser}
 use Rattle.clap.specs.declared.builder.value_parser.ValueParser.TheVariants.{Names}
 use Rattle.command_line.specs.declared.names.TakenNames.{TakenNames}
-use Rattle.command_line.specs.Numbers.{text_rule, number_rule, parts_taken, workers_taken, seats_taken, accept_taken, idle_taken, streams_taken, port_taken}
+use Rattle.command_line.specs.Numbers.{text_rule, number_rule, parts_taken, workers_taken, seats_taken, accept_taken, idle_taken, streams_taken, port_taken, version_taken}
 
 -- ---- options
 
@@ -22,6 +22,9 @@ required_rule rule = record rule { required = true }
 
 abbrev pub port_rule : Rule
 port_rule = required_rule (number_rule (codes "port") port_taken)
+
+abbrev pub version_rule : Rule
+version_rule = required_rule (number_rule (codes "version") version_taken)
 
 abbrev pub table_rule : Rule
 table_rule = required_rule (text_rule (codes "table"))
@@ -104,6 +107,9 @@ query formats =
 abbrev pub tables : App
 tables = with_rule (new_app (codes "tables")) port_rule
 
+abbrev pub expire : App
+expire = with_rule (with_rule (new_app (codes "expire")) port_rule) version_rule
+
 -- the program, which has a version, and its commands, one of which has to be given
 abbrev pub program : Parsers → App
 program parsers =
@@ -111,4 +117,5 @@ program parsers =
     let bare = record named { top = record named.top { has_version = true; subcommand_required = true } } in
     let served = with_subcommand (with_subcommand bare pipe.top) serve.top in
     let putting = with_subcommand served (put parsers.modes parsers.forms).top in
-    with_subcommand (with_subcommand putting (query parsers.formats).top) tables.top
+    let listing = with_subcommand (with_subcommand putting (query parsers.formats).top) tables.top in
+    with_subcommand listing expire.top

@@ -29,6 +29,9 @@ streams_taken = record { least = 1; most = 16; default = 1 }
 abbrev pub port_taken : Numbers
 port_taken = record { least = 0; most = 65535; default = 0 }
 
+abbrev pub version_taken : Numbers
+version_taken = record { least = 0; most = 4294967295; default = 0 }
+
 -- the option `--name`, whose value is a text
 abbrev pub text_rule : Text → Rule
 text_rule name = record (new_rule name) { long = Some name; action = Some Set; value_names = 1 }

@@ -9,7 +9,7 @@ use Rattle.clap.specs.Simple.{subcommand_of}
 use Rattle.scan_base.specs.declared.put_options.PutMode.{PutMode}
 use Rattle.scan_base.specs.declared.put_options.PutMode.TheVariants.{Create, Append, Replace}
 use Rattle.command_line.specs.Line.{Parsers, program}
-use Rattle.command_line.specs.Numbers.{SaysNumber, parts_taken, workers_taken, seats_taken, accept_taken, idle_taken, streams_taken, port_taken}
+use Rattle.command_line.specs.Numbers.{SaysNumber, parts_taken, workers_taken, seats_taken, accept_taken, idle_taken, streams_taken, port_taken, version_taken}
 use Rattle.command_line.specs.declared.number.Numbers.{Numbers}
 use Rattle.command_line.specs.declared.request.Format.{Format}
 use Rattle.command_line.specs.declared.request.Format.TheVariants.{Lines, Arrow, Csv, Table}
@@ -17,7 +17,7 @@ use Rattle.command_line.specs.declared.request.PutForm.{PutForm}
 use Rattle.command_line.specs.declared.request.PutForm.TheVariants.{Arrow as Stream, Csv as Records}
 use Rattle.command_line.specs.declared.request.Serving.{Serving}
 use Rattle.command_line.specs.declared.request.Request.{Request}
-use Rattle.command_line.specs.declared.request.Request.TheVariants.{Pipe, Serve, Put, Query, Tables}
+use Rattle.command_line.specs.declared.request.Request.TheVariants.{Pipe, Serve, Put, Query, Tables, Expire}
 
 -- a number is the one that the options give to this name, and within its range
 abbrev pub IsGiven : List Row → Text → Numbers → ℕ → Type 0
@@ -75,7 +75,7 @@ pub record IsServing (rows : List Row) (serving : Serving) : Type 0 where
 -- refuse those.
 abbrev pub Asks : Text × List Row → Request → Type 0
 Asks (name, rows) (Pipe parts workers) =
-    (name ≢ codes "serve") × (name ≢ codes "put") × (name ≢ codes "query") × (name ≢ codes "tables")
+    (name ≢ codes "serve") × (name ≢ codes "put") × (name ≢ codes "query") × (name ≢ codes "tables") × (name ≢ codes "expire")
     × IsGiven rows (codes "parts") parts_taken parts × IsGiven rows (codes "workers") workers_taken workers
 Asks (name, rows) (Serve serving) = (name ≡ codes "serve") × IsServing rows serving
 Asks (name, rows) (Put port table mode form) =
@@ -86,6 +86,8 @@ Asks (name, rows) (Query port format streams sql) =
     × (format ≡ format_named (text_given rows (codes "format")))
     × IsGiven rows (codes "streams") streams_taken streams × (sql.now ≡ text_given rows (codes "sql"))
 Asks (name, rows) (Tables port) = (name ≡ codes "tables") × IsGiven rows (codes "port") port_taken port
+Asks (name, rows) (Expire port version) =
+    (name ≡ codes "expire") × IsGiven rows (codes "port") port_taken port × IsGiven rows (codes "version") version_taken version
 
 -- the fault of a `put` with options of CSV whose rows are no CSV
 abbrev pub misuse_of : Option (Text × List Row) → Kinds

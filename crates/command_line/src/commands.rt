@@ -7,13 +7,13 @@ ghost use Rattle.clap.specs.Words.{AddsSubcommand, app_of, new_app, rule_of, wit
 ghost use Rattle.command_line.specs.Line as line;
 
 use crate::names::TakenNames;
-use crate::number::{ACCEPT, IDLE, PARTS, PORT, SEATS, STREAMS, WORKERS, number_option};
+use crate::number::{ACCEPT, IDLE, PARTS, PORT, SEATS, STREAMS, VERSION, WORKERS, number_option};
 use clap::builder::ValueParser;
 use clap::{Arg, ArgAction, Command};
 use std::alloc::{AllocError, Global};
 
 // The version that CHANGELOG.md names.
-const VERSION: &str = "0.1.0";
+const PROGRAM_VERSION: &str = "0.1.0";
 
 // The option `--parts`.
 fn parts<'a>(alloc: Global) -> Arg<'a>
@@ -39,6 +39,15 @@ fn port<'a>(alloc: Global) -> Arg<'a>
     ensures local { result.global ≡ false }
 {
     number_option(alloc, "port", PORT, "N", "The port on 127.0.0.1").required(true)
+}
+
+// The option `--version` of `expire`.
+fn version<'a>(alloc: Global) -> Arg<'a>
+    ensures rule { rule_of result ≡ line.version_rule }
+    ensures local { result.global ≡ false }
+{
+    let help = "The oldest version that is kept";
+    number_option(alloc, "version", VERSION, "V", help).required(true)
 }
 
 // The option `--mode`, of these names.
@@ -238,6 +247,20 @@ fn tables<'a>(alloc: Global) -> Result<Command<'a>, AllocError>
     with_one(command(alloc, "tables", about, example), port(alloc))
 }
 
+// `expire`: an expiry of the versions below a number.
+fn expire<'a>(alloc: Global) -> Result<Command<'a>, AllocError>
+    ensures shape { IfOk result (λ command. app_of command ≡ line.expire) }
+    ensures local { IfOk result (λ command. (out-Command command).has_globals ≡ false) }
+{
+    let about = "Expires old versions, and prints the number of the oldest one that is kept";
+    let example = "Example: flightscan expire --port 4711 --version 12";
+    with_two(
+        command(alloc, "expire", about, example),
+        port(alloc),
+        version(alloc),
+    )
+}
+
 // The command with one more below it, if that one could be made.
 fn with_below<'a>(
     command: Command<'a>,
@@ -260,11 +283,12 @@ pub(crate) fn program<'a>(alloc: Global, names: TakenNames<'a>) -> Result<Comman
     let about = "Holds Arrow tables in memory, and scans them by SQL";
     let help = "`flightscan COMMAND --help` shows the options of a command, and an example.";
     let bare = command(alloc, "flightscan", about, help)
-        .version(VERSION)
+        .version(PROGRAM_VERSION)
         .subcommand_required(true);
     let piping = with_below(bare, pipe(alloc))?;
     let serving = with_below(piping, serve(alloc))?;
     let putting = with_below(serving, put(alloc, names.modes, names.forms))?;
     let asking = with_below(putting, query(alloc, names.formats))?;
-    with_below(asking, tables(alloc))
+    let listing = with_below(asking, tables(alloc))?;
+    with_below(listing, expire(alloc))
 }

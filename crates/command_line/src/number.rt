@@ -65,6 +65,13 @@ pub(crate) const PORT: Numbers = Numbers {
     default: 0,
 };
 
+/// The number of a version, which has to be given. Those that a server never has are its own to refuse.
+pub(crate) const VERSION: Numbers = Numbers {
+    least: 0,
+    most: 4_294_967_295,
+    default: 0,
+};
+
 /// The option of this name, whose value is one of the numbers. Help has a word for the value, and a text.
 pub(crate) fn number_option<'a>(
     alloc: Global,

@@ -6,7 +6,7 @@ ghost use Rattle.clap.specs.Words.{first_of, found_of, rows_of};
 ghost use Rattle.command_line.specs.Numbers as taken;
 ghost use Rattle.command_line.specs.Request.{Asks, IsForm, IsGiven, IsServing, flag_given, format_named, is_csv, is_misused, mode_named, text_given};
 
-use crate::number::{ACCEPT, IDLE, PARTS, PORT, SEATS, STREAMS, WORKERS, number_of};
+use crate::number::{ACCEPT, IDLE, PARTS, PORT, SEATS, STREAMS, VERSION, WORKERS, number_of};
 use crate::request::{CsvForm, Format, PutForm, Request, Serving};
 use clap::ArgMatches;
 use scan_base::PutMode;
@@ -133,6 +133,10 @@ pub(crate) fn request_of<'a>(name: &str, matches: &ArgMatches<'a>) -> Request<'a
         },
         "tables" => Request::Tables {
             port: port_of(matches),
+        },
+        "expire" => Request::Expire {
+            port: port_of(matches),
+            version: number_of(matches, "version", VERSION),
         },
         _ => Request::Pipe {
             parts: number_of(matches, "parts", PARTS),

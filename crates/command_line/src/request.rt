@@ -78,4 +78,9 @@ pub enum Request<'a> {
     Tables {
         port: u16,
     },
+    /// Expires the versions below a number, and prints the floor.
+    Expire {
+        port: u16,
+        version: u32,
+    },
 }

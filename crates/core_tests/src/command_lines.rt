@@ -209,11 +209,12 @@ fn told(alloc: Global, request: Request<'_>) -> Result<String, AllocError> {
             format!(in alloc; "query {port} {format} {streams} {sql}")
         }
         Request::Tables { port } => format!(in alloc; "tables {port}"),
+        Request::Expire { port, version } => format!(in alloc; "expire {port} {version}"),
     }
 }
 
 // Command lines, and what they ask for.
-static TAKEN: [(&'static str, &'static str); 14] = [
+static TAKEN: [(&'static str, &'static str); 15] = [
     ("pipe", "pipe 1 1"),
     ("pipe --workers 16 --parts=64", "pipe 64 16"),
     ("serve --port 0", "serve 0 4 0 1 1"),
@@ -249,6 +250,7 @@ static TAKEN: [(&'static str, &'static str); 14] = [
         "query 1 table 1 SELECT",
     ),
     ("tables --port 4711", "tables 4711"),
+    ("expire --version 3 --port 4711", "expire 4711 3"),
 ];
 
 #[test]

@@ -6,6 +6,7 @@ ghost use Rattle.grpc_frame.specs.Ends.{CanFail};
 ghost use Rattle.commands.specs.Words.{HasSeats};
 
 use client_calls::Target;
+use client_commands::expire::expire;
 use client_commands::put::{CsvPutting, Putting, put, put_csv};
 use client_commands::query::{Querying, query};
 use client_commands::tables::tables;
@@ -125,6 +126,10 @@ where
             query(rt, rt.alloc(), &mut network, output, faults, querying)
         }
         Request::Tables { port } => tables(rt.alloc(), &mut network, output, faults, port),
+        Request::Expire { port, version } => {
+            let version = u64::from(version);
+            expire(rt.alloc(), &mut network, output, faults, port, version)
+        }
         request => run_server(rt, request, input, output, faults),
     }
 }

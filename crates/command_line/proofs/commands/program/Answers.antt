@@ -12,7 +12,8 @@ returns-clause-shape c =
     let two = shape_with_below _ _ _ _ _ one c.serve.ensures.shape c.serve.ensures.local c.in_ok-serving.ensures in
     let three = shape_with_below _ _ _ _ _ two c.put.ensures.shape c.put.ensures.local c.in_ok-putting.ensures in
     let four = shape_with_below _ _ _ _ _ three c.query.ensures.shape c.query.ensures.local c.in_ok-asking.ensures in
-    last_shape_with_below _ _ _ _ _ four c.tables.ensures.shape c.tables.ensures.local c.with_below-5.ensures
+    let five = shape_with_below _ _ _ _ _ four c.tables.ensures.shape c.tables.ensures.local c.in_ok-listing.ensures in
+    last_shape_with_below _ _ _ _ _ five c.expire.ensures.shape c.expire.ensures.local c.with_below-6.ensures
 
 pub returns-clause-local : goal.returns-clause-local
 returns-clause-local c =
@@ -22,4 +23,5 @@ returns-clause-local c =
     let two = local_with_below _ _ _ one c.serve.ensures.local c.in_ok-serving.ensures in
     let three = local_with_below _ _ _ two c.put.ensures.local c.in_ok-putting.ensures in
     let four = local_with_below _ _ _ three c.query.ensures.local c.in_ok-asking.ensures in
-    last_local_with_below _ _ _ four c.tables.ensures.local c.with_below-5.ensures
+    let five = local_with_below _ _ _ four c.tables.ensures.local c.in_ok-listing.ensures in
+    last_local_with_below _ _ _ five c.expire.ensures.local c.with_below-6.ensures
