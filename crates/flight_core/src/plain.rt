@@ -117,7 +117,7 @@ impl Plain {
         if number > self.newest() {
             return Err(Fault::VersionUnknown);
         }
-        if number < self.floor {
+        if number < self.floor() {
             return Err(Fault::VersionExpired);
         }
         Ok(self.version(number))
