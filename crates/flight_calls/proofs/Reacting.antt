@@ -9,8 +9,8 @@ use Rattle.flight_proto.specs.Expiry.{expiry_of, floor_bytes}
 use Rattle.flight_info.specs.Payloads.{Payload}
 use Rattle.flight_info.specs.Replies.{ReplyAt, refusal, whole}
 use Rattle.flight_core.specs.Asked.{Asked, put, info, tables, schema, fetch, expire}
-use Rattle.table_versions.specs.Expiry.{IsExpired}
-use Rattle.table_versions.specs.Log.{Log, added, expired, puts_in, database_of, Begins}
+use Rattle.version_log.specs.Expiry.{IsExpired}
+use Rattle.version_log.specs.Log.{Log, added, expired, puts_in, database_of, Begins}
 use Rattle.flight_core.specs.Puts.{put_glance, put_said}
 use Rattle.flight_core.specs.Refusals.{RefusedFor}
 use Rattle.flight_core.specs.Machine.{PutStep}

@@ -10,9 +10,9 @@ use Rattle.flight_proto.specs.Expiry.{expiry_of, floor_bytes}
 use Rattle.flight_proto.specs.Message.{set_fields, spelled}
 use Rattle.proto_wire.specs.Calls.{chunk_entry}
 use Rattle.proto_wire.specs.Writing.{spelling}
-use Rattle.table_versions.specs.Expiry.{IsExpired, RefusesExpiry}
-use Rattle.table_versions.specs.Log.{Log, puts_in, floor_of}
-use Rattle.table_versions.proofs.Logs.{floor_of-expired}
+use Rattle.version_log.specs.Expiry.{IsExpired, RefusesExpiry}
+use Rattle.version_log.specs.Log.{Log, puts_in, floor_of}
+use Rattle.version_log.proofs.Logs.{floor_of-expired}
 use Rattle.flight_info.specs.Payloads.{Payload}
 use Rattle.flight_info.proofs.Sizes.{short_chunk, short_set}
 use Rattle.flight_core.specs.Refusals.{RefusedFor}

@@ -6,12 +6,12 @@ use Rattle.scan_base.specs.declared.fault.Fault.TheVariants.{LimitReached}
 use Rattle.scan_base.specs.Limits.{most_commits}
 use Rattle.scan_base.specs.Reading.{first_fault}
 use Rattle.table_versions.specs.Database.{Database, Put, after, accepted, after_all, database_of, table_at, with_table, table_after, put_faults}
-use Rattle.table_versions.specs.Log as logs
-use Rattle.table_versions.specs.Log.{Log, added, expired, puts_of, puts_in, floor_of}
+use Rattle.version_log.specs.Log as logs
+use Rattle.version_log.specs.Log.{Log, added, expired, puts_of, puts_in, floor_of}
 use Rattle.table_versions.specs.Stored.{VersionAt, tables_of}
 use Rattle.table_versions.proofs.Accepted.{among, unrefused}
 use Rattle.table_versions.proofs.Databases.{logs_grow}
-use Rattle.table_versions.proofs.Logs.{puts_of-added, puts_of-expired, floor_of-added, floor_of-expired}
+use Rattle.version_log.proofs.Logs.{puts_of-added, puts_of-expired, floor_of-added, floor_of-expired}
 use Rattle.flight_core.specs.Versions.{versions_from, versions_of, numbered, AreKept}
 use Rattle.flight_info.proofs.Results.{same_some}
 

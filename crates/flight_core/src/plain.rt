@@ -4,8 +4,8 @@ ghost use Rattle.std.specs.Prelude.{◌≡◌, ◌≢◌, ◌⊎◌, ◌≤◌, 
 ghost use Rattle.scan_base.specs.Reading.{RefusesFirst, first_fault};
 ghost use Rattle.flight_core.specs.Versions.{numbered};
 ghost use Rattle.scan_base.specs.declared.fault.Fault.TheVariants.{OutOfMemory, VersionExpired, VersionUnknown};
-ghost use Rattle.table_versions.specs.Expiry.{IsExpired};
-ghost use Rattle.table_versions.specs.Log.{added, puts_in, floor_of, database_of, version};
+ghost use Rattle.version_log.specs.Expiry.{IsExpired};
+ghost use Rattle.version_log.specs.Log.{added, puts_in, floor_of, database_of, version};
 ghost use Rattle.table_versions.specs.Database.{after, put_faults};
 ghost use Rattle.table_versions.specs.Stored.{put_of, tables_of};
 ghost use Rattle.table_versions.specs.Valid.{IsPut};
@@ -16,7 +16,8 @@ use std::alloc::Global;
 use std::marker::Model;
 use std::sync::Arc;
 use std::{mem, snapshot};
-use table_versions::{CatalogVersion, Entries, Entry, Put, Snapshot, apply, refusal};
+use table_versions::{CatalogVersion, Put, Snapshot, apply, refusal};
+use version_log::{Entries, Entry};
 
 /// The versions that are not expired. Contracts see them as the log.
 pub struct Plain {
@@ -38,7 +39,7 @@ impl Drop for Plain {
 
 impl Model for Plain {
     ghost use Rattle.std.specs.Prelude.{map};
-    ghost use Rattle.table_versions.specs.Log.{Log};
+    ghost use Rattle.version_log.specs.Log.{Log};
     ghost use Rattle.flight_core.specs.Versions.{numbered, AreKept};
 
     ghost Value = { Log };

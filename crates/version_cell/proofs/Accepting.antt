@@ -5,7 +5,7 @@ use Rattle.scan_base.specs.declared.fault.Fault.TheVariants.{LimitReached}
 use Rattle.scan_base.specs.Limits.{most_commits}
 use Rattle.scan_base.specs.Reading.{first_fault, RefusesFirst}
 use Rattle.table_versions.specs.Database.{Database, Put, table_at, with_table, table_after, put_faults}
-use Rattle.table_versions.specs.Log.{Log, puts_in, database_of}
+use Rattle.version_log.specs.Log.{Log, puts_in, database_of}
 use Rattle.table_versions.proofs.Accepted.{among, unrefused}
 use Rattle.version_cell.specs.Puts.{after_log}
 

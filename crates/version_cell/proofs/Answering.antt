@@ -3,7 +3,7 @@ use Rattle.std.proofs.Common.{◌≡◌, ℕ, ap, sym, ◌∙◌, Result, Ok, Er
 use Rattle.scan_base.specs.declared.fault.Fault.{Fault}
 use Rattle.scan_base.specs.Reading.{RefusesFirst}
 use Rattle.table_versions.specs.Database.{Put}
-use Rattle.table_versions.specs.Log.{floor_of}
+use Rattle.version_log.specs.Log.{floor_of}
 use Rattle.version_cell.specs.Expiries.{ExpiresBehind}
 use Rattle.version_cell.specs.Puts.{PutsBehind, after_log}
 use Rattle.version_cell.specs.Seats.{Seat}

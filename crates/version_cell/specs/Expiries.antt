@@ -1,8 +1,8 @@
 -- What an expiry through a seat is answered.
 use Rattle.std.specs.Prelude.{◌≡◌, ℕ, [], ◌∷◌, ◌++◌, Result, Ok, Err}
 use Rattle.scan_base.specs.declared.fault.Fault.{Fault}
-use Rattle.table_versions.specs.Log.{Log, expired, Begins}
-use Rattle.table_versions.specs.Expiry.{IsExpired}
+use Rattle.version_log.specs.Log.{Log, expired, Begins}
+use Rattle.version_log.specs.Expiry.{IsExpired}
 use Rattle.version_cell.specs.Seats.{Seat, MakesNone}
 
 -- It met a log that goes on from all that the seat had seen, and the seat has then seen the log behind it, and no more.

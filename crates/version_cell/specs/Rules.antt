@@ -1,6 +1,6 @@
 -- Inside: the rule of the book, and what its step tells.
 use Rattle.std.specs.Prelude.{ℕ, ◌≡◌, ◌≤◌, ◌==◌, true, List, [], ◌∷◌, ◌++◌, length, IsOk, MatchBool, Option, Some, None}
-use Rattle.table_versions.specs.Log.{Entry, Log, added, expired, puts_in}
+use Rattle.version_log.specs.Log.{Entry, Log, added, expired, puts_in}
 use Rattle.logbook.specs.Pages.{Cell, Step, View, Book, Named}
 use Rattle.version_cell.specs.Puts.{after_log}
 

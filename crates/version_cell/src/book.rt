@@ -1,12 +1,12 @@
 //! The log of a cell, as a history that only grows.
 ghost use Rattle.std.specs.Prelude.{◌≡◌, ◌+◌, ◌<◌, ◌≤◌, ◌^◌, ◌++◌, ◌∷◌, [], length, MatchBool, IfSome};
-ghost use Rattle.table_versions.specs.Log.{puts_in, Begins};
+ghost use Rattle.version_log.specs.Log.{puts_in, Begins};
 ghost use Rattle.version_cell.specs.Rules.{head_of};
 
 use logbook::{Gain, Offer, Plain, Play, Rule, Seen, Start, Word};
 use std::marker::{Brand, Model};
 use std::sync::ledger::Ledger;
-use table_versions::Entry;
+use version_log::Entry;
 
 // How many entries a log may have.
 const MOST_ENTRIES: u64 = 4_611_686_018_427_387_904;

@@ -4,8 +4,8 @@ ghost use Rattle.std.specs.Prelude.{◌≡◌, ◌≢◌, ◌<◌, ◌^◌, ◌+
 ghost use Rattle.std.specs.Arc.{arc_value};
 ghost use Rattle.scan_base.specs.Reading.{RefusesFirst};
 ghost use Rattle.scan_base.specs.declared.fault.Fault.TheVariants.{OutOfMemory};
-ghost use Rattle.table_versions.specs.Expiry.{IsExpired};
-ghost use Rattle.table_versions.specs.Log.{added, puts_in, IsLog};
+ghost use Rattle.version_log.specs.Expiry.{IsExpired};
+ghost use Rattle.version_log.specs.Log.{added, puts_in, IsLog};
 ghost use Rattle.table_versions.specs.Stored.{put_of};
 ghost use Rattle.table_versions.specs.Valid.{IsPut};
 ghost use Rattle.version_cell.specs.Puts.{after_log, IsAnswered};
@@ -21,7 +21,8 @@ use std::alloc::Global;
 use std::marker::{Model, PhantomData};
 use std::sync::{Arc, Wait};
 use std::{snapshot, thread};
-use table_versions::{Entry, Put};
+use table_versions::Put;
+use version_log::Entry;
 use version_index::VersionIndex;
 
 pub(crate) type CellWriter<C> = Writer<Store, Store, Entered, Shown<C>>;
@@ -44,7 +45,7 @@ pub(crate) struct Publisher<C: CellName, R: Wait + Drop> {
 
 impl<C: CellName, R: Wait + Drop> Model for Publisher<C, R> {
     ghost use Rattle.std.specs.Prelude.{◌≡◌, [], IsSome, IfSome};
-    ghost use Rattle.table_versions.specs.Log.{Log, IsLog};
+    ghost use Rattle.version_log.specs.Log.{Log, IsLog};
     ghost use Rattle.version_cell.specs.Rules.{head_of, read_or};
 
     ghost Value = { Log };

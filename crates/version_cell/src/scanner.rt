@@ -2,7 +2,7 @@
 
 ghost use Rattle.std.specs.Prelude.{◌≡◌, ◌+◌, ◌⊎◌, ◌≤◌, ◌<◌, ◌++◌, ◌∷◌, [], length, IfOk, IfErr, IfSome, MatchBool};
 ghost use Rattle.scan_base.specs.declared.fault.Fault.TheVariants.{OutOfMemory, VersionExpired, VersionUnknown};
-ghost use Rattle.table_versions.specs.Log.{puts_in, floor_of, database_of, version, Begins};
+ghost use Rattle.version_log.specs.Log.{puts_in, floor_of, database_of, version, Begins};
 ghost use Rattle.table_versions.specs.Stored.{tables_of};
 ghost use Rattle.version_cell.specs.Seats.{seat, EntersOnce, MakesNone, MayEnter};
 
@@ -16,7 +16,8 @@ use scan_base::Fault;
 use std::marker::Model;
 use std::sync::ledger::Share;
 use std::{mem, snapshot};
-use table_versions::{Entries, Entry, Snapshot};
+use table_versions::Snapshot;
+use version_log::{Entries, Entry};
 
 type CellReader<C> = Reader<Store, Entered, Shown<C>>;
 

@@ -1,8 +1,8 @@
 //! A putter that threads share under one lock.
 
 ghost use Rattle.std.specs.Prelude.{◌≡◌, [], length, IfOk};
-ghost use Rattle.table_versions.specs.Expiry.{IsExpired};
-ghost use Rattle.table_versions.specs.Log.{puts_in, Begins, IsLog};
+ghost use Rattle.version_log.specs.Expiry.{IsExpired};
+ghost use Rattle.version_log.specs.Log.{puts_in, Begins, IsLog};
 ghost use Rattle.table_versions.specs.Stored.{put_of};
 ghost use Rattle.table_versions.specs.Valid.{IsPut};
 ghost use Rattle.version_cell.specs.Expiries.{CountsExpiry, ExpiresBehind};
@@ -20,7 +20,8 @@ use scan_base::Fault;
 use std::alloc::Global;
 use std::sync::{Mutex, Wait};
 use std::thread;
-use table_versions::{Entry, Put};
+use table_versions::Put;
+use version_log::Entry;
 
 // Who publishes, and how many entries were made through all seats. Whenever the lock is free the log has so many: each entry
 // of it was made through a seat, and counted once.

@@ -5,8 +5,8 @@ ghost use Rattle.std.specs.Arc.{arc_value};
 ghost use Rattle.scan_base.specs.Reading.{RefusesFirst};
 ghost use Rattle.scan_base.specs.declared.fault.Fault.TheVariants.{OutOfMemory};
 ghost use Rattle.scan_base.specs.Limits.{most_commits};
-ghost use Rattle.table_versions.specs.Expiry.{RefusesExpiry};
-ghost use Rattle.table_versions.specs.Log.{added, expired, puts_in, floor_of, database_of, version};
+ghost use Rattle.version_log.specs.Expiry.{RefusesExpiry};
+ghost use Rattle.version_log.specs.Log.{added, expired, puts_in, floor_of, database_of, version};
 ghost use Rattle.table_versions.specs.Stored.{put_of, tables_of};
 ghost use Rattle.table_versions.specs.Valid.{IsPut};
 ghost use Rattle.version_cell.specs.Puts.{after_log};
@@ -21,7 +21,8 @@ use std::alloc::{AllocError, Global};
 use std::collections::LinkedList;
 use std::marker::PhantomData;
 use std::sync::Arc;
-use table_versions::{Entry, Put, Snapshot, apply};
+use table_versions::{Put, Snapshot, apply};
+use version_log::Entry;
 use version_index::VersionIndex;
 
 // All versions of a log, but for those that are expired.

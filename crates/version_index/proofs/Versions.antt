@@ -8,10 +8,10 @@ use Rattle.std.proofs.lemmas.Option.{slice_get-map}
 use Rattle.scan_base.specs.Limits.{most_commits}
 use Rattle.table_versions.specs.Database.{Database, Put, after, accepted, after_all}
 use Rattle.table_versions.specs.Database as puts
-use Rattle.table_versions.specs.Log.{Log, added, expired, puts_of, puts_in, floor_of, database_of, version}
+use Rattle.version_log.specs.Log.{Log, added, expired, puts_of, puts_in, floor_of, database_of, version}
 use Rattle.table_versions.specs.Stored.{CatalogAt, VersionAt, tables_of}
 use Rattle.table_versions.proofs.Databases.{logs_grow}
-use Rattle.table_versions.proofs.Logs.{puts_of-added, puts_of-expired, floor_of-added, floor_of-expired}
+use Rattle.version_log.proofs.Logs.{puts_of-added, puts_of-expired, floor_of-added, floor_of-expired}
 use Rattle.version_index.specs.Index.{IndexAt, index_at}
 use Rattle.version_index.specs.Versions.{versions_from, versions_of, IsIndexOf}
 use Rattle.version_index.proofs.Dropping.{slice_get-drop}

@@ -1,7 +1,7 @@
 -- Inside: the versions of a log, and those that an index has.
 use Rattle.std.specs.Prelude.{◌≡◌, ℕ, ◌+◌, List, [], ◌∷◌, drop, map}
 use Rattle.table_versions.specs.Database.{Database, Put, after, accepted}
-use Rattle.table_versions.specs.Log.{Log, puts_of, floor_of}
+use Rattle.version_log.specs.Log.{Log, puts_of, floor_of}
 use Rattle.table_versions.specs.Stored.{tables_of}
 use Rattle.version_index.specs.Index.{IndexAt}
 

@@ -1,5 +1,5 @@
 use Rattle.std.proofs.Common.{refl, rules}
-use Rattle.table_versions.proofs.Logs.{puts_of-expired}
+use Rattle.version_log.proofs.Logs.{puts_of-expired}
 use Rattle.flight_core.proofs.Expiring.{answered_before, unread_expiry, tired_expiry, refused_expiry}
 use Rattle.flight_core.proofs.machine.step_expiry.Goals as goal
 

@@ -1,6 +1,6 @@
 use Rattle.std.proofs.Common.{◌≡◌, ◌⊎◌, sym, rules, subst}
-use Rattle.table_versions.specs.Log.{Log, Begins}
-use Rattle.table_versions.specs.Expiry.{IsExpired}
+use Rattle.version_log.specs.Log.{Log, Begins}
+use Rattle.version_log.specs.Expiry.{IsExpired}
 use Rattle.version_cell.proofs.Fronts.{goes_on_so, learns_all}
 use Rattle.version_cell.proofs.shared.expire_and_learn.Given as given
 use Rattle.version_cell.proofs.shared.expire_and_learn.Goals as goal

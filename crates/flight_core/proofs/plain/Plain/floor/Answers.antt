@@ -1,5 +1,5 @@
 use Rattle.std.proofs.Common.{◌∙◌, ap}
-use Rattle.table_versions.specs.Log.{floor_of}
+use Rattle.version_log.specs.Log.{floor_of}
 use Rattle.flight_core.proofs.plain.Plain.floor.Goals as goal
 
 pub returns : goal.returns

@@ -3,7 +3,7 @@ use Rattle.std.specs.List.{slice_get}
 use Rattle.std.specs.Option.{option_map}
 use Rattle.std.proofs.lemmas.List.{length-map}
 use Rattle.std.proofs.lemmas.Option.{slice_get-map, slice_get_read}
-use Rattle.table_versions.specs.Log.{Log, puts_in, floor_of, version}
+use Rattle.version_log.specs.Log.{Log, puts_in, floor_of, version}
 use Rattle.flight_core.specs.Versions.{numbered}
 use Rattle.flight_core.proofs.Versions.{kept_length, kept_at}
 use Rattle.flight_core.proofs.plain.Plain.version.Goals as goal

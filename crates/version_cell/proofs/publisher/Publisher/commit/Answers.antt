@@ -1,5 +1,5 @@
 use Rattle.std.proofs.Common.{◌≡◌, ◌++◌, ◌∷◌, [], refl, sym, ap, ◌∙◌, subst}
-use Rattle.table_versions.specs.Log.{Log, IsLog}
+use Rattle.version_log.specs.Log.{Log, IsLog}
 use Rattle.version_cell.proofs.Entries.{is_log_behind, read_is_log}
 use Rattle.version_cell.proofs.publisher.Publisher.commit.Goals as goal
 

@@ -1,6 +1,6 @@
 use Rattle.std.proofs.Common.{◌≡◌, ◌≤◌, arith, Ok}
 use Rattle.std.proofs.lemmas.Result.{err_from_is_err_and}
-use Rattle.table_versions.specs.Log.{puts_in, floor_of}
+use Rattle.version_log.specs.Log.{puts_in, floor_of}
 use Rattle.table_versions.specs.Stored.{put_of, tables_of}
 use Rattle.version_index.specs.Versions.{IsIndexOf}
 use Rattle.version_index.proofs.Versions.{has_room, kept_more}

@@ -1,6 +1,6 @@
 use Rattle.std.proofs.Common.{rules, arith, ◌≡◌, ◌≤◌}
 use Rattle.std.specs.Arc.{arc_value}
-use Rattle.table_versions.specs.Log.{puts_in, floor_of}
+use Rattle.version_log.specs.Log.{puts_in, floor_of}
 use Rattle.version_index.specs.Versions.{IsIndexOf}
 use Rattle.version_index.proofs.Versions.{is_there, kept_cut, kept_so}
 use Rattle.version_cell.proofs.shown.Store.without.Goals as goal

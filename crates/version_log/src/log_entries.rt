@@ -1,10 +1,10 @@
 //! Entries of a log, as contracts see them.
 
 ghost use Rattle.std.specs.Prelude.{◌≡◌, ◌++◌, ◌∷◌, [], MatchBool};
-ghost use Rattle.table_versions.specs.Log.{added, expired, puts_in};
+ghost use Rattle.version_log.specs.Log.{added, expired, puts_in};
 ghost use Rattle.table_versions.specs.Stored.{put_of};
 
-use crate::put::Put;
+use table_versions::Put;
 use std::marker::Model;
 use std::snapshot::Snapshot;
 
@@ -22,8 +22,8 @@ pub struct Entry {
 }
 
 impl Model for Entry {
-    ghost use Rattle.table_versions.specs.Log.{Entry};
-    ghost use Rattle.table_versions.specs.Entries.{entry_of};
+    ghost use Rattle.version_log.specs.Log.{Entry};
+    ghost use Rattle.version_log.specs.Entries.{entry_of};
 
     ghost Value = { Entry };
 
@@ -65,7 +65,7 @@ pub struct Entries {
 }
 
 impl Model for Entries {
-    ghost use Rattle.table_versions.specs.Entries.{EntriesAt, one_longer};
+    ghost use Rattle.version_log.specs.Entries.{EntriesAt, one_longer};
 
     ghost Value = { EntriesAt };
 

@@ -2,7 +2,7 @@
 use Rattle.std.specs.Prelude.{◌≡◌, ◌⊎◌, ◌<◌, ◌≤◌, ℕ, [], ◌∷◌, ◌++◌, Result, Ok, Err}
 use Rattle.scan_base.specs.declared.fault.Fault.{Fault}
 use Rattle.scan_base.specs.declared.fault.Fault.TheVariants.{OutOfMemory, VersionUnknown}
-use Rattle.table_versions.specs.Log.{Log, expired, puts_in, floor_of}
+use Rattle.version_log.specs.Log.{Log, expired, puts_in, floor_of}
 
 -- why an expiry of the versions below a number is refused: the log does not reach that number, or memory was refused
 abbrev pub RefusesExpiry : Fault → Log → ℕ → Type 0

@@ -1,8 +1,8 @@
 -- Inside: entries of a log, as the code has them.
 use Rattle.std.specs.Prelude.{ℕ, ◌+◌, [], ◌∷◌, ◌++◌, Option, Some, None}
-use Rattle.table_versions.specs.declared.log_entries.Deed.{Deed}
-use Rattle.table_versions.specs.declared.log_entries.Deed.TheVariants.{Added, Expired}
-use Rattle.table_versions.specs.Log.{Entry, Log, added, expired}
+use Rattle.version_log.specs.declared.log_entries.Deed.{Deed}
+use Rattle.version_log.specs.declared.log_entries.Deed.TheVariants.{Added, Expired}
+use Rattle.version_log.specs.Log.{Entry, Log, added, expired}
 use Rattle.table_versions.specs.Stored.{put_of}
 
 -- what was done, as the log has it

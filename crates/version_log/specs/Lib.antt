@@ -1,0 +1,3 @@
+pub mod Log
+pub mod Expiry
+pub mod Entries

@@ -1,0 +1,6 @@
+//! The log of a catalog: what was accepted and what was expired, in order.
+#![tactic(auto)]
+
+pub mod log_entries;
+
+pub use crate::log_entries::{Entries, Entry};
