@@ -1,5 +1,5 @@
 -- What stands at a place of a list.
-use Rattle.std.proofs.Common.{◌≡◌, ℕ, zero, suc, ◌+◌, ◌<◌, Bool, true, List, [], ◌∷◌, ◌++◌, length, Some, refl, sym, ap, ◌∙◌, arith, slice_get, get_or, map, option_map}
+use Rattle.std.proofs.Common.{◌≡◌, ℕ, zero, suc, ◌+◌, ◌-◌, ◌<◌, Bool, true, List, [], ◌∷◌, ◌++◌, length, take, drop, Some, Result, Ok, Err, IfOk, refl, sym, ap, ◌∙◌, arith, slice_get, get_or, map, option_map}
 use Rattle.std.specs.List.{list_all}
 use Rattle.std.proofs.lemmas.Option.{slice_get-map, slice_get_read}
 use Rattle.std.proofs.lemmas.Bool.{and_parts}
@@ -29,3 +29,18 @@ pub handle_at : {A X : Type 0} (view : A → X) (handles : List A) (p n : ℕ) (
     handle ≡ get_or handles p handle → slice_get (map view handles) p ≡ Some (view handle)
 handle_at view handles p n handle long small at =
     slice_get-map view handles p ∙ ap (option_map view) (slice_get_read handles n p handle long small at)
+
+take_whole : {X : Type 0} (xs : List X) → take (length xs) xs ≡ xs
+take_whole [] = refl
+take_whole (x ∷ xs) = ap (λ l. x ∷ l) (take_whole xs)
+
+-- a slice from a place to the end, seen by a view
+pub slice-rest : {A X : Type 0} (view : A → X) (k : ℕ) (xs : List A) → map view (take (length xs - k) (drop k xs)) ≡ drop k (map view xs)
+slice-rest view zero xs = let e : length xs - 0 ≡ length xs = omega arith in rw e (ap (map view) (take_whole xs))
+slice-rest view (suc k) [] = let e : 0 - suc k ≡ 0 = omega arith in rw e refl
+slice-rest view (suc k) (x ∷ xs) = let e : suc (length xs) - suc k ≡ length xs - k = omega arith in rw e (slice-rest view k xs)
+
+-- the list that a call gave, under another name
+pub ok_same : {A E X : Type 0} (seen : A → List X) (result : Result A E) (xs ys : List X) → xs ≡ ys → IfOk result (λ a. seen a ≡ xs) → IfOk result (λ a. seen a ≡ ys)
+ok_same seen (Ok a) xs ys same is = is ∙ same
+ok_same seen (Err e) xs ys same is = tt

@@ -1,7 +1,9 @@
 -- Which item of the pages a number names.
-use Rattle.std.proofs.Common.{◌≡◌, ℕ, zero, suc, ◌+◌, ◌*◌, ◌<◌, true, List, [], ◌∷◌, length, Some, refl, ap, ◌∙◌, append_assoc, length-append, arith, rules, slice_get}
+use Rattle.std.proofs.Common.{◌≡◌, ℕ, zero, suc, ◌+◌, ◌*◌, ◌<◌, true, List, [], ◌∷◌, ◌++◌, length, drop, Some, refl, sym, ap, ◌∙◌, append_assoc, length-append, arith, rules, slice_get}
 use Rattle.std.specs.List.{flat_map, list_all}
 use Rattle.std.proofs.lemmas.Bool.{and_parts}
+use Rattle.std.proofs.lemmas.List.{drop-append-le}
+use Rattle.std.proofs.Math.Seq.{drop-append-add}
 use Rattle.shared_pages.specs.Pages.{joined, is_full}
 use Rattle.shared_pages.proofs.Lists.{slice_get-append_left, slice_get-append_right, all_at}
 
@@ -47,3 +49,34 @@ in_last full last i r h e =
 pub full_at : {X : Type 0} (full : List (List X)) (page : List X) (p : ℕ) → list_all is_full full ≡ true →
     slice_get full p ≡ Some page → length page ≡ 256
 full_at full page p h at = full_length page (all_at is_full full page p h at)
+
+-- what stands from a number on that names an item of a full page: the rest of that page, and what comes behind it
+pub from_page : {X : Type 0} (full : List (List X)) (last page : List X) (p r i : ℕ) → list_all is_full full ≡ true →
+    slice_get full p ≡ Some page → r < 256 → i ≡ p * 256 + r → drop i (joined full last) ≡ drop r page ++ joined (drop (suc p) full) last
+from_page [] last page p r i h at small e = cc
+from_page (first ∷ pages) last page zero r i h at small e =
+    let parts = and_parts (is_full first) (list_all is_full pages) h in
+    let same : first ≡ page = cc in
+    let long = full_length first parts.0 in
+    let here : i ≡ r = omega (arith, e) in
+    rw (here, append_assoc first (flat_map (λ page. page) pages) last)
+    (drop-append-le r first (joined pages last) (omega (arith, long, small)) ∙ ap (λ page. drop r page ++ joined pages last) same)
+from_page (first ∷ pages) last page (suc p) r i h at small e =
+    let parts = and_parts (is_full first) (list_all is_full pages) h in
+    let long = full_length first parts.0 in
+    let place : i ≡ length first + (p * 256 + r) = omega (arith, e, long) in
+    rw (place, append_assoc first (flat_map (λ page. page) pages) last)
+    (drop-append-add first (joined pages last) (p * 256 + r) ∙ from_page pages last page p r (p * 256 + r) parts.1 at small refl)
+
+-- what stands from a number on that is past the full pages
+pub from_last : {X : Type 0} (full : List (List X)) (last : List X) (i r : ℕ) → list_all is_full full ≡ true →
+    i ≡ length full * 256 + r → drop i (joined full last) ≡ drop r last
+from_last full last i r h e =
+    let place : i ≡ length (flat_map (λ page. page) full) + r = omega (arith, e, length-full full h) in
+    rw place (drop-append-add (flat_map (λ page. page) full) last r)
+
+-- pages behind full ones are full
+pub full_behind : {X : Type 0} (n : ℕ) (full : List (List X)) → list_all is_full full ≡ true → list_all is_full (drop n full) ≡ true
+full_behind zero full h = h
+full_behind (suc n) [] h = h
+full_behind (suc n) (page ∷ pages) h = full_behind n pages (and_parts (is_full page) (list_all is_full pages) h).1

@@ -1,6 +1,6 @@
 //! Handles that share what stands behind them.
 
-ghost use Rattle.std.specs.Prelude.{◌≡◌, ◌++◌, map, IfOk};
+ghost use Rattle.std.specs.Prelude.{◌≡◌, ◌≤◌, ◌++◌, length, drop, map, IfOk};
 ghost use Rattle.std.specs.Arc.{arc_value};
 
 use std::alloc::{AllocError, Global};
@@ -19,6 +19,23 @@ pub fn shared<T: Drop>(
     ensures { IfOk result (λ all. map arc_value all.items ≡ map arc_value handles.now) }
 {
     extended(Vec::with_capacity(alloc, room)?, handles)
+}
+
+/// The handles from a place on, once more.
+///
+/// # Errors
+///
+/// `AllocError` where memory is refused.
+pub fn shared_from<T: Drop>(
+    alloc: Global,
+    handles: &[Arc<T>],
+    first: usize,
+) -> Result<Vec<Arc<T>>, AllocError>
+    requires { first ≤ length handles.now }
+    ensures { IfOk result (λ rest. map arc_value rest.items ≡ drop first (map arc_value handles.now)) }
+{
+    let rest = &handles[first..];
+    shared(alloc, rest, rest.len())
 }
 
 /// The list with the same handles once more at its end.

@@ -1,9 +1,9 @@
 //! Lists in pages of 256 handles.
 
-ghost use Rattle.std.specs.Prelude.{◌≡◌, ◌<◌, ◌^◌, ◌∷◌, ◌++◌, [], Some, length, IfOk, slice_get};
+ghost use Rattle.std.specs.Prelude.{◌≡◌, ◌<◌, ◌≤◌, ◌^◌, ◌∷◌, ◌++◌, [], Some, length, drop, map, IfOk, slice_get};
 ghost use Rattle.std.specs.Arc.{arc_value};
 
-use crate::handles::shared;
+use crate::handles::{shared, shared_from};
 use std::alloc::{AllocError, Global};
 use std::marker::Model;
 use std::sync::Arc;
@@ -58,6 +58,14 @@ impl<T: Drop> Page<T> {
         Ok(Page {
             handles: shared(alloc, self.handles.as_slice(), self.handles.len() + 1)?,
         })
+    }
+
+    // The handles from a place on, once more.
+    fn share_from(&self, alloc: Global, first: usize) -> Result<Vec<Arc<T>>, AllocError>
+        requires { first ≤ length self.now }
+        ensures { IfOk result (λ rest. map arc_value rest.items ≡ drop first self.now) }
+    {
+        shared_from(alloc, self.handles.as_slice(), first)
     }
 
     // The page with one item more at its end.
@@ -141,6 +149,31 @@ impl<T: Drop> Pages<T> {
         let full = shared(alloc, self.full.as_slice(), self.full.len() + 1)?;
         let last = self.last.share(alloc)?;
         Ok(Pages { full, last })
+    }
+
+    /// The items from a place on, once more: the handles of those that stand in that place's page, and the pages behind it.
+    /// It copies at most 256 handles of them, one for each full page behind, and those of the last.
+    ///
+    /// # Errors
+    ///
+    /// `AllocError` where memory is refused.
+    pub fn share_from(
+        &self,
+        alloc: Global,
+        first: usize,
+    ) -> Result<(Vec<Arc<T>>, Pages<T>), AllocError>
+        requires { first ≤ length self.now }
+        ensures { IfOk result (λ rest. map arc_value rest.0.items ++ rest.1 ≡ drop first self.now) }
+    {
+        let page = first / PAGE_SIZE;
+        if page < self.full.len() {
+            let handles = self.full[page].share_from(alloc, first % PAGE_SIZE)?;
+            let full = shared_from(alloc, self.full.as_slice(), page + 1)?;
+            let last = self.last.share(alloc)?;
+            return Ok((handles, Pages { full, last }));
+        }
+        let handles = self.last.share_from(alloc, first % PAGE_SIZE)?;
+        Ok((handles, Pages::new(alloc)))
     }
 
     /// The list with one item more at its end.
