@@ -9,7 +9,7 @@ use Rattle.atomic_table.specs.Seated.{TableId}
 use Rattle.scan_base.specs.declared.fault.Fault.{Fault}
 use Rattle.flight_core.proofs.Running.{begins_on}
 use Rattle.flight_core.specs.Headline.{Pairwise}
-use Rattle.table_versions.specs.Log.{Log, IsLog, Begins}
+use Rattle.version_log.specs.Log.{Log, IsLog, Begins}
 use Rattle.flight_calls.specs.declared.setting.Options.{Options}
 use Rattle.version_cell.specs.Seats as cell
 use Rattle.shared_calls.specs.Sharing.{seat_at}

@@ -9,8 +9,8 @@ use Rattle.flight_info.proofs.Results.{same_some}
 use Rattle.flight_info.specs.Replies.{ReplyAt, whole}
 use Rattle.flight_core.specs.Asked.{Asked, fetch}
 use Rattle.flight_core.specs.Headline.{Joined, Pairwise}
-use Rattle.table_versions.specs.Log.{Log, puts_of, puts_in, Begins}
-use Rattle.table_versions.proofs.Logs.{begun_puts}
+use Rattle.version_log.specs.Log.{Log, puts_of, puts_in, Begins}
+use Rattle.version_log.proofs.Logs.{begun_puts}
 use Rattle.flight_core.proofs.Running.{begins_on, begins_same}
 use Rattle.flight_calls.specs.declared.setting.Options.{Options}
 use Rattle.flight_calls.specs.Seats.{Moves}

@@ -3,7 +3,7 @@ use Rattle.std.specs.Prelude.{◌≡◌, ◌⊎◌, ◌≤◌, ℕ, zero, suc, �
 use Rattle.scan_base.specs.declared.fault.Fault.{Fault}
 use Rattle.scan_base.specs.declared.fault.Fault.TheVariants.{Transport}
 use Rattle.flight_core.specs.Headline.{Pairwise}
-use Rattle.table_versions.specs.Log.{Log, IsLog, Begins}
+use Rattle.version_log.specs.Log.{Log, IsLog, Begins}
 use Rattle.flight_calls.specs.declared.setting.Options.{Options}
 use Rattle.flight_calls.specs.Seats.{Moves, Seat}
 use Rattle.flight_calls.specs.Owed.{Connection, Serves, connection_of}

@@ -8,7 +8,7 @@ use Rattle.table_versions.specs.Table.{Table}
 use Rattle.flight_proto.specs.Wanted.{Wanted}
 use Rattle.flight_info.specs.Meant as meant
 use Rattle.flight_core.specs.Headline.{Pairwise}
-use Rattle.table_versions.specs.Log.{Log, database_of}
+use Rattle.version_log.specs.Log.{Log, database_of}
 use Rattle.flight_calls.specs.declared.setting.Options.{Options}
 use Rattle.flight_calls.specs.Joining.{FetchServed, InfoServed}
 use Rattle.flight_calls.specs.Owed.{Connection}

@@ -1,8 +1,7 @@
--- What a fetch shows, and what its handle answers.
-use Rattle.std.specs.Prelude.{◌≡◌, ◌≤◌, ◌<◌, ◌⊎◌, ◌&&◌, ℕ, Bool, true, nat_le, All, List, [], ◌∷◌, length, map, take, Option, Some, None, Result, Ok}
+-- What a handle shows by itself, and what it answers.
+use Rattle.std.specs.Prelude.{◌≡◌, ◌≤◌, ◌<◌, ◌⊎◌, ◌&&◌, ℕ, Bool, true, nat_le, All, List, [], ◌∷◌, length, map, take, Option, Some, None}
 use Rattle.scan_base.specs.declared.fault.Fault.{Fault}
-use Rattle.scan_base.specs.declared.fault.Fault.TheVariants.{BadTicket, VersionUnknown, ResultTooLarge, OutOfMemory}
-use Rattle.scan_base.specs.Reading.{◌>>=◌, demand}
+use Rattle.scan_base.specs.declared.fault.Fault.TheVariants.{BadTicket, ResultTooLarge, OutOfMemory}
 use Rattle.scan_base.specs.Limits.{most_query_bytes, most_answer_rows}
 use Rattle.arrow_schema.specs.declared.schema.Schema.{Schema}
 use Rattle.endpoint_split.specs.Handle.{HandleAt, Query, Tables}
@@ -11,7 +10,6 @@ use Rattle.ipc_batch.specs.Dressed.{Dressing, AreDressed}
 use Rattle.table_versions.specs.Table.{Row, Table}
 use Rattle.table_versions.specs.Database.{Database}
 use Rattle.flight_info.specs.Forms.{IsPlain}
-use Rattle.flight_info.specs.Infos.{handle_asked}
 use Rattle.flight_info.specs.Meant.{Meant}
 use Rattle.flight_info.specs.Payloads.{Payload, message_in, PayloadsSay}
 use Rattle.flight_info.specs.Tables.{tables_listed}
@@ -34,15 +32,6 @@ is_ordered (Tables number) = true
 -- whether a handle may mean something, as far as it shows by itself
 abbrev pub may_mean : HandleAt → Bool
 may_mean handle = is_short handle && is_ordered handle
-
--- What a fetch shows before any memory is taken, where so many puts were accepted: its handle, whose version was reached,
--- whose text is short enough, and whose range is in order. The first fault in this order.
-abbrev pub handle_shown : ℕ → Payload → Result HandleAt Fault
-handle_shown accepted ticket = do
-  handle ← handle_asked ticket
-  _ ← demand (nat_le (version_of handle) accepted) VersionUnknown
-  _ ← demand (may_mean handle) BadTicket
-  Ok handle
 
 -- what a handle means
 abbrev pub HandleMeans : Database → HandleAt → Table → Type 0

@@ -10,7 +10,7 @@ use Rattle.flight_proto.specs.Wanted.{Wanted, wanted_in}
 use Rattle.flight_core.specs.Asked.{info, schema}
 use Rattle.flight_info.specs.Replies.{refusal}
 use Rattle.flight_info.specs.Infos.{only_rows, short_enough, rows_wanted, schema_wanted, InfoAt, SchemaAt}
-use Rattle.table_versions.specs.Log.{Log, database_of, puts_in}
+use Rattle.version_log.specs.Log.{Log, database_of, puts_in}
 use Rattle.flight_core.specs.Machine.{StepOn}
 use Rattle.flight_info.specs.Payloads.{Payload}
 use Rattle.flight_calls.specs.declared.setting.Options.{Options}

@@ -6,10 +6,11 @@ use Rattle.endpoint_split.specs.Handle.{HandleAt}
 use Rattle.table_versions.specs.Database.{Database}
 use Rattle.flight_info.specs.Payloads.{Payload}
 use Rattle.flight_info.specs.Replies.{ReplyAt}
-use Rattle.fetch_stream.specs.Fetches.{version_of, handle_shown}
+use Rattle.flight_core.specs.Shown.{handle_shown}
+use Rattle.fetch_stream.specs.Fetches.{version_of}
 use Rattle.fetch_stream.specs.Streams.{StreamAt, Opens}
 use Rattle.flight_core.specs.Asked.{Asked}
-use Rattle.table_versions.specs.Log.{Log, puts_in, version}
+use Rattle.version_log.specs.Log.{Log, puts_in, version}
 use Rattle.flight_core.specs.Machine.{FetchBy, FetchIn, OpensBy, OpensIn}
 use Rattle.flight_calls.specs.declared.answer.Answer.TheVariants.{Stream}
 use Rattle.flight_calls.specs.Calls.{ReplyTo}

@@ -8,7 +8,7 @@ use Rattle.flight_info.proofs.Results.{same_some}
 use Rattle.flight_info.specs.Replies.{ReplyAt, whole}
 use Rattle.flight_core.specs.Asked.{Asked, put, info, tables, schema, fetch}
 use Rattle.flight_core.specs.Headline.{Saw, FetchedAt, Joined, Pairwise}
-use Rattle.table_versions.specs.Log.{Log, Begins}
+use Rattle.version_log.specs.Log.{Log, Begins}
 use Rattle.flight_core.specs.Machine.{StepOn}
 use Rattle.flight_core.proofs.Running.{begins_on, begins_same, step_grows, info_right}
 use Rattle.flight_calls.specs.declared.setting.Options.{Options}

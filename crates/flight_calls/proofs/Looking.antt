@@ -11,7 +11,7 @@ use Rattle.flight_info.specs.Payloads.{Payload}
 use Rattle.flight_info.specs.Replies.{ReplyAt, refusal}
 use Rattle.fetch_stream.specs.Streams.{StreamAt}
 use Rattle.flight_core.specs.Asked.{schema, fetch}
-use Rattle.table_versions.specs.Log.{Log, database_of, puts_in}
+use Rattle.version_log.specs.Log.{Log, database_of, puts_in}
 use Rattle.flight_core.specs.Machine.{StepOn, OpensIn}
 use Rattle.flight_calls.specs.Calls.{info_asked}
 use Rattle.flight_calls.specs.declared.answer.Answer.TheVariants.{Whole}

@@ -5,7 +5,7 @@ use Rattle.scan_base.specs.declared.fault.Fault.{Fault}
 use Rattle.flight_info.specs.Payloads.{Payload}
 use Rattle.flight_info.specs.Replies.{ReplyAt}
 use Rattle.flight_core.specs.Asked.{Asked, put, info, tables, schema, fetch}
-use Rattle.table_versions.specs.Log.{Log}
+use Rattle.version_log.specs.Log.{Log}
 use Rattle.flight_core.specs.Machine.{PutStep}
 use Rattle.flight_core.specs.Puts.{put_said}
 use Rattle.flight_calls.specs.declared.setting.Options.{Options}

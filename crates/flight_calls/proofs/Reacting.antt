@@ -8,7 +8,7 @@ use Rattle.table_versions.specs.Database.{Put, after}
 use Rattle.flight_info.specs.Payloads.{Payload}
 use Rattle.flight_info.specs.Replies.{ReplyAt, refusal}
 use Rattle.flight_core.specs.Asked.{Asked, put, info, tables, schema, fetch}
-use Rattle.table_versions.specs.Log.{Log, added, puts_in, database_of, Begins}
+use Rattle.version_log.specs.Log.{Log, added, puts_in, database_of, Begins}
 use Rattle.flight_core.specs.Puts.{put_glance, put_said}
 use Rattle.flight_core.specs.Refusals.{RefusedFor}
 use Rattle.flight_core.specs.Machine.{PutStep}

@@ -3,7 +3,7 @@ use Rattle.std.proofs.Common.{◌≡◌, List, [], ◌∷◌, Result, Ok, Err, a
 use Rattle.scan_base.specs.declared.fault.Fault.{Fault}
 use Rattle.flight_core.specs.Asked.{Asked}
 use Rattle.flight_info.specs.Replies.{ReplyAt}
-use Rattle.table_versions.specs.Log.{Log}
+use Rattle.version_log.specs.Log.{Log}
 use Rattle.flight_core.specs.Machine.{Run}
 use Rattle.flight_core.specs.Headline.{RunsMeetHeadline, Headline}
 use Rattle.flight_calls.specs.declared.setting.Options.{Options}

@@ -12,7 +12,7 @@ use Rattle.flight_info.specs.Replies.{ReplyAt}
 use Rattle.fetch_stream.specs.Fetches.{FetchAt, HandleMeans}
 use Rattle.fetch_stream.specs.Streams.{StreamAt, HasGiven}
 use Rattle.flight_core.specs.Asked.{Asked, fetch}
-use Rattle.table_versions.specs.Log.{Log}
+use Rattle.version_log.specs.Log.{Log}
 use Rattle.flight_core.specs.Machine.{OpensIn}
 use Rattle.flight_calls.specs.declared.answer.Answer.{Answer}
 use Rattle.flight_calls.specs.declared.answer.Answer.TheVariants.{Whole, Stream}

@@ -14,7 +14,7 @@ use Rattle.flight_info.specs.Payloads.{Payload, PayloadsSay}
 use Rattle.flight_info.specs.Replies.{ReplyAt, whole}
 use Rattle.flight_core.specs.Asked.{Asked, info, tables, fetch}
 use Rattle.flight_core.specs.Headline.{Pairwise}
-use Rattle.table_versions.specs.Log.{Log, puts_in, database_of, Begins}
+use Rattle.version_log.specs.Log.{Log, puts_in, database_of, Begins}
 use Rattle.flight_calls.specs.declared.setting.Options.{Options}
 use Rattle.flight_calls.specs.Calls.{Call, asked_by}
 use Rattle.flight_calls.specs.Seats.{Seat, Moves}

@@ -4,7 +4,7 @@ use Rattle.scan_base.specs.declared.fault.Fault.{Fault}
 use Rattle.scan_base.specs.declared.fault.Fault.TheVariants.{Transport}
 use Rattle.flight_info.specs.Replies.{ReplyAt}
 use Rattle.table_versions.specs.Database.{Put}
-use Rattle.table_versions.specs.Log.{Log, added}
+use Rattle.version_log.specs.Log.{Log, added}
 use Rattle.flight_core.specs.Asked.{Asked, put, info, tables, schema, fetch}
 use Rattle.flight_core.specs.Puts.{put_said}
 use Rattle.flight_core.specs.Machine.{Run}

@@ -5,7 +5,7 @@ use Rattle.scan_base.specs.declared.fault.Fault.TheVariants.{OutOfMemory}
 use Rattle.flight_info.specs.Infos.{handle_asked, rows_wanted, tables_wanted, schema_wanted}
 use Rattle.flight_info.specs.Replies.{ReplyAt}
 use Rattle.flight_core.specs.Asked.{Asked, put, info, tables, schema, fetch}
-use Rattle.table_versions.specs.Log.{Log, Begins}
+use Rattle.version_log.specs.Log.{Log, Begins}
 use Rattle.flight_core.specs.Puts.{put_said}
 use Rattle.flight_calls.specs.declared.setting.Options.{Options}
 use Rattle.flight_calls.specs.Calls.{Call, asked_by, ReplyTo}

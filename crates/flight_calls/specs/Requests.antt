@@ -4,7 +4,7 @@ use Rattle.scan_base.specs.declared.fault.Fault.{Fault}
 use Rattle.flight_info.specs.Payloads.{Payload}
 use Rattle.flight_core.specs.Arriving.{HasRead}
 use Rattle.flight_info.specs.Replies.{refusal}
-use Rattle.table_versions.specs.Log.{Log}
+use Rattle.version_log.specs.Log.{Log}
 use Rattle.flight_calls.specs.declared.setting.Options.{Options}
 use Rattle.flight_calls.specs.declared.request.Method.TheVariants as method
 use Rattle.flight_calls.specs.declared.request.Single.{Single}

@@ -4,7 +4,7 @@ use Rattle.scan_base.specs.declared.fault.Fault.{Fault}
 use Rattle.scan_base.specs.declared.fault.Fault.TheVariants.{OutOfMemory}
 use Rattle.scan_base.specs.Reading.{RefusesFirst}
 use Rattle.table_versions.specs.Database.{Put, after}
-use Rattle.table_versions.specs.Log.{Log, added, puts_in, database_of, Begins}
+use Rattle.version_log.specs.Log.{Log, added, puts_in, database_of, Begins}
 
 -- the log that the seat has seen, its looks, and the entries that it made
 pub record Seat : Type 0 where

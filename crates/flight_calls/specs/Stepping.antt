@@ -5,7 +5,7 @@ use Rattle.scan_base.specs.declared.fault.Fault.TheVariants.{OutOfMemory}
 use Rattle.table_versions.specs.Stored.{VersionAt, tables_of}
 use Rattle.flight_info.specs.Replies.{ReplyAt}
 use Rattle.flight_core.specs.Asked.{Asked}
-use Rattle.table_versions.specs.Log.{Log, puts_in, database_of}
+use Rattle.version_log.specs.Log.{Log, puts_in, database_of}
 use Rattle.flight_core.specs.Machine.{StepOn}
 
 -- why what is read without memory is refused where memory is: for its own fault, or for want of memory

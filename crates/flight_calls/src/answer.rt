@@ -14,7 +14,7 @@ ghost use Rattle.fetch_stream.specs.Fetches.{FetchAt};
 ghost use Rattle.fetch_stream.specs.Streams.{Opens};
 ghost use Rattle.row_sources.specs.declared.turn.Patience.TheVariants.{Endless};
 ghost use Rattle.flight_core.specs.Asked.{Asked};
-ghost use Rattle.table_versions.specs.Log.{Log};
+ghost use Rattle.version_log.specs.Log.{Log};
 ghost use Rattle.flight_calls.specs.Calls.{ReplyTo};
 ghost use Rattle.flight_calls.specs.Owed.{answer_bytes, last_status};
 ghost use Rattle.flight_calls.specs.Answered.{AnsweredBy, IsReplyOf, FitsMessages, WritesReply, SendsReply, SendsRest};

@@ -14,7 +14,7 @@ pub trait Backend {
     ghost use Rattle.std.specs.Prelude.{◌≡◌, ◌≤◌, ◌<◌, ◌⊎◌, IfOk, IfErr};
     ghost use Rattle.scan_base.specs.declared.fault.Fault.TheVariants.{OutOfMemory, VersionUnknown};
     ghost use Rattle.table_versions.specs.Stored.{put_of, tables_of};
-    ghost use Rattle.table_versions.specs.Log.{Log, puts_in, database_of, version};
+    ghost use Rattle.version_log.specs.Log.{Log, puts_in, database_of, version};
     ghost use Rattle.flight_calls.specs.Seats.{Seat, Learns, LooksOnce, MayLook, Puts};
 
     // The log that it has seen, its looks, and the entries that it made.

@@ -7,7 +7,7 @@ ghost use Rattle.flight_proto.specs.Wanted.{wanted_in};
 ghost use Rattle.flight_info.specs.Infos.{handle_asked, schema_wanted};
 ghost use Rattle.flight_info.specs.Payloads.{Payload, FitMessages};
 ghost use Rattle.flight_core.specs.Asked.{put, schema, fetch};
-ghost use Rattle.table_versions.specs.Log.{puts_in, version};
+ghost use Rattle.version_log.specs.Log.{puts_in, version};
 ghost use Rattle.flight_core.specs.Machine.{OpensIn};
 ghost use Rattle.flight_core.specs.Puts.{put_glance, put_said};
 ghost use Rattle.flight_core.specs.Refusals.{GivesBehind};

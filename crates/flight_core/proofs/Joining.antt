@@ -16,10 +16,10 @@ use Rattle.sql_query.specs.Sentence.{Sentence, is_grouped}
 use Rattle.table_versions.specs.Table.{Row, Table}
 use Rattle.table_versions.specs.Database.{Database}
 use Rattle.table_versions.specs.Database as puts
-use Rattle.table_versions.proofs.Logs.{begun_puts}
+use Rattle.version_log.proofs.Logs.{begun_puts}
 use Rattle.typed_plan.specs.Meaning.{meaning}
 use Rattle.typed_plan.proofs.Ranges.{ranges_join}
-use Rattle.table_versions.specs.Log.{Log, puts_of, puts_in, database_of, version, Begins}
+use Rattle.version_log.specs.Log.{Log, puts_of, puts_in, database_of, version, Begins}
 use Rattle.flight_info.specs.Payloads.{Payload}
 use Rattle.flight_info.specs.Meant.{Asks, first_rows}
 use Rattle.fetch_stream.specs.Fetches.{FetchAt, version_of, may_mean}

@@ -16,7 +16,7 @@ use Rattle.flight_info.specs.Payloads.{Payload}
 use Rattle.flight_info.proofs.Sizes.{short_number, short_chunk, short_set}
 use Rattle.flight_core.specs.Refusals.{RefusedFor}
 use Rattle.flight_core.specs.Puts.{put_glance, put_said}
-use Rattle.table_versions.specs.Log.{Log, added, puts_in, database_of}
+use Rattle.version_log.specs.Log.{Log, added, puts_in, database_of}
 use Rattle.flight_core.specs.Machine.{PutStep, database_put}
 use Rattle.flight_core.proofs.Arriving.{behind, refused_on, glance_good}
 

@@ -8,8 +8,8 @@ use Rattle.scan_base.specs.Reading.{◌>>=◌, demand}
 use Rattle.endpoint_split.specs.Handle.{HandleAt}
 use Rattle.ipc_batch.specs.Said.{Rows}
 use Rattle.table_versions.specs.Database.{Database, Put}
-use Rattle.table_versions.specs.Log.{Log, added, puts_of, puts_in, database_of, Begins}
-use Rattle.table_versions.proofs.Logs.{begun_puts}
+use Rattle.version_log.specs.Log.{Log, added, puts_of, puts_in, database_of, Begins}
+use Rattle.version_log.proofs.Logs.{begun_puts}
 use Rattle.flight_info.specs.Payloads.{Payload}
 use Rattle.flight_core.specs.Puts.{put_said}
 use Rattle.flight_core.specs.Asked.{Asked, put, info, tables, schema, fetch}

@@ -10,8 +10,8 @@ use Rattle.flight_core.specs.Asked.{Asked, put, info, tables, schema, fetch}
 use Rattle.flight_info.specs.Replies.{ReplyAt}
 use Rattle.flight_core.specs.Event.{asked_in}
 use Rattle.table_versions.specs.Database.{Database, Put, after}
-use Rattle.table_versions.specs.Log.{Log, added, puts_in, database_of, IsLog}
-use Rattle.table_versions.proofs.Logs.{is_log-added}
+use Rattle.version_log.specs.Log.{Log, added, puts_in, database_of, IsLog}
+use Rattle.version_log.proofs.Logs.{is_log-added}
 use Rattle.flight_core.specs.Machine.{PutStep, StepOn, Run}
 use Rattle.flight_core.specs.Laws.{RefusalsLeaveNothing}
 use Rattle.flight_info.proofs.Results.{same_some}

@@ -5,10 +5,10 @@ use Rattle.std.specs.Option.{option_map}
 use Rattle.std.proofs.lemmas.Option.{slice_get-map}
 use Rattle.std.proofs.lemmas.List.{map-append, length-map}
 use Rattle.table_versions.specs.Database.{Database, Put, after, accepted, after_all, database_of}
-use Rattle.table_versions.specs.Log as logs
-use Rattle.table_versions.specs.Log.{Log, added, puts_of, puts_in}
+use Rattle.version_log.specs.Log as logs
+use Rattle.version_log.specs.Log.{Log, added, puts_of, puts_in}
 use Rattle.table_versions.proofs.Databases.{logs_grow}
-use Rattle.table_versions.proofs.Logs.{puts_of-added}
+use Rattle.version_log.proofs.Logs.{puts_of-added}
 use Rattle.flight_core.specs.Versions.{versions_from, versions_of}
 use Rattle.flight_info.proofs.Results.{same_some}
 

@@ -10,7 +10,7 @@ use Rattle.flight_core.specs.Asked.{Asked, info, tables, fetch}
 use Rattle.flight_info.specs.Replies.{ReplyAt, whole}
 use Rattle.flight_proto.specs.FlightInfo.{InfoSaid, info_of}
 use Rattle.flight_proto.specs.Wanted.{Wanted, wanted_in}
-use Rattle.table_versions.specs.Log.{Log, puts_in, database_of, Begins}
+use Rattle.version_log.specs.Log.{Log, puts_in, database_of, Begins}
 use Rattle.flight_info.specs.Infos.{handle_asked, handles_in, RightInfo}
 use Rattle.flight_core.specs.Machine.{FetchIn, Run}
 use Rattle.flight_info.specs.Meant.{Answers}

@@ -11,7 +11,7 @@ use Rattle.flight_info.specs.Payloads.{Payload, message_in, PayloadsSay}
 use Rattle.flight_core.specs.Puts.{put_made, put_said}
 use Rattle.flight_core.specs.Asked.{Asked}
 use Rattle.flight_info.specs.Replies.{ReplyAt}
-use Rattle.table_versions.specs.Log.{Log}
+use Rattle.version_log.specs.Log.{Log}
 use Rattle.flight_core.specs.Machine.{Run}
 
 -- the list without the item at a place

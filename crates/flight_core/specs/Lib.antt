@@ -3,6 +3,7 @@ pub mod Puts
 pub mod Arriving
 pub mod Asked
 pub mod Event
+pub mod Shown
 pub mod Machine
 pub mod Headline
 pub mod Laws

@@ -9,9 +9,10 @@ use Rattle.flight_core.specs.Refusals.{RefusedFor}
 use Rattle.flight_info.specs.Payloads.{Payload}
 use Rattle.flight_core.specs.Asked.{Asked, put, info, tables, schema, fetch}
 use Rattle.flight_info.specs.Replies.{ReplyAt}
-use Rattle.table_versions.specs.Log.{Log, added, puts_in, database_of, version}
+use Rattle.version_log.specs.Log.{Log, added, puts_in, database_of, version}
 use Rattle.flight_core.specs.Puts.{put_glance, put_said}
-use Rattle.fetch_stream.specs.Fetches.{version_of, handle_shown, FetchAt}
+use Rattle.flight_core.specs.Shown.{handle_shown}
+use Rattle.fetch_stream.specs.Fetches.{version_of, FetchAt}
 use Rattle.fetch_stream.specs.Streams.{StreamAt, Opens}
 use Rattle.endpoint_split.specs.Handle.{HandleAt}
 use Rattle.flight_info.specs.Infos.{handle_asked, rows_wanted, tables_wanted, schema_wanted, InfoAt, SchemaAt}

@@ -6,7 +6,7 @@ ghost use Rattle.table_versions.specs.Valid.{HasDatabases};
 ghost use Rattle.scan_base.specs.declared.fault.Fault.TheVariants.{OutOfMemory};
 ghost use Rattle.flight_proto.specs.PutResult.{rows_put_bytes};
 ghost use Rattle.flight_core.specs.Event.{asked_in};
-ghost use Rattle.table_versions.specs.Log.{Log, IsLog, ArePuts, puts_of, puts_in, database_of};
+ghost use Rattle.version_log.specs.Log.{Log, IsLog, ArePuts, puts_of, puts_in, database_of};
 ghost use Rattle.flight_core.specs.Headline.{Headline};
 ghost use Rattle.flight_core.specs.Laws.{RefusedLeaveNothing};
 ghost use Rattle.flight_core.specs.Machine.{PutStep, StepOn, Run, FetchIn, FetchShown, AsShown};

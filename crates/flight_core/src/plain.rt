@@ -4,7 +4,7 @@ ghost use Rattle.std.specs.Prelude.{◌≡◌, ◌≢◌, ◌≤◌, ◌<◌, �
 ghost use Rattle.scan_base.specs.Reading.{RefusesFirst, first_fault};
 ghost use Rattle.flight_core.specs.Versions.{numbered};
 ghost use Rattle.scan_base.specs.declared.fault.Fault.TheVariants.{OutOfMemory, VersionUnknown};
-ghost use Rattle.table_versions.specs.Log.{added, puts_in, database_of, version};
+ghost use Rattle.version_log.specs.Log.{added, puts_in, database_of, version};
 ghost use Rattle.table_versions.specs.Database.{after, put_faults};
 ghost use Rattle.table_versions.specs.Stored.{put_of, tables_of};
 ghost use Rattle.table_versions.specs.Valid.{IsPut};
@@ -45,7 +45,7 @@ impl Drop for Plain {
 
 impl Model for Plain {
     ghost use Rattle.std.specs.Prelude.{[], map, ◌≡◌};
-    ghost use Rattle.table_versions.specs.Log.{Log, added, puts_of};
+    ghost use Rattle.version_log.specs.Log.{Log, added, puts_of};
     ghost use Rattle.table_versions.specs.Stored.{put_of};
     ghost use Rattle.flight_core.specs.Versions.{versions_of, numbered};
 

@@ -3,7 +3,7 @@ use Rattle.std.proofs.Common.{◌≡◌, [], ◌∷◌, ◌++◌, Result, Ok, Er
 use Rattle.scan_base.specs.declared.fault.Fault.{Fault}
 use Rattle.scan_base.specs.Reading.{RefusesFirst}
 use Rattle.table_versions.specs.Database.{Database, Put}
-use Rattle.table_versions.specs.Log.{Log, added, Begins}
+use Rattle.version_log.specs.Log.{Log, added, Begins}
 use Rattle.version_cell.specs.Puts.{PutsBehind, after_log}
 use Rattle.version_cell.specs.Seats as cell
 use Rattle.flight_calls.specs.Seats.{Seat, Puts}

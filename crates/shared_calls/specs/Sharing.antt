@@ -1,6 +1,6 @@
 -- A seat of a version cell, as a connection's.
 use Rattle.std.specs.Prelude.{◌≡◌}
-use Rattle.table_versions.specs.Log.{Begins}
+use Rattle.version_log.specs.Log.{Begins}
 use Rattle.version_cell.specs.Seats as cell
 use Rattle.flight_calls.specs.Seats.{Seat, Moves}
 

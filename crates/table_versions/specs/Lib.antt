@@ -10,4 +10,3 @@ pub mod Order
 pub mod Standing
 pub mod Laws
 pub mod Place
-pub mod Log

@@ -1,8 +1,8 @@
 -- Entries, of which a put is the one kind, and logs of accepted puts.
 use Rattle.std.proofs.Common.{◌≡◌, suc, false, true, [], ◌∷◌, ◌++◌, length, Option, Some, None, IsSome, IfSome, IsOk, refl, ap}
 use Rattle.table_versions.specs.Database.{Put}
-use Rattle.table_versions.specs.Log.{Log, added, puts_in, IsLog}
-use Rattle.table_versions.proofs.Logs.{is_log-added}
+use Rattle.version_log.specs.Log.{Log, added, puts_in, IsLog}
+use Rattle.version_log.proofs.Logs.{is_log-added}
 use Rattle.version_cell.specs.Puts.{after_log}
 use Rattle.version_cell.specs.Rules.{read_or}
 use Rattle.version_cell.proofs.Versions.{accepted_is}

@@ -6,7 +6,7 @@ use Rattle.std.proofs.Common.{Bool, true, false, ◌≡◌, ◌⊎◌, inl, inr,
 use mathlib.Core.List.{IsPrefix}
 use Rattle.scan_base.specs.declared.fault.Fault.{Fault}
 use Rattle.table_versions.specs.Database.{Put}
-use Rattle.table_versions.specs.Log.{Log, added, Begins}
+use Rattle.version_log.specs.Log.{Log, added, Begins}
 use Rattle.version_cell.specs.Puts.{IsAnswered}
 
 -- each list begins with itself

@@ -11,11 +11,11 @@ use Rattle.scan_base.specs.Limits.{most_commits}
 use Rattle.scan_base.specs.Reading.{first_fault, RefusesFirst}
 use Rattle.table_versions.specs.Database.{Database, Put, table_at, with_table, table_after, put_faults, after, accepted, after_all}
 use Rattle.table_versions.specs.Database as puts
-use Rattle.table_versions.specs.Log.{Log, added, puts_of, puts_in, database_of, version}
+use Rattle.version_log.specs.Log.{Log, added, puts_of, puts_in, database_of, version}
 use Rattle.table_versions.specs.Stored.{CatalogAt, VersionAt, tables_of}
 use Rattle.table_versions.proofs.Accepted.{among, unrefused}
 use Rattle.table_versions.proofs.Databases.{logs_grow}
-use Rattle.table_versions.proofs.Logs.{puts_of-added}
+use Rattle.version_log.proofs.Logs.{puts_of-added}
 use Rattle.version_cell.specs.Puts.{after_log}
 use Rattle.version_cell.specs.Versions.{versions_from, versions_of}
 

@@ -1,6 +1,6 @@
 -- Inside: entries that are counted one by one.
 use Rattle.std.specs.Prelude.{ℕ, ◌+◌, [], ◌∷◌, ◌++◌, Option, Some, None}
-use Rattle.table_versions.specs.Log.{Entry, Log}
+use Rattle.version_log.specs.Log.{Entry, Log}
 
 -- the entries, in order, and how many times one was added
 pub record MadeAt : Type 0 where

@@ -4,7 +4,7 @@ use Rattle.scan_base.specs.declared.fault.Fault.{Fault}
 use Rattle.scan_base.specs.declared.fault.Fault.TheVariants.{OutOfMemory}
 use Rattle.scan_base.specs.Reading.{RefusesFirst}
 use Rattle.table_versions.specs.Database.{Put, Database, after}
-use Rattle.table_versions.specs.Log.{Log, added, puts_in, database_of, Begins}
+use Rattle.version_log.specs.Log.{Log, added, puts_in, database_of, Begins}
 use Rattle.version_cell.specs.Seats.{Seat, MakesNone}
 
 -- the database after a put that meets this log, or the first fault

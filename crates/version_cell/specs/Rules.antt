@@ -1,6 +1,6 @@
 -- Inside: the rule of the book, and what its step tells.
 use Rattle.std.specs.Prelude.{ℕ, ◌≡◌, ◌==◌, true, List, [], ◌∷◌, ◌++◌, length, MatchBool, Option, Some, None}
-use Rattle.table_versions.specs.Log.{Entry, Log}
+use Rattle.version_log.specs.Log.{Entry, Log}
 use Rattle.logbook.specs.Pages.{Cell, Step, View, Book, Named}
 
 -- the first word is the length of the log. A book has two words, of which this one leaves the second at 0

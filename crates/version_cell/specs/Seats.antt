@@ -1,6 +1,6 @@
 -- What a contract sees of a seat, and what its calls do to it.
 use Rattle.std.specs.Prelude.{◌≡◌, ◌⊎◌, ℕ, ◌+◌}
-use Rattle.table_versions.specs.Log.{Log}
+use Rattle.version_log.specs.Log.{Log}
 
 -- the log that the seat has seen or was told of, the log that it entered last, how often it entered the cell, and the entries
 -- that were made through it, in order

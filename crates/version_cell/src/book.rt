@@ -1,6 +1,6 @@
 //! The log of a cell, as a history that only grows.
 ghost use Rattle.std.specs.Prelude.{◌≡◌, ◌+◌, ◌<◌, ◌^◌, ◌++◌, ◌∷◌, [], length, MatchBool, IfSome};
-ghost use Rattle.table_versions.specs.Log.{added, puts_in, Begins};
+ghost use Rattle.version_log.specs.Log.{added, puts_in, Begins};
 ghost use Rattle.table_versions.specs.Stored.{put_of};
 ghost use Rattle.version_cell.specs.Rules.{head_of};
 
@@ -17,7 +17,7 @@ pub struct Entry {
 }
 
 impl Model for Entry {
-    ghost use Rattle.table_versions.specs.Log.{Entry, added};
+    ghost use Rattle.version_log.specs.Log.{Entry, added};
     ghost use Rattle.table_versions.specs.Stored.{put_of};
 
     ghost Value = { Entry };
@@ -66,7 +66,7 @@ impl Play<Entry, u64> for Add {
 
 impl Plain<Snapshot<Put>, Entry, u64> for Add {
     ghost use Rattle.std.specs.Prelude.{None};
-    ghost use Rattle.table_versions.specs.Log.{added};
+    ghost use Rattle.version_log.specs.Log.{added};
     ghost use Rattle.table_versions.specs.Stored.{put_of};
 
     ghost ask = { λ put. added (put_of put.value) };

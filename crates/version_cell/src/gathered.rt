@@ -1,7 +1,7 @@
 //! Seats that are done with, as one.
 
 ghost use Rattle.std.specs.Prelude.{◌≡◌, ◌+◌, length};
-ghost use Rattle.table_versions.specs.Log.{Begins};
+ghost use Rattle.version_log.specs.Log.{Begins};
 ghost use Rattle.version_cell.specs.Seats.{gathered_at};
 
 use crate::book::CellName;

@@ -1,7 +1,7 @@
 //! The entries that a seat made, which contracts alone see.
 
 ghost use Rattle.std.specs.Prelude.{◌≡◌, ◌++◌, ◌∷◌, []};
-ghost use Rattle.table_versions.specs.Log.{added};
+ghost use Rattle.version_log.specs.Log.{added};
 ghost use Rattle.table_versions.specs.Stored.{put_of};
 
 use std::marker::Model;
@@ -16,7 +16,7 @@ pub(crate) struct Made {
 }
 
 impl Model for Made {
-    ghost use Rattle.table_versions.specs.Log.{added};
+    ghost use Rattle.version_log.specs.Log.{added};
     ghost use Rattle.table_versions.specs.Stored.{put_of};
     ghost use Rattle.version_cell.specs.Made.{MadeAt, one_longer};
 

@@ -5,7 +5,7 @@ ghost use Rattle.std.specs.Arc.{arc_value};
 ghost use Rattle.scan_base.specs.Limits.{most_commits};
 ghost use Rattle.scan_base.specs.Reading.{RefusesFirst};
 ghost use Rattle.scan_base.specs.declared.fault.Fault.TheVariants.{OutOfMemory};
-ghost use Rattle.table_versions.specs.Log.{added, puts_of, puts_in, IsLog};
+ghost use Rattle.version_log.specs.Log.{added, puts_of, puts_in, IsLog};
 ghost use Rattle.table_versions.specs.Stored.{put_of, tables_of};
 ghost use Rattle.table_versions.specs.Valid.{IsPut};
 ghost use Rattle.version_cell.specs.Puts.{after_log, IsAnswered};
@@ -44,7 +44,7 @@ pub(crate) struct Publisher<C: CellName, R: Wait + Drop> {
 
 impl<C: CellName, R: Wait + Drop> Model for Publisher<C, R> {
     ghost use Rattle.std.specs.Prelude.{◌≡◌, [], IsSome, IfSome};
-    ghost use Rattle.table_versions.specs.Log.{Log, IsLog};
+    ghost use Rattle.version_log.specs.Log.{Log, IsLog};
     ghost use Rattle.version_cell.specs.Rules.{head_of, read_or};
 
     ghost Value = { Log };

@@ -2,7 +2,7 @@
 
 ghost use Rattle.std.specs.Prelude.{◌≡◌, IfOk};
 ghost use Rattle.scan_base.specs.Reading.{RefusesFirst};
-ghost use Rattle.table_versions.specs.Log.{puts_in, IsLog};
+ghost use Rattle.version_log.specs.Log.{puts_in, IsLog};
 ghost use Rattle.table_versions.specs.Stored.{put_of};
 ghost use Rattle.table_versions.specs.Valid.{IsPut};
 ghost use Rattle.version_cell.specs.Puts.{after_log, IsAnswered};
@@ -28,7 +28,7 @@ pub struct Putter<C: CellName, R: Wait + Drop> {
 
 impl<C: CellName, R: Wait + Drop> Model for Putter<C, R> {
     ghost use Rattle.std.specs.Prelude.{◌≡◌};
-    ghost use Rattle.table_versions.specs.Log.{Log};
+    ghost use Rattle.version_log.specs.Log.{Log};
 
     ghost Value = { Log };
 

@@ -2,7 +2,7 @@
 
 ghost use Rattle.std.specs.Prelude.{◌≡◌, ◌+◌, ◌⊎◌, ◌≤◌, ◌<◌, ◌++◌, ◌∷◌, [], length, IfOk, IfErr, IfSome, MatchBool};
 ghost use Rattle.scan_base.specs.declared.fault.Fault.TheVariants.{OutOfMemory, VersionUnknown};
-ghost use Rattle.table_versions.specs.Log.{added, puts_in, database_of, version, Begins};
+ghost use Rattle.version_log.specs.Log.{added, puts_in, database_of, version, Begins};
 ghost use Rattle.table_versions.specs.Stored.{put_of, tables_of};
 ghost use Rattle.version_cell.specs.Seats.{seat, EntersOnce, MakesNone, MayEnter};
 

@@ -1,7 +1,7 @@
 //! A putter that threads share under one lock.
 
 ghost use Rattle.std.specs.Prelude.{◌≡◌, [], length, IfOk};
-ghost use Rattle.table_versions.specs.Log.{puts_in, Begins, IsLog};
+ghost use Rattle.version_log.specs.Log.{puts_in, Begins, IsLog};
 ghost use Rattle.table_versions.specs.Stored.{put_of};
 ghost use Rattle.table_versions.specs.Valid.{IsPut};
 ghost use Rattle.version_cell.specs.Puts.{CountsPut, IsAnswered, PutsBehind};

@@ -1,7 +1,7 @@
 //! What one thread tells another of the log.
 
 ghost use Rattle.std.specs.Prelude.{◌≡◌, MatchBool};
-ghost use Rattle.table_versions.specs.Log.{puts_in, Begins};
+ghost use Rattle.version_log.specs.Log.{puts_in, Begins};
 
 use crate::book::{CellName, History};
 use std::marker::{Model, PhantomData};
@@ -15,7 +15,7 @@ pub struct Told<C: CellName> {
 
 impl<C: CellName> Model for Told<C> {
     ghost use Rattle.std.specs.Prelude.{◌≡◌};
-    ghost use Rattle.table_versions.specs.Log.{Log};
+    ghost use Rattle.version_log.specs.Log.{Log};
 
     ghost Value = { Log };
 

@@ -2,7 +2,7 @@
 use Rattle.std.specs.Prelude.{◌≡◌, ◌⊎◌, ◌<◌, ℕ, ◌+◌, length, List, [], ◌++◌, map, All, IsErr, IfOk, IsSome, Option, Some, None, Result}
 use Rattle.atomic_table.specs.Seated.{TableId}
 use Rattle.scan_base.specs.declared.fault.Fault.{Fault}
-use Rattle.table_versions.specs.Log.{Log, Begins}
+use Rattle.version_log.specs.Log.{Log, Begins}
 use Rattle.version_cell.specs.Seats as cell
 use Rattle.flight_calls.specs.declared.setting.Options.{Options}
 use Rattle.flight_calls.specs.Seats.{Seat, seat_of}

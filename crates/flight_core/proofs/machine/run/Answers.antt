@@ -1,6 +1,6 @@
 use Rattle.std.proofs.Common.{[], map, arith}
 use Rattle.table_versions.proofs.Tables.{versions_are_databases}
-use Rattle.table_versions.specs.Log.{puts_of}
+use Rattle.version_log.specs.Log.{puts_of}
 use Rattle.flight_core.specs.Event.{asked_in}
 use Rattle.flight_core.proofs.Running.{runs_meet_headline}
 use Rattle.flight_core.proofs.Runs.{run_more, whole_run, refusals_leave_nothing, run_is_log, none_is_log}

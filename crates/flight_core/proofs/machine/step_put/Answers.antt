@@ -3,8 +3,8 @@ use Rattle.std.proofs.lemmas.List.Elements.{All-push}
 use Rattle.table_versions.specs.Stored.{put_of}
 use Rattle.table_versions.specs.Valid.{IsPut}
 use Rattle.table_versions.specs.Database.{after}
-use Rattle.table_versions.specs.Log.{puts_of, puts_in, database_of}
-use Rattle.table_versions.proofs.Logs.{puts_of-added}
+use Rattle.version_log.specs.Log.{puts_of, puts_in, database_of}
+use Rattle.version_log.proofs.Logs.{puts_of-added}
 use Rattle.flight_info.proofs.Results.{first_is, none_refused}
 use Rattle.flight_core.proofs.Replies.{accepted_reply, refused_reply, due}
 use Rattle.flight_core.proofs.machine.step_put.Goals as goal

@@ -1,5 +1,5 @@
 use Rattle.std.proofs.Common.{◌≡◌, ◌⊎◌, sym, rules, subst, IfOk}
-use Rattle.table_versions.specs.Log.{Log, puts_in, Begins}
+use Rattle.version_log.specs.Log.{Log, puts_in, Begins}
 use Rattle.table_versions.specs.Stored.{put_of}
 use Rattle.version_cell.specs.Puts.{IsAnswered}
 use Rattle.version_cell.proofs.Fronts.{goes_on, learns_all}

@@ -1,5 +1,5 @@
 use Rattle.std.proofs.Common.{arith, ap}
-use Rattle.table_versions.specs.Log.{puts_in}
+use Rattle.version_log.specs.Log.{puts_in}
 use Rattle.table_versions.specs.Stored.{put_of}
 use Rattle.flight_core.proofs.Versions.{puts_in_entries}
 use Rattle.flight_core.proofs.plain.Plain.newest.Goals as goal

@@ -1,7 +1,7 @@
 use Rattle.std.proofs.Common.{◌≡◌, suc, Ok, rules, arith, subst, sym, ap, ◌∙◌}
 use Rattle.std.proofs.lemmas.Result.{err_from_is_err_and}
 use Rattle.table_versions.specs.Database.{after}
-use Rattle.table_versions.specs.Log.{Log, puts_in, database_of}
+use Rattle.version_log.specs.Log.{Log, puts_in, database_of}
 use Rattle.table_versions.specs.Stored.{VersionAt, put_of, tables_of}
 use Rattle.flight_core.specs.Versions.{numbered}
 use Rattle.flight_info.proofs.Results.{first_for}

@@ -1,7 +1,7 @@
 use Rattle.std.proofs.Common.{◌≡◌, ◌≤◌, ◌<◌, ◌-◌, length, Some, arith, subst, sym, refl}
 use Rattle.std.specs.List.{slice_get}
 use Rattle.std.proofs.lemmas.Option.{slice_get_read}
-use Rattle.table_versions.specs.Log.{Log, puts_in, version}
+use Rattle.version_log.specs.Log.{Log, puts_in, version}
 use Rattle.table_versions.specs.Stored.{put_of}
 use Rattle.flight_core.specs.Versions.{numbered}
 use Rattle.flight_core.proofs.Versions.{entries, puts_in_entries, entry_at}

@@ -1,6 +1,6 @@
 use Rattle.std.proofs.Common.{ap, subst, refl}
 use mathlib.Core.List.{IsPrefix}
-use Rattle.table_versions.specs.Log.{Log}
+use Rattle.version_log.specs.Log.{Log}
 use Rattle.version_cell.proofs.Fronts.{either_begins}
 use Rattle.version_cell.proofs.book.History.begins.Goals as goal
 

@@ -1,5 +1,5 @@
 use Rattle.std.proofs.Common.{◌≡◌, ◌++◌, ◌∷◌, [], refl, sym, ap, ◌∙◌, subst}
-use Rattle.table_versions.specs.Log.{Log, added, IsLog}
+use Rattle.version_log.specs.Log.{Log, added, IsLog}
 use Rattle.table_versions.specs.Stored.{put_of}
 use Rattle.version_cell.proofs.Entries.{is_log_behind, read_is_log}
 use Rattle.version_cell.proofs.Versions.{few_accepted}

@@ -1,6 +1,6 @@
 use Rattle.std.proofs.Common.{◌≡◌, map, arith, Ok}
 use Rattle.std.proofs.lemmas.Result.{err_from_is_err_and}
-use Rattle.table_versions.specs.Log.{puts_of}
+use Rattle.version_log.specs.Log.{puts_of}
 use Rattle.table_versions.specs.Stored.{put_of, tables_of}
 use Rattle.version_cell.specs.Puts.{after_log}
 use Rattle.version_cell.specs.Versions.{versions_of}

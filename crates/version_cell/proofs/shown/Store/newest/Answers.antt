@@ -1,5 +1,5 @@
 use Rattle.std.proofs.Common.{◌≡◌, map, arith}
-use Rattle.table_versions.specs.Log.{puts_of, puts_in}
+use Rattle.version_log.specs.Log.{puts_of, puts_in}
 use Rattle.table_versions.specs.Stored.{tables_of}
 use Rattle.version_cell.specs.Versions.{versions_of}
 use Rattle.version_cell.proofs.Versions.{newest_number, newest_tables}

@@ -1,7 +1,7 @@
 -- What is said of a log is said of its puts.
 use Rattle.std.proofs.Common.{◌≡◌, List, [], ◌∷◌, ◌++◌, map, Ok, refl, sym, subst, ap, ◌∙◌}
 use Rattle.table_versions.specs.Database.{Database, Put, after, AreAccepted}
-use Rattle.table_versions.specs.Log.{Log, added, puts_of, puts_in, database_of, IsLog, Begins}
+use Rattle.version_log.specs.Log.{Log, added, puts_of, puts_in, database_of, IsLog, Begins}
 use Rattle.table_versions.proofs.Databases.{longer_log}
 
 pub puts_of-append : (log rest : Log) → puts_of (log ++ rest) ≡ puts_of log ++ puts_of rest

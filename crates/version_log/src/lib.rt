@@ -1,0 +1,2 @@
+//! The log of a catalog: what was accepted, in order. Definitions and lemmas, and no function.
+#![tactic(auto)]
