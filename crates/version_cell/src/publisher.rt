@@ -22,8 +22,8 @@ use std::marker::{Model, PhantomData};
 use std::sync::{Arc, Wait};
 use std::{snapshot, thread};
 use table_versions::Put;
-use version_log::Entry;
 use version_index::VersionIndex;
+use version_log::Entry;
 
 pub(crate) type CellWriter<C> = Writer<Store, Store, Entered, Shown<C>>;
 

@@ -22,8 +22,8 @@ use std::collections::LinkedList;
 use std::marker::PhantomData;
 use std::sync::Arc;
 use table_versions::{Put, Snapshot, apply};
-use version_log::Entry;
 use version_index::VersionIndex;
+use version_log::Entry;
 
 // All versions of a log, but for those that are expired.
 #[derive(Drop)]

@@ -4,9 +4,9 @@ ghost use Rattle.std.specs.Prelude.{◌≡◌, ◌++◌, ◌∷◌, [], MatchBoo
 ghost use Rattle.version_log.specs.Log.{added, expired, puts_in};
 ghost use Rattle.table_versions.specs.Stored.{put_of};
 
-use table_versions::Put;
 use std::marker::Model;
 use std::snapshot::Snapshot;
+use table_versions::Put;
 
 // What was done.
 #[derive(Drop)]
