@@ -14,3 +14,9 @@ returns-clause-number c =
 
 pub returns-clause-kept : goal.returns-clause-kept
 returns-clause-kept c = rw (← c.self.view_is) c.self.invariant.there
+
+pub overflow_sub-result : goal.overflow_sub-result
+overflow_sub-result c =
+    let kept = c.self.inside.kept.items in
+    let long = kept_length c.self.inside.floor (map numbered kept) c.self.inside.log.value.entries c.self.invariant in
+    omega (arith, long, length-map kept numbered, c.len.ensures)
