@@ -1,5 +1,5 @@
 -- Expiries, as they are answered.
-use Rattle.std.proofs.Common.{◌≡◌, ◌<◌, ◌≤◌, ℕ, Bool, true, false, nat_le, rules, List, [], ◌∷◌, length, length-append, Some, None, Result, Ok, Err, refl, ap, sym, ◌∙◌, max, arith, inl, inr}
+use Rattle.std.proofs.Common.{◌≡◌, ◌≤◌, ℕ, Bool, true, false, nat_le, rules, List, [], ◌∷◌, length, length-append, None, Ok, Err, refl, ap, sym, ◌∙◌, max, arith, inl, inr}
 use Rattle.std.specs.Prelude.{IsOk}
 use Rattle.byteorder.specs.Endian.{big_bytes}
 use Rattle.scan_base.specs.declared.fault.Fault.{Fault}
@@ -59,5 +59,5 @@ refused_expiry log action version fault said (inl unknown) =
     rw (said, unknown.0) (λ other. by (nat_le version (puts_in log)) refl)
   where
     by : (there : Bool) → nat_le version (puts_in log) ≡ there → (demand there VersionUnknown >>= λ _. Ok version) ≡ Err VersionUnknown
-    by false no = refl
-    by true yes = let within : version ≤ puts_in log = search (rules, yes) in absurd (omega (arith, unknown.1, within))
+    by false below = refl
+    by true reached = let within : version ≤ puts_in log = search (rules, reached) in absurd (omega (arith, unknown.1, within))
