@@ -110,6 +110,7 @@ where
         seats: 2,
         accept,
         idle: 0,
+        keep: 0,
         parts: 2,
         workers: 1,
     };
