@@ -14,4 +14,5 @@ pub mod Ingest
 pub mod FlightInfo
 pub mod Wanted
 pub mod Action
+pub mod Expiry
 pub mod Laws
