@@ -1,12 +1,14 @@
 pub mod Calls
 pub mod Counts
 pub mod Seats
+pub mod Keeping
 pub mod Reacts
 pub mod Stepping
 pub mod Owed
 pub mod Ending
 pub mod Requests
 pub mod Reading
+pub mod OwnExpiries
 pub mod Laws
 pub mod Joining
 pub mod Answered

@@ -1,5 +1,5 @@
 -- What a call does over a backend.
-use Rattle.std.specs.Prelude.{◌≡◌, ◌≢◌, ◌⊎◌, ◌<◌, List, [], ◌∷◌, ◌++◌, IsOk, Some, Result, Ok, Err}
+use Rattle.std.specs.Prelude.{◌≡◌, ◌≢◌, ◌⊎◌, ◌<◌, ℕ, List, [], ◌∷◌, ◌++◌, IsOk, Some, Result, Ok, Err}
 use Rattle.scan_base.specs.declared.fault.Fault.{Fault}
 use Rattle.scan_base.specs.declared.fault.Fault.TheVariants.{OutOfMemory}
 use Rattle.flight_proto.specs.Expiry.{expiry_of}
@@ -10,6 +10,7 @@ use Rattle.version_log.specs.Log.{Log, Begins}
 use Rattle.flight_core.specs.Puts.{put_said}
 use Rattle.flight_calls.specs.declared.setting.Options.{Options}
 use Rattle.flight_calls.specs.Calls.{Call, asked_by, ReplyTo}
+use Rattle.flight_calls.specs.Keeping.{kept_behind, KeepsFrom}
 use Rattle.flight_calls.specs.Seats.{Seat, Moves}
 
 -- a put or an expiry that was read may go by another log than the seat's; all else by one that begins with what the seat had
@@ -54,9 +55,16 @@ pub record Reacts (moves : Moves) (asked : Result Asked Fault) (old : Seat) (rep
   pub goes : Goes moves asked old log after new
   pub looked : reply.fault ≢ Some OutOfMemory → HasLooked asked old log new
 
+-- The same, and then the expiry of the versions that are not kept: so many of the newest are, behind an accepted put.
+pub record Responds (moves : Moves) (keep : ℕ) (asked : Result Asked Fault) (old : Seat) (reply : ReplyAt) (new : Seat) : Type 0 where
+  pub middle : Seat
+  pub reacts : Reacts moves asked old reply middle
+  pub keeps : KeepsFrom moves (kept_behind keep asked reply.fault reacts.after) middle new
+
 -- one reply a call, in order, each from the seat that the one before left
 abbrev pub Answers : Moves → Options → Seat → List Call → List ReplyAt → Seat → Type 0
 Answers moves options old [] [] new = new ≡ old
 Answers moves options old (call ∷ calls) (reply ∷ replies) new =
-    (middle : Seat) × Reacts moves (asked_by options call) old reply middle × Answers moves options middle calls replies new
+    (middle : Seat) × Responds moves options.keep (asked_by options call) old reply middle
+    × Answers moves options middle calls replies new
 Answers moves options old _ _ new = ⊥
