@@ -3,7 +3,6 @@ pub mod Counts
 pub mod Seats
 pub mod Keeping
 pub mod Reacts
-pub mod Stepping
 pub mod Owed
 pub mod Ending
 pub mod Requests

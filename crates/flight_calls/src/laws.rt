@@ -36,7 +36,8 @@ pub fn served_meets_headline()
     runs_meet_headline();
 }
 
-/// What a call leaves is where every later call of the connection starts, but for a put that was read, over any backend.
+/// What a call leaves is where every later call of the connection starts, but for a put or an expiry that was read, over any
+/// backend.
 pub fn later_calls_see<B: Backend>()
     ensures { LaterCallsSee B.moves }
 {}

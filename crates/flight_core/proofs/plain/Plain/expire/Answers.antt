@@ -1,6 +1,6 @@
-use Rattle.std.proofs.Common.{◌≡◌, ◌≤◌, ◌++◌, ◌∷◌, [], length, map, List, max, arith, rules, ap, sym, subst, ◌∙◌}
+use Rattle.std.proofs.Common.{◌≡◌, ◌≤◌, ◌++◌, ◌∷◌, [], map, arith, rules, ap, ◌∙◌}
 use Rattle.std.proofs.lemmas.List.{length-map}
-use Rattle.version_log.specs.Log.{Log, Entry, expired, puts_in, floor_of}
+use Rattle.version_log.specs.Log.{expired, puts_in, floor_of}
 use Rattle.flight_core.specs.Versions.{numbered}
 use Rattle.version_log.proofs.Logs.{floor_of-expired}
 use Rattle.flight_core.proofs.Versions.{kept_length, stored_cut}

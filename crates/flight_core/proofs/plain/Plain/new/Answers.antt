@@ -1,6 +1,5 @@
-use Rattle.std.proofs.Common.{◌≡◌, [], ◌∷◌, map, List, subst, sym, ap, ◌∙◌, rules}
-use Rattle.table_versions.specs.Stored.{VersionAt}
-use Rattle.flight_core.specs.Versions.{numbered, AreKept}
+use Rattle.std.proofs.Common.{◌≡◌, [], ◌∷◌, rules}
+use Rattle.flight_core.specs.Versions.{numbered}
 use Rattle.flight_core.proofs.Versions.{first_kept}
 use Rattle.flight_core.proofs.plain.Plain.new.Goals as goal
 

@@ -1,6 +1,6 @@
-use Rattle.std.proofs.Common.{◌≡◌, ◌+◌, suc, length, map, arith, ap, subst}
+use Rattle.std.proofs.Common.{map, arith, ap}
 use Rattle.std.proofs.lemmas.List.{length-map}
-use Rattle.version_log.specs.Log.{Log, puts_in, floor_of}
+use Rattle.version_log.specs.Log.{puts_in}
 use Rattle.flight_core.specs.Versions.{numbered}
 use Rattle.flight_core.proofs.Versions.{kept_length}
 use Rattle.flight_core.proofs.plain.Plain.newest.Goals as goal
