@@ -59,8 +59,8 @@ pub trait Listen {
     // What came of an accept: a connection of these ends, or none.
     ghost accepts: { Self → Option Ends → Self → Type 0 };
 
-    // What came of closing a connection that left these ends.
-    ghost closes: { Self → Ends → Self → Type 0 };
+    // What came of closing the connection that is open.
+    ghost closes: { Self → Self → Type 0 };
 
     // The port that is listened to.
     ghost port_of: { Self → ℕ };
@@ -119,8 +119,7 @@ pub trait Listen {
     fn done(&mut self, reader: Self::Reader, writer: Self::Writer)
         requires served { (made : Ends) × holds self.old made
             × owed made (ends_of (Self.Reader.remaining reader) (Self.Writer.contents writer)) }
-        ensures closed { closes self.old
-            (ends_of (Self.Reader.remaining reader) (Self.Writer.contents writer)) self.new }
+        ensures closed { closes self.old self.new }
         ensures idle { idle self.new }
         ensures port { port_of self.new ≡ port_of self.old };
 }
