@@ -19,7 +19,7 @@ ServesRest {L} accepts moves options more patience result old new =
 no_closing : {L : Type 0} (accepts : L → Option Ends → L → Type 0) (closes : L → L → Type 0) (failed : ℕ) (old new : L) → FailsSo accepts failed old new
     → FailsSo (AcceptsThenCloses accepts closes) failed old new
 no_closing {L} accepts closes zero old new passed = passed
-no_closing {L} accepts closes (suc failed) old new passed = (passed.0, (no_closing accepts closes failed old passed.0 passed.1, passed.2))
+no_closing {L} accepts closes (suc failed) old new passed = (passed.0, no_closing accepts closes failed old passed.0 passed.1, passed.2)
 
 -- accepts that failed, before what follows
 failed_before : {L : Type 0} (accepts : L → Option Ends → L → Type 0) (moves : Moves) (options : Options) (more failed patience : ℕ) (result : Result (Unit {0}) Fault) (old middle : L) (seat : Seat) (new : Worker L)
@@ -70,7 +70,7 @@ one_more {L} accepts closes moves options served start old middle new seat input
     let turns : L → Option Ends → L → Type 0 = AcceptsThenCloses accepts closes in
     let first : Serves moves options result (connection_of input output 0 0 seat) last = rw (unread, unwritten) at serves in
     let next : ServesRest turns moves options (suc more) (suc (99 - takes.failed)) end (worker_of takes.listener seat) final
-    = (Took new (ends_of input output) result last ∷ rest.0, ((middle, (takes.took, closed)), first, rest.1)) in
+    = (Took new (ends_of input output) result last ∷ rest.0, ((middle, takes.took, closed), first, rest.1)) in
     let all : ServesRest turns moves options (suc more) (suc (99 - takes.failed) + takes.failed) end (worker_of old seat) final
     = failed_before turns moves options more takes.failed (suc (99 - takes.failed)) end old takes.listener seat final
     (no_closing accepts closes takes.failed old takes.listener takes.passed) next in

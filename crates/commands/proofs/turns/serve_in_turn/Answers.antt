@@ -22,7 +22,7 @@ accept_next-requires-clause-announced g c = c.requires.announced ∙ sym c.loop.
 pub done-requires : goal.done-requires
 done-requires g c =
     let serves = rw (c.in_ok-reader.ensures.reads, c.in_ok-reader.ensures.writes) at c.serve.ensures in
-    (_, c.in_ok-reader.ensures.holds, c.requires.owed _ _ (_, _, _, serves, refl))
+    record { served = (_, c.in_ok-reader.ensures.holds, c.requires.owed _ _ (_, _, _, serves, refl)) }
 
 pub loop-preserved : goal.loop-preserved
 loop-preserved g c = (
