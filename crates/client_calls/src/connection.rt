@@ -25,10 +25,10 @@ use std::marker::Model;
 /// Where a write of a call failed, or its answer did not come to its Status, the connection has stopped: each further call
 /// gives the same fault, and does nothing.
 pub struct Connection<R: Input, W: Output> {
-    inbox: Inbox,
-    reader: R,
-    writer: W,
-    stopped: Option<Fault>,
+    pub(crate) inbox: Inbox,
+    pub(crate) reader: R,
+    pub(crate) writer: W,
+    pub(crate) stopped: Option<Fault>,
 }
 
 // Written out, so that dropping it is one call (docs/DECISIONS.md).
@@ -120,7 +120,7 @@ impl<R: Input, W: Output> Connection<R, W> {
     }
 
     // Writes a call.
-    fn send(&mut self, alloc: Global, method: Method, messages: &[Payload]) -> Result<(), Fault>
+    pub(crate) fn send(&mut self, alloc: Global, method: Method, messages: &[Payload]) -> Result<(), Fault>
         requires writes { CanFail (self.old.outgoing.failed) }
         requires is_open { IsOpen self.old }
         ensures { SendsCall result method messages.now self.old self.new }

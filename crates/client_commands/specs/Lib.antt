@@ -4,6 +4,7 @@ pub mod Lines
 pub mod Fetching
 pub mod Handles
 pub mod Spread
+pub mod Streaming
 pub mod Names
 pub mod Commands
 pub mod inside

@@ -1,3 +1,4 @@
 -- What only the contracts of private functions cite.
 pub mod Naming
 pub mod Parts
+pub mod Passing
