@@ -11,9 +11,9 @@ mod connection;
 mod expiring;
 mod failure;
 mod fetching;
-mod payloads;
 mod putting;
 mod streaming;
+mod taken;
 
 pub use crate::asking::info;
 pub use crate::call::Method;

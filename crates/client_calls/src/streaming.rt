@@ -1,22 +1,24 @@
 //! Fetching a stream batch by batch.
 
-ghost use Rattle.std.specs.Prelude.{◌≡◌, ◌<◌, ◌≤◌, [], Ok, Err, Some, IfOk, IfSome, MatchResult, length};
+ghost use Rattle.std.specs.Prelude.{◌≡◌, ◌<◌, ◌≤◌, [], ◌∷◌, Ok, Err, Some, IfOk, IfSome, MatchResult, length};
 ghost use Rattle.arrow_schema.specs.Schema.{IsSchema};
 ghost use Rattle.scan_base.specs.Limits.{most_columns};
 ghost use Rattle.grpc_frame.specs.Ends.{CanFail};
 ghost use Rattle.ipc_batch.specs.State.{Known};
 ghost use Rattle.ipc_batch.specs.Said.{HasColumns};
-ghost use Rattle.flight_info.specs.Payloads.{Payload};
+ghost use Rattle.flight_info.specs.Payloads.{Payload as Bytes};
 ghost use Rattle.flight_client.specs.Stream.{StreamAt};
-ghost use Rattle.client_calls.specs.Outcome.{Line};
-ghost use Rattle.client_calls.specs.Taking.{BeginsFetch, FetchGives, IsFetching, IsTaken, KeepsSchema, TakesNext};
-ghost use Rattle.client_calls.specs.inside.Parts.{IsOpen};
+ghost use Rattle.client_calls.specs.declared.call.Method.TheVariants.{DoGet};
+ghost use Rattle.client_calls.specs.Answers.{AnswersStream};
+ghost use Rattle.client_calls.specs.Outcome.{Calls, Line};
+ghost use Rattle.client_calls.specs.Taking.{BeginsFetch, FetchGives, IsFetching, KeepsSchema, TakesNext};
+ghost use Rattle.client_calls.specs.inside.Parts.{IsOpen, SendsCall};
 
-use crate::call::Method;
+use crate::call::{Method, Payload};
 use crate::connection::Connection;
 use crate::failure::Failure;
 use crate::fetching::ticket_payload;
-use crate::payloads::{Took, take_batch, take_payload};
+use crate::taken::{Took, take_batch, take_payload};
 use arrays::Batch;
 use arrow_schema::Schema;
 use flight_client::StreamReader;
@@ -116,7 +118,7 @@ impl<R: Input + Drop, W: Output + Drop> Fetching<R, W> {
     /// Those of `fetch`.
     pub fn next(&mut self, alloc: Global) -> Result<Option<Batch>, Failure>
         requires { CanFail (self.old.line.incoming.failed) }
-        ensures next { (ticket : Payload) (stream : StreamAt) (begun : Line) → stream.state ≡ self.old.state →
+        ensures next { (ticket : Bytes) (stream : StreamAt) (begun : Line) → stream.state ≡ self.old.state →
             IsFetching ticket stream begun self.old.line →
             TakesNext ticket stream begun result self.new.state self.new.line }
         ensures columns { IfOk result (λ batch. HasColumns batch self.new.state) }
@@ -162,6 +164,22 @@ impl<R: Input + Drop, W: Output + Drop> Fetching<R, W> {
     }
 }
 
+// Writes a fetch.
+fn send_fetch<R: Input, W: Output>(
+    alloc: Global,
+    connection: &mut Connection<R, W>,
+    messages: &[Payload],
+) -> Result<(), Failure>
+    requires writes { CanFail (connection.old.outgoing.failed) }
+    requires is_open { IsOpen connection.old }
+    ensures { MatchResult result
+        (λ _. SendsCall (Ok tt) DoGet messages.now connection.old connection.new)
+        (λ failure. Calls DoGet messages.now AnswersStream (Err failure) connection.old connection.new) }
+{
+    connection.send(alloc, Method::DoGet, messages)?;
+    Ok(())
+}
+
 // Asks for what a ticket stands for.
 fn ask<R: Input, W: Output>(
     alloc: Global,
@@ -170,13 +188,12 @@ fn ask<R: Input, W: Output>(
 ) -> Result<(), Failure>
     requires { CanFail (connection.old.outgoing.failed) }
     ensures { MatchResult result
-        (λ _. IsTaken ticket.now [] connection.old connection.new)
+        (λ _. IsOpen connection.old × SendsCall (Ok tt) DoGet (ticket.now ∷ []) connection.old connection.new)
         (λ failure. FetchGives ticket.now (Err failure) connection.old connection.new) }
 {
     connection.check()?;
     let payloads = ticket_payload(alloc, ticket)?;
-    connection.send(alloc, Method::DoGet, &payloads)?;
-    Ok(())
+    send_fetch(alloc, connection, &payloads)
 }
 
 // Takes the first payload of an answer, which says the schema.
@@ -186,15 +203,10 @@ fn take_schema<R: Input + Drop, W: Output + Drop>(
 ) -> Result<Fetching<R, W>, Failure>
     requires reads { CanFail (connection.incoming.failed) }
     requires is_open { IsOpen connection }
-    ensures { (ticket : Payload) (begun : Line) → IsTaken ticket [] begun connection →
+    ensures { (ticket : Bytes) (begun : Line) → SendsCall (Ok tt) DoGet (ticket ∷ []) begun connection →
         BeginsFetch (λ fetching. fetching) ticket result begun }
 {
-    let Connection {
-        mut inbox,
-        mut reader,
-        writer,
-        stopped: _,
-    } = connection;
+    let (mut inbox, mut reader, writer) = connection.into_parts();
     let mut stream = StreamReader::new();
     match take_payload(alloc, &mut inbox, &mut reader, &mut stream) {
         Ok(Ok(Took::Payload(_))) => {

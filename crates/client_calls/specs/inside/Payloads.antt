@@ -1,5 +1,5 @@
 -- Inside: what one payload of a fetch gives, and what a turn of taking does.
-use Rattle.std.specs.Prelude.{◌≡◌, ◌≢◌, ◌⊎◌, ℕ, List, [], ◌∷◌, Option, Some, None, Result, Ok, Err}
+use Rattle.std.specs.Prelude.{◌≡◌, ◌≢◌, ◌⊎◌, ℕ, List, Option, Some, None, Result, Ok, Err}
 use Rattle.std.specs.Io.KnownBytes.{Consumes}
 use Rattle.scan_base.specs.declared.fault.Fault.{Fault}
 use Rattle.scan_base.specs.declared.fault.Fault.TheVariants.{OutOfMemory}
@@ -12,8 +12,8 @@ use Rattle.flight_client.specs.Stream.{StreamAt, Came, payload_glance, payload_n
 use Rattle.client_calls.specs.declared.answer.Arrival.TheVariants as arrival
 use Rattle.client_calls.specs.declared.failure.Failure.{Failure}
 use Rattle.client_calls.specs.declared.failure.Failure.TheVariants.{Answered}
-use Rattle.client_calls.specs.declared.payloads.Took.{Took}
-use Rattle.client_calls.specs.declared.payloads.Took.TheVariants as took
+use Rattle.client_calls.specs.declared.taken.Took.{Took}
+use Rattle.client_calls.specs.declared.taken.Took.TheVariants as took
 use Rattle.client_calls.specs.Answers.{AnswersStream, Incoming, Stands}
 use Rattle.client_calls.specs.Taking.{Taken, ended, with_batch}
 use Rattle.client_calls.specs.inside.Arriving.{ArrivesAs}

@@ -50,6 +50,7 @@ pub(crate) fn take_payload<R: Input>(
         (with_more inbox.old came) inbox.new }
     ensures place { inbox.new.place ≡ InAnswer }
     ensures columns { IfOk result (λ took. IfOk took (λ one. HasColumns (batch_in one) stream.new)) }
+    ensures kept { KeepsSchema stream.old stream.new }
     ensures fewer { IfOk result (λ _.
         work_left (R.turns reader.new) inbox.new < work_left (R.turns reader.old) inbox.old) }
 {
