@@ -1,4 +1,4 @@
-"""Cases of the programs `put`, `query` and `tables`: what each prints, and how it ends."""
+"""Cases of the programs `put`, `query`, `tables` and `expire`: what each prints, and how it ends."""
 
 from __future__ import annotations
 
@@ -14,12 +14,12 @@ import trees
 import wire
 from framing import END
 from layout import written
-from loopback import SECONDS, Server
-from random_calls.answers import same
+from loopback import SECONDS, Connection, Server
+from random_calls.answers import Refusal, same
 from random_calls.plain_model import Column, Put, Row, Table
 from random_calls.puts import RANGES, stream_of
 from reader import Reader
-from served.cases import A, Run, case, status_of
+from served.cases import A, Run, ask, case, fetch_of, rows_of, status_of
 from trips import STREAM
 
 TRIPS = STREAM.read_bytes()
@@ -42,6 +42,10 @@ def query(run: Run, server: Server, text: str, *options: str) -> tuple[int, byte
 
 def tables(run: Run, server: Server) -> tuple[int, bytes, bytes]:
     return typed(run, "tables", "--port", str(server.port))
+
+
+def expire(run: Run, server: Server, version: int) -> tuple[int, bytes, bytes]:
+    return typed(run, "expire", "--port", str(server.port), "--version", str(version))
 
 
 def printed(*lines: str) -> tuple[int, bytes, bytes]:
@@ -241,6 +245,33 @@ def printed_dates(run: Run) -> None:
         same("lines of the copy", lines, query(run, server, "SELECT * FROM copy"))
 
 
+# ---- versions
+
+
+@case("expire: the floor, which never falls; a fetch below it is F19, one of a version that was never reached F18")
+def expired_versions(run: Run) -> None:
+    text = "SELECT a FROM t"
+    with run.serving() as server, Connection(server.port) as connection:
+        same("expire of nothing", printed("floor 0"), expire(run, server, 0))
+        same("no version", answered("F18 VersionUnknown"), expire(run, server, 1))
+        for last in (1, 2, 3):
+            made = put(run, server, "t", stream(A, [(row,) for row in range(last)]), "replace")
+            same(f"put of version {last}", printed(f"{last} rows"), made)
+        for version in (1, 2, 3):
+            ask(connection, fetch_of(version, 0, version, text), rows_of(A, *((row,) for row in range(version))))
+        for version, floor in ((2, 2), (1, 2), (0, 2), (3, 3), (2, 3)):
+            same(f"expire {version}", printed(f"floor {floor}"), expire(run, server, version))
+            for old in range(floor):
+                ask(connection, fetch_of(old, 0, old, text), Refusal("F19"))
+        for version in (4, 2**32 - 1):
+            same(f"expire {version}", answered("F18 VersionUnknown"), expire(run, server, version))
+        ask(connection, fetch_of(3, 0, 3, text), rows_of(A, (0,), (1,), (2,)))
+        ask(connection, fetch_of(4, 0, 3, text), Refusal("F18"))
+        same("query", printed("a", "0", "1", "2"), query(run, server, text))
+        same("put", printed("1 rows"), put(run, server, "t", stream(A, [(7,)]), "append"))
+        same("the put made version 4", printed("floor 4"), expire(run, server, 4))
+
+
 # ---- streams
 
 
@@ -286,7 +317,8 @@ LINES = [[], ["another"], ["--help"], ["put", "--help"], ["pipe", "--parts", "0"
          ["serve", "--port", "0", "--accept", "65536"], ["serve", "--port", "0", "--workers", "17"],
          ["put", "--port", "1", "--table", "t"], ["put", "--port", "1", "--table", "t", "--mode", "upsert"],
          ["query", "--port", "1"], ["query", "--port", "1", "--streams", "17", "SELECT * FROM t"],
-         ["tables", "--port", "x"]]
+         ["tables", "--port", "x"], ["serve", "--port", "0", "--keep", "65537"], ["put", "--port", "1", "--progress", "1"],
+         ["expire", "--port", "1"], ["expire", "--version", "1"], ["expire", "--port", "1", "--version", "4294967296"]]
 
 
 @case("command lines that don't parse or ask for help: a text on standard error, and status 2; and the version, with status 0")
@@ -310,6 +342,7 @@ def no_connection(run: Run) -> None:
     port = free_port()
     look_at_transport("tables", typed(run, "tables", "--port", port), port)
     look_at_transport("query", typed(run, "query", "--port", port, "SELECT * FROM t"), port)
+    look_at_transport("expire", typed(run, "expire", "--port", port, "--version", "0"), port)
     look_at_transport("put", typed(run, "put", "--port", port, "--table", "t", "--mode", "create", data=TRIPS), port)
     with socket.create_server(("127.0.0.1", 0)) as taken:
         port = str(taken.getsockname()[1])

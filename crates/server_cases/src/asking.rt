@@ -102,7 +102,11 @@ pub(crate) fn endpoints_of(alloc: Global, wire: &Wire) -> Result<Vec<FlightEndpo
 }
 
 // The stream of an endpoint.
-fn fetched(alloc: Global, wire: &Wire, endpoint: &FlightEndpoint) -> Result<Stream, Failure> {
+pub(crate) fn fetched(
+    alloc: Global,
+    wire: &Wire,
+    endpoint: &FlightEndpoint,
+) -> Result<Stream, Failure> {
     let mut connection = Connection::new(alloc, Counted::new(wire), Counted::new(wire));
     fetch(alloc, &mut connection, &endpoint.ticket)
 }

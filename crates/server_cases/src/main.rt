@@ -5,6 +5,7 @@
 mod asking;
 mod at_once;
 mod clients;
+mod expiring;
 mod formats;
 mod serving;
 mod side_by_side;
@@ -31,6 +32,8 @@ fn main(rt: HostRuntime) -> io::Result<()> {
     println!(rt; "five commands: {commands}")?;
     let formats = beside(&rt, 8, Client::Formats)?;
     println!(rt; "formats: {formats}")?;
+    let expired = beside(&rt, 4, Client::Expires)?;
+    println!(rt; "expired versions: {expired}")?;
     let port = told_port(&rt)?;
     println!(rt; "nobody listens: {port}")?;
     for case in PUTS.iter() {

@@ -3,6 +3,7 @@
 use crate::asking::connected;
 use crate::at_once::{stay_open, stay_whole};
 use crate::clients::run_commands;
+use crate::expiring::expire_old;
 use crate::formats::run_formats;
 use crate::texts::push_text;
 use client_calls::Failure;
@@ -32,6 +33,8 @@ pub(crate) enum Client {
     Commands,
     // The formats of `query`.
     Formats,
+    // Old versions that are expired.
+    Expires,
 }
 
 // Has a client call the server at this port, and adds what comes of it.
@@ -44,6 +47,7 @@ where
         Client::StaysWhole => stay_whole(rt, port, told),
         Client::Commands => run_commands(rt, port, told),
         Client::Formats => Ok(run_formats(rt, port, told)?),
+        Client::Expires => expire_old(rt, port, told),
     }
 }
 
@@ -110,6 +114,7 @@ where
         seats: 2,
         accept,
         idle: 0,
+        keep: 0,
         parts: 2,
         workers: 1,
     };
