@@ -124,6 +124,7 @@ impl<R: Input + Drop, W: Output + Drop> Fetching<R, W> {
         ensures columns { IfOk result (λ batch. HasColumns batch self.new.state) }
         ensures few { IfOk result (λ batch. IfSome batch (λ b. length b.columns ≤ most_columns)) }
         ensures kept { KeepsSchema self.old.state self.new.state }
+        ensures quiet { IfOk result (λ _. self.new.line.incoming.failed ≡ self.old.line.incoming.failed) }
         ensures fewer { IfOk result (λ batch. IfSome batch (λ _. self.new.work < self.old.work)) }
     {
         if let Some(fault) = self.stopped {

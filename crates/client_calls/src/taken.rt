@@ -51,6 +51,7 @@ pub(crate) fn take_payload<R: Input>(
     ensures place { inbox.new.place ≡ InAnswer }
     ensures columns { IfOk result (λ took. IfOk took (λ one. HasColumns (batch_in one) stream.new)) }
     ensures kept { KeepsSchema stream.old stream.new }
+    ensures quiet { IfOk result (λ _. R.failures reader.new ≡ R.failures reader.old) }
     ensures fewer { IfOk result (λ _.
         work_left (R.turns reader.new) inbox.new < work_left (R.turns reader.old) inbox.old) }
 {
@@ -83,6 +84,7 @@ pub(crate) fn take_batch<R: Input>(
     ensures place { inbox.new.place ≡ InAnswer }
     ensures columns { IfOk result (λ took. IfOk took (λ batch. HasColumns batch stream.new)) }
     ensures kept { KeepsSchema stream.old stream.new }
+    ensures quiet { IfOk result (λ _. R.failures reader.new ≡ R.failures reader.old) }
     ensures fewer { IfOk result (λ took. IfOk took (λ found. IfSome found (λ _.
         work_left (R.turns reader.new) inbox.new < work_left (R.turns reader.old) inbox.old))) }
 {

@@ -1,4 +1,3 @@
-pub mod Failed
 pub mod Fetched
 pub mod Parts
 pub mod Spread

@@ -7,4 +7,5 @@ pub mod Spread
 pub mod Streaming
 pub mod Names
 pub mod Commands
+pub mod Queries
 pub mod inside

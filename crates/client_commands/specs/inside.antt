@@ -2,3 +2,4 @@
 pub mod Naming
 pub mod Parts
 pub mod Passing
+pub mod Forms

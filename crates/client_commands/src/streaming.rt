@@ -31,17 +31,6 @@ struct Passing<R: Input, W: Output> {
     writer: StreamWriter,
 }
 
-// Written out, so that dropping it is one call (docs/DECISIONS.md).
-impl<R: Input + Drop, W: Output + Drop> Drop for Passing<R, W> {
-    fn drop(self) {
-        let Passing {
-            connection: _,
-            schema: _,
-            writer: _,
-        } = self;
-    }
-}
-
 impl<R: Input, W: Output> Model for Passing<R, W> {
     ghost use Rattle.client_commands.specs.inside.Passing.{PassingAt};
 
