@@ -39,5 +39,7 @@ fn main(rt: HostRuntime) -> io::Result<()> {
     let seen = several::two_put_by_one_lock(&rt, alloc, seed);
     println!(rt; "{}", line(alloc, "two_put_by_one_lock", seen)?)?;
     let seen = told::one_seat_tells_another(&rt, alloc, seed);
-    println!(rt; "{}", line(alloc, "one_seat_tells_another", seen)?)
+    println!(rt; "{}", line(alloc, "one_seat_tells_another", seen)?)?;
+    let seen = told::one_seat_holds_what_expires(&rt, alloc, seed);
+    println!(rt; "{}", line(alloc, "one_seat_holds_what_expires", seen)?)
 }

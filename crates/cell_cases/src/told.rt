@@ -3,9 +3,9 @@
 ghost use Rattle.std.specs.Prelude.{◌≡◌};
 ghost use Rattle.version_cell.specs.Blanks.{IsNamed};
 
-use crate::rows::put_through;
+use crate::rows::{put_through, rows_of};
 use hash_seed::HashSeed;
-use scan_base::Fault;
+use scan_base::{Fault, Text};
 use std::alloc::Global;
 use std::sync::Wait;
 use version_cell::{Blank, Brand, CellName, Scanner, SharedPutter, open};
@@ -54,4 +54,38 @@ fn told_by_another<C: CellName, R: Wait>(
     all.take(behind);
     let whole = shared.whole_log(rt, all).number();
     Ok(format!(in alloc; "{} {told} {before} {learnt} {whole}", put?)?)
+}
+
+/// One of two seats holds version 1, while an expiry through the other drops it: the floor, the fault of a look at that version, how
+/// many rows the one that is held has, and how many puts there are in all.
+pub fn one_seat_holds_what_expires<R: Wait>(
+    rt: &R,
+    alloc: Global,
+    seed: HashSeed,
+) -> Result<String, Fault> {
+    let blank = open(alloc, seed, 2)?;
+    held_beside::<Brand, R>(rt, alloc, blank)
+}
+
+fn held_beside<C: CellName, R: Wait>(rt: &R, alloc: Global, blank: Blank) -> Result<String, Fault>
+    requires cell { IsNamed blank C.book C.name C.parts }
+    requires seats { blank.seats ≡ 2 }
+{
+    let table = Text::new(alloc, "t")?;
+    let (putter, mut seats) = blank.named::<C, &R>(alloc, rt)?;
+    let shared = SharedPutter::new(putter);
+    let (Some(mut writer), Some(mut holder)) = (seats.pop(), seats.pop()) else {
+        return Ok(String::from_str(alloc, "fewer seats")?);
+    };
+    let first = put_through(rt, alloc, &shared, &mut writer);
+    let second = put_through(rt, alloc, &shared, &mut writer);
+    let held = holder.at(1);
+    let floor = shared.expire(rt, alloc, &mut writer, 2);
+    let gone = holder.at(1).err();
+    let mut all = shared.gather(rt);
+    all.take(writer);
+    all.take(holder);
+    let whole = shared.whole_log(rt, all).number();
+    let (_, _, held, floor) = (first?, second?, held?, floor?);
+    Ok(format!(in alloc; "{floor} {gone:?} {} {whole}", rows_of(&held, &table))?)
 }

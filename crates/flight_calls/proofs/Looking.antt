@@ -13,12 +13,12 @@ use Rattle.fetch_stream.specs.Streams.{StreamAt}
 use Rattle.flight_core.specs.Asked.{schema, fetch}
 use Rattle.version_log.specs.Log.{Log, database_of, puts_in}
 use Rattle.flight_core.specs.Machine.{StepOn, OpensIn}
+use Rattle.flight_core.specs.Refusals.{RefusedBy}
 use Rattle.flight_calls.specs.Calls.{info_asked}
 use Rattle.flight_calls.specs.declared.answer.Answer.TheVariants.{Whole}
 use Rattle.flight_calls.specs.Answered.{ReactsBy}
 use Rattle.flight_calls.specs.Reacts.{Looks}
 use Rattle.flight_calls.specs.Seats.{Seat, Moves, Learns}
-use Rattle.flight_calls.specs.Stepping.{RefusedBy}
 use Rattle.flight_calls.proofs.Fetching.{not_opened}
 use Rattle.flight_calls.proofs.Reacting.{goes_by_look}
 

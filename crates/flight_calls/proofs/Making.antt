@@ -1,4 +1,4 @@
--- The puts that a connection makes.
+-- The entries that a connection makes.
 use Rattle.std.proofs.Common.{◌≡◌, List, [], ◌∷◌, ◌++◌, Option, Some, None, Result, Ok, Err, sym, ap, ◌∙◌, append-nil, append_assoc}
 use Rattle.std.proofs.lemmas.List.{append_cancel_left}
 use Rattle.scan_base.specs.declared.fault.Fault.{Fault}

@@ -2,7 +2,6 @@ pub mod Calls
 pub mod Counts
 pub mod Seats
 pub mod Reacts
-pub mod Stepping
 pub mod Owed
 pub mod Ending
 pub mod Requests

@@ -12,7 +12,7 @@ pub fn failed_reads_answer_all<B: Backend>()
     ensures { FailedReadsAnswerAll B.moves }
 {}
 
-/// A connection makes the accepted puts of its whole calls, in order, and no other, over any backend.
+/// A connection makes the accepted puts and the marks of its whole calls, in order, and no other entry, over any backend.
 pub fn puts_are_made<B: Backend>()
     ensures { PutsAreMade B.moves }
 {}
@@ -30,7 +30,8 @@ pub fn served_meets_headline()
     runs_meet_headline();
 }
 
-/// What a call leaves is where every later call of the connection starts, but for a put that was read, over any backend.
+/// What a call leaves is where every later call of the connection starts, but for a put or an expiry that was read, over any
+/// backend.
 pub fn later_calls_see<B: Backend>()
     ensures { LaterCallsSee B.moves }
 {}

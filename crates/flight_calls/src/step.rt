@@ -10,12 +10,11 @@ ghost use Rattle.flight_core.specs.Asked.{put, schema, fetch, expire};
 ghost use Rattle.version_log.specs.Log.{puts_in, floor_of, version};
 ghost use Rattle.flight_core.specs.Machine.{OpensIn};
 ghost use Rattle.flight_core.specs.Puts.{put_glance, put_said};
-ghost use Rattle.flight_core.specs.Refusals.{GivesBehind};
+ghost use Rattle.flight_core.specs.Refusals.{GivesBehind, RefusedBy};
 ghost use Rattle.flight_calls.specs.Calls.{info_asked};
 ghost use Rattle.flight_calls.specs.Seats.{Learns};
 ghost use Rattle.flight_calls.specs.Reacts.{Reacts};
 ghost use Rattle.flight_calls.specs.Answered.{ReactsBy, FitsMessages};
-ghost use Rattle.flight_calls.specs.Stepping.{RefusedBy};
 
 use crate::answer::Answer;
 use crate::backend::Backend;

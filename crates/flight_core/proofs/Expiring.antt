@@ -1,9 +1,9 @@
 -- Expiries, as they are answered.
-use Rattle.std.proofs.Common.{◌≡◌, ◌<◌, ◌≤◌, ℕ, Bool, true, false, nat_le, rules, List, [], ◌∷◌, length, length-append, Some, None, Result, Ok, Err, refl, ap, sym, ◌∙◌, max, arith, inl, inr}
+use Rattle.std.proofs.Common.{◌≡◌, ◌<◌, ◌≤◌, ℕ, Bool, true, false, nat_le, rules, List, [], ◌∷◌, length, length-append, None, Ok, Err, refl, ap, sym, ◌∙◌, max, arith, inl, inr}
 use Rattle.std.specs.Prelude.{IsOk}
 use Rattle.byteorder.specs.Endian.{big_bytes}
 use Rattle.scan_base.specs.declared.fault.Fault.{Fault}
-use Rattle.scan_base.specs.declared.fault.Fault.TheVariants.{OutOfMemory, VersionUnknown}
+use Rattle.scan_base.specs.declared.fault.Fault.TheVariants.{VersionUnknown}
 use Rattle.scan_base.specs.Limits.{most_message_bytes}
 use Rattle.scan_base.specs.Reading.{◌>>=◌, demand}
 use Rattle.flight_proto.specs.Expiry.{expiry_of, floor_bytes}
@@ -15,7 +15,7 @@ use Rattle.version_log.specs.Log.{Log, puts_in, floor_of}
 use Rattle.version_log.proofs.Logs.{floor_of-expired}
 use Rattle.flight_info.specs.Payloads.{Payload}
 use Rattle.flight_info.proofs.Sizes.{short_chunk, short_set}
-use Rattle.flight_core.specs.Refusals.{RefusedFor}
+use Rattle.flight_core.specs.Refusals.{RefusedBy}
 use Rattle.flight_core.specs.Machine.{ExpireStep, expiry_due}
 
 -- the answer fits a message
@@ -44,20 +44,15 @@ answered_before log new action version floor said answers read is now whole =
     expired_reply log new action version floor answers read is (whole ∙ ap (λ (n : ℕ). floor_bytes n ∷ []) (sym behind))
 
 -- an action that does not read is refused for its own fault
-pub unread_expiry : (log : Log) (action : Payload) (fault : Fault) → expiry_of action ≡ Err fault → RefusedFor (expiry_of action) (expiry_due log action) fault
+pub unread_expiry : (log : Log) (action : Payload) (fault : Fault) → expiry_of action ≡ Err fault → RefusedBy (expiry_due log action) fault
 unread_expiry log action fault unread = rw unread refl
 
--- one that reads may be refused for want of memory
-pub tired_expiry : (log : Log) (action : Payload) (version : ℕ) → expiry_of action ≡ Ok version → RefusedFor (expiry_of action) (expiry_due log action) OutOfMemory
-tired_expiry log action version said = rw said (λ other. absurd (other refl))
-
--- the number is due where the log does not reach it
-pub refused_expiry : (log : Log) (action : Payload) (version : ℕ) (fault : Fault) → expiry_of action ≡ Ok version → RefusesExpiry fault log version
-    → RefusedFor (expiry_of action) (expiry_due log action) fault
-refused_expiry log action version fault said (inr tired) = rw said (λ other. absurd (other tired.0))
-refused_expiry log action version fault said (inl unknown) =
-    rw (said, unknown.0) (λ other. by (nat_le version (puts_in log)) refl)
+-- one whose number the log does not reach is refused for that, and another one for want of memory
+pub refused_expiry : (log : Log) (action : Payload) (version : ℕ) (fault : Fault) → expiry_of action ≡ Ok version → RefusesExpiry fault log version → RefusedBy (expiry_due log action) fault
+refused_expiry log action version fault said refuses = rw said (by (nat_le version (puts_in log)) refl refuses)
   where
-    by : (there : Bool) → nat_le version (puts_in log) ≡ there → (demand there VersionUnknown >>= λ _. Ok version) ≡ Err VersionUnknown
-    by false no = refl
-    by true yes = let within : version ≤ puts_in log = search (rules, yes) in absurd (omega (arith, unknown.1, within))
+    by : (there : Bool) → nat_le version (puts_in log) ≡ there → RefusesExpiry fault log version → RefusedBy (demand there VersionUnknown >>= λ _. Ok version) fault
+    by true reached (inr tired) = tired.0
+    by true reached (inl unknown) = let within : version ≤ puts_in log = search (rules, reached) in absurd (omega (arith, unknown.1, within))
+    by false above (inl unknown) = unknown.0
+    by false above (inr tired) = let above : puts_in log < version = search (rules, above) in absurd (omega (arith, tired.1, above))

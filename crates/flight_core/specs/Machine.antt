@@ -6,7 +6,7 @@ use Rattle.scan_base.specs.Reading.{◌>>=◌, demand}
 use Rattle.flight_proto.specs.Expiry.{expiry_of, floor_bytes}
 use Rattle.flight_proto.specs.PutResult.{rows_put_bytes}
 use Rattle.table_versions.specs.Database.{Database, Put, after}
-use Rattle.flight_core.specs.Refusals.{RefusedFor}
+use Rattle.flight_core.specs.Refusals.{RefusedFor, RefusedBy}
 use Rattle.flight_info.specs.Payloads.{Payload}
 use Rattle.flight_core.specs.Asked.{Asked, put, info, tables, schema, fetch, expire}
 use Rattle.flight_info.specs.Replies.{ReplyAt}
@@ -40,13 +40,12 @@ expiry_due log action = do
   Ok version
 
 -- An expiry: its mark stands at the end of the log, and it is answered by the floor behind it. A refused one changes nothing
--- and has no payload: an action that does not read is refused for its own fault, and else for the number, or because memory
--- was refused.
+-- and has no payload: it is refused for its first fault, or where it has none because memory was refused.
 abbrev pub ExpireStep : Log → Payload → List Payload → Option Fault → Log → Type 0
 ExpireStep log action answers None new = (version : ℕ) × (expiry_of action ≡ Ok version) × (version ≤ puts_in log)
     × (new ≡ log ++ expired version ∷ []) × (answers ≡ floor_bytes (floor_of new) ∷ [])
 ExpireStep log action answers (Some fault) new = (new ≡ log) × (answers ≡ [])
-    × RefusedFor (expiry_of action) (expiry_due log action) fault
+    × RefusedBy (expiry_due log action) fault
 
 -- the answer to what a fetch shows: the fault that is seen there, or the answer at the handle's version
 abbrev pub FetchBy : Log → Result HandleAt Fault → List Payload → Option Fault → Type 0

@@ -106,7 +106,7 @@ fn floor_answer(alloc: Global, floor: u64) -> Result<Vec<Bytes>, AllocError>
     Ok(payloads)
 }
 
-// Answers an expiry. Its answer is made first.
+// Answers an expiry. Its number is looked at first, and then its answer is made.
 fn step_expiry(alloc: Global, plain: &mut Plain, action: &[u8]) -> Reply
     ensures step { ExpireStep plain.old action.now result.payloads result.fault plain.new }
     ensures puts { ArePuts plain.old → ArePuts plain.new }
@@ -116,6 +116,9 @@ fn step_expiry(alloc: Global, plain: &mut Plain, action: &[u8]) -> Reply
         Ok(version) => version,
         Err(fault) => return Reply::refusal(alloc, fault),
     };
+    if version > plain.current().number() {
+        return Reply::refusal(alloc, Fault::VersionUnknown);
+    }
     let Ok(answer) = floor_answer(alloc, plain.floor().max(version)) else {
         return Reply::refusal(alloc, Fault::OutOfMemory);
     };

@@ -99,7 +99,6 @@ where
             table,
             mode,
             form,
-            progress: _,
         } => {
             let target = Target { table, mode };
             let putting = Putting { port, target };
@@ -117,7 +116,6 @@ where
             format,
             streams,
             sql,
-            progress: _,
         } => {
             let querying = Querying {
                 port,

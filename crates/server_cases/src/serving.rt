@@ -3,7 +3,6 @@
 use crate::asking::connected;
 use crate::at_once::{stay_open, stay_whole};
 use crate::clients::run_commands;
-use crate::expiring::expire_old;
 use crate::formats::run_formats;
 use crate::texts::push_text;
 use client_calls::Failure;
@@ -33,8 +32,6 @@ pub(crate) enum Client {
     Commands,
     // The formats of `query`.
     Formats,
-    // Old versions that are expired.
-    Expires,
 }
 
 // Has a client call the server at this port, and adds what comes of it.
@@ -47,7 +44,6 @@ where
         Client::StaysWhole => stay_whole(rt, port, told),
         Client::Commands => run_commands(rt, port, told),
         Client::Formats => Ok(run_formats(rt, port, told)?),
-        Client::Expires => expire_old(rt, port, told),
     }
 }
 
@@ -114,7 +110,6 @@ where
         seats: 2,
         accept,
         idle: 0,
-        keep: 0,
         parts: 2,
         workers: 1,
     };

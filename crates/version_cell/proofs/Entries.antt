@@ -1,5 +1,5 @@
 -- Entries one by one, and logs of accepted puts.
-use Rattle.std.proofs.Common.{◌≡◌, ℕ, ◌+◌, ◌≤◌, false, true, [], ◌∷◌, ◌++◌, length, Option, Some, None, IsSome, IfSome, ap, ◌∙◌, arith, length-append}
+use Rattle.std.proofs.Common.{◌≡◌, ◌+◌, ◌≤◌, false, true, [], ◌∷◌, ◌++◌, length, Option, Some, None, IsSome, IfSome, ap, ◌∙◌, arith, length-append}
 use Rattle.version_log.specs.Log.{Entry, Log, added, expired, puts_of, puts_in, IsLog}
 use Rattle.version_log.proofs.Logs.{puts_of-append, is_log-added, is_log-expired}
 use Rattle.version_cell.specs.Puts.{after_log}

@@ -3,7 +3,7 @@ use Rattle.std.proofs.Common.{◌≡◌, ℕ, zero, suc, ◌+◌, ◌-◌, ◌<�
 use Rattle.std.proofs.lemmas.List.{length-drop, drop-append-le}
 use Rattle.std.proofs.Math.Seq.{drop-append-add}
 use Rattle.scan_base.specs.Limits.{most_commits}
-use Rattle.shared_pages.proofs.Lists.{slice_get-append_left, slice_get-append_right}
+use Rattle.shared_pages.proofs.Lists.{slice_get-append_right}
 use Rattle.table_versions.specs.Stored.{CatalogAt, VersionAt}
 use Rattle.version_index.specs.Index.{index_at, IsNewest}
 

@@ -1,4 +1,4 @@
-use Rattle.std.proofs.Common.{refl, rules, sym, subst, take_all}
+use Rattle.std.proofs.Common.{refl, rules, take_all}
 use Rattle.std.proofs.lemmas.Result.{err_from_is_err_and}
 use Rattle.flight_calls.proofs.Writing.{none_sent, message_sent, parcel_stopped}
 use Rattle.flight_calls.proofs.answer.send_parcel.Goals as goal

@@ -1,16 +1,26 @@
-use Rattle.std.proofs.Common.{refl, rules}
+use Rattle.std.proofs.Common.{◌<◌, ◌≤◌, refl, rules, arith, inl, inr}
+use Rattle.scan_base.specs.declared.fault.Fault.TheVariants.{OutOfMemory, VersionUnknown}
+use Rattle.version_log.specs.Log.{puts_in}
 use Rattle.version_log.proofs.Logs.{puts_of-expired}
-use Rattle.flight_core.proofs.Expiring.{answered_before, unread_expiry, tired_expiry, refused_expiry}
+use Rattle.flight_core.proofs.Expiring.{answered_before, unread_expiry, refused_expiry}
 use Rattle.flight_core.proofs.machine.step_expiry.Goals as goal
 
 pub returns-in-Err-clause-step : goal.returns-in-Err-clause-step
 returns-in-Err-clause-step c =
     rw c.refusal.ensures.reply (refl, refl, unread_expiry c.args.plain.now c.args.action.now c.in-Err.fault (rw c.in-Err.is at c.read_expiry.ensures))
 
+pub returns-then-version-number-clause-step : goal.returns-then-version-number-clause-step
+returns-then-version-number-clause-step c =
+    let above : puts_in c.args.plain.now < c.in-Ok.version = omega arith in
+    rw c.refusal-then-version-number.ensures.reply
+    (refl, refl, refused_expiry c.args.plain.now c.args.action.now c.in-Ok.version VersionUnknown (rw c.in-Ok.is at c.read_expiry.ensures) (inl (refl, above)))
+
 -- the answer could not be made
 pub returns-in_default-clause-step : goal.returns-in_default-clause-step
 returns-in_default-clause-step c =
-    rw c.refusal-in_default.ensures.reply (refl, refl, tired_expiry c.args.plain.now c.args.action.now c.in-Ok.version (rw c.in-Ok.is at c.read_expiry.ensures))
+    let within : c.in-Ok.version ≤ puts_in c.args.plain.now = omega arith in
+    rw c.refusal-in_default.ensures.reply
+    (refl, refl, refused_expiry c.args.plain.now c.args.action.now c.in-Ok.version OutOfMemory (rw c.in-Ok.is at c.read_expiry.ensures) (inr (refl, within)))
 
 pub returns-in-Ok-expire-clause-step : goal.returns-in-Ok-expire-clause-step
 returns-in-Ok-expire-clause-step c =

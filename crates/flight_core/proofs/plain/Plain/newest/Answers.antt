@@ -1,6 +1,6 @@
-use Rattle.std.proofs.Common.{◌≡◌, ◌+◌, suc, length, map, arith, ap, subst}
+use Rattle.std.proofs.Common.{map, arith, ap}
 use Rattle.std.proofs.lemmas.List.{length-map}
-use Rattle.version_log.specs.Log.{Log, puts_in, floor_of}
+use Rattle.version_log.specs.Log.{puts_in}
 use Rattle.flight_core.specs.Versions.{numbered}
 use Rattle.flight_core.proofs.Versions.{kept_length}
 use Rattle.flight_core.proofs.plain.Plain.newest.Goals as goal
@@ -14,3 +14,9 @@ returns-clause-number c =
 
 pub returns-clause-kept : goal.returns-clause-kept
 returns-clause-kept c = rw (← c.self.view_is) c.self.invariant.there
+
+pub overflow_sub-result : goal.overflow_sub-result
+overflow_sub-result c =
+    let kept = c.self.inside.kept.items in
+    let long = kept_length c.self.inside.floor (map numbered kept) c.self.inside.log.value.entries c.self.invariant in
+    omega (arith, long, length-map kept numbered, c.len.ensures)

@@ -1,11 +1,10 @@
-use Rattle.std.proofs.Common.{◌≡◌, ◌≤◌, arith, Ok}
+use Rattle.std.proofs.Common.{◌≡◌, Ok}
 use Rattle.std.proofs.lemmas.Result.{err_from_is_err_and}
-use Rattle.version_log.specs.Log.{puts_in, floor_of}
 use Rattle.table_versions.specs.Stored.{put_of, tables_of}
 use Rattle.version_index.specs.Versions.{IsIndexOf}
 use Rattle.version_index.proofs.Versions.{has_room, kept_more}
 use Rattle.version_cell.specs.Puts.{after_log}
-use Rattle.version_cell.proofs.Accepting.{few_before, first_for, none_first}
+use Rattle.version_cell.proofs.Accepting.{few_before, first_for}
 use Rattle.version_cell.proofs.shown.Store.after.Goals as goal
 
 pub with-requires : goal.with-requires

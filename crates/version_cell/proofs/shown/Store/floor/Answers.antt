@@ -1,4 +1,4 @@
-use Rattle.std.proofs.Common.{◌≡◌, ◌∙◌}
+use Rattle.std.proofs.Common.{◌∙◌}
 use Rattle.version_index.specs.Versions.{IsIndexOf}
 use Rattle.version_cell.proofs.shown.Store.floor.Goals as goal
 

@@ -1,6 +1,6 @@
 use Rattle.version_index.specs.Versions.{IsIndexOf}
 use Rattle.version_index.proofs.Versions.{newest_number, newest_tables}
-use Rattle.std.proofs.Common.{◌≡◌, arith}
+use Rattle.std.proofs.Common.{arith}
 use Rattle.version_cell.proofs.shown.Store.newest.Goals as goal
 
 pub returns-clause-number : goal.returns-clause-number

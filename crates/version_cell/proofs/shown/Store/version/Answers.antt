@@ -1,4 +1,3 @@
-use Rattle.std.proofs.Common.{◌≡◌}
 use Rattle.version_index.specs.Versions.{IsIndexOf}
 use Rattle.version_index.proofs.Versions.{is_there, version_found}
 use Rattle.version_cell.proofs.shown.Store.version.Goals as goal

@@ -1,4 +1,4 @@
-use Rattle.std.proofs.Common.{rules, ◌≡◌, ◌+◌, ◌≤◌, ◌∷◌, ◌++◌, [], length, map, ap, sym, subst, ◌∙◌, append_assoc}
+use Rattle.std.proofs.Common.{rules, ◌≡◌, ◌+◌, ◌≤◌, ◌∷◌, ◌++◌, [], length, map, sym, subst, append_assoc}
 use Rattle.std.specs.Arc.{arc_value}
 use Rattle.scan_base.specs.Limits.{most_commits}
 use Rattle.version_index.specs.Index.{IndexAt}
