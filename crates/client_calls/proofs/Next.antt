@@ -183,10 +183,12 @@ module _ (ticket : Payload) (begun : Line) (b : Option (List ℕ)) (y : ℕ) (mi
     First result = Now nothing begun.incoming.input b c y y z mid mid new none_has refl None after refl result
 
     -- its schema
-    begins_with_none : First (Ok (Ok (took.Payload None))) → IsBegun ticket after begun (line_of c z None new out)
-    begins_with_none takes = record {
+    begins_with_none : (known : Known) → after ≡ Some known → First (Ok (Ok (took.Payload None))) → IsBegun ticket after begun (line_of c z None new out)
+    begins_with_none known is takes = record {
       stream = with_batch nothing after None;
       state_is = refl;
+      known = known;
+      has_schema = is;
       no_rows = refl;
       fetching = goes_on ticket nothing begun b y mid out none_taken (with_batch nothing after None) c z new
           (on_payload nothing begun.incoming.input b c y y z mid mid new none_has refl None after refl None takes);
@@ -197,7 +199,9 @@ module _ (ticket : Payload) (begun : Line) (b : Option (List ℕ)) (y : ℕ) (mi
     first_known batch takes = schema_first takes.2.0 (record { state = after; batch = batch }) takes.2.2
 
     pub begins : (batch : Option BatchAt) → First (Ok (Ok (took.Payload batch))) → IsBegun ticket after begun (line_of c z None new out)
-    begins batch takes = begins_with_none (subst (λ (found : Option BatchAt). First (Ok (Ok (took.Payload found)))) (first_known batch takes).2 takes)
+    begins batch takes =
+        let first = first_known batch takes in
+        begins_with_none first.0 first.1 (subst (λ (found : Option BatchAt). First (Ok (Ok (took.Payload found)))) first.2 takes)
 
     -- or the stream ended without one
     pub lacks : First (Ok (Ok took.End)) → HasNoSchema ticket (Found BadBatch) begun (line_of c z None new out)

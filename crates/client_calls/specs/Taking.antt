@@ -68,6 +68,8 @@ TakesNext ticket stream old (Err failure) state new = FetchGives ticket (Err fai
 pub record IsBegun (ticket : Payload) (state : State) (old new : Line) : Type 0 where
   pub stream : StreamAt
   pub state_is : stream.state ≡ state
+  pub known : Known
+  pub has_schema : state ≡ Some known
   pub no_rows : stream.rows ≡ []
   pub fetching : IsFetching ticket stream old new
 

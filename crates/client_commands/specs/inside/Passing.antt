@@ -1,6 +1,7 @@
 -- Inside: streams that are written as they come.
 use Rattle.std.specs.Prelude.{◌≡◌, ◌⊎◌, ℕ, true, List, [], ◌∷◌, ◌++◌, Option, Some, Result, Ok, Err}
 use Rattle.scan_base.specs.declared.fault.Fault.{Fault}
+use Rattle.scan_base.specs.declared.fault.Fault.TheVariants.{LimitReached, OutOfMemory, Transport}
 use Rattle.arrow_schema.specs.declared.schema.Schema.{Schema}
 use Rattle.arrow_schema.specs.Answer.{plain_schema}
 use Rattle.ipc_batch.specs.State.{State}
@@ -18,7 +19,7 @@ use Rattle.client_calls.specs.Outcome.{Line}
 use Rattle.client_calls.specs.Taking.{FetchAt, FetchGives, IsFetching}
 use Rattle.command_ends.specs.Printing.{Said}
 use Rattle.client_commands.specs.Fetching.{FetchesEach}
-use Rattle.client_commands.specs.Streaming.{SaysFirst, SaysSchema, StopsAmong, WhyNoMore, rows_held}
+use Rattle.client_commands.specs.Streaming.{HasLongRow, SaysFirst, SaysSchema, StopsAmong, rows_held}
 
 -- ---- one stream
 
@@ -32,11 +33,19 @@ pub record IsPassing (ticket : Payload) (schema own : Schema) (rows : Rows) (sta
   pub same : same_fields schema.fields own.fields ≡ true
   pub so : SoFar (plain_schema schema) (rows ++ stream.rows) start out.bytes waiting
 
+-- why what came of a stream is not written
+abbrev pub WhyUnwritten : StreamAt → Fault → Type 0
+WhyUnwritten stream Transport = Unit {0}
+WhyUnwritten stream OutOfMemory = Unit {0}
+WhyUnwritten stream LimitReached = HasLongRow stream.rows
+WhyUnwritten stream _ = ⊥
+
 -- it came whole
 pub record HasPassed (ticket : Payload) (schema own : Schema) (rows : Rows) (start : Option (List ℕ)) (begun : Line)
     (now : FetchAt) (out out' : Said) (waiting : List ℕ) : Type 0 where
   pub stream : StreamAt
   pub fetched : FetchGives ticket (Ok stream) begun now.line
+  pub ended : stream.end ≡ Some (Ok tt)
   pub state : stream.state ≡ now.state
   pub says : SaysSchema stream own
   pub so : SoFar (plain_schema schema) (rows ++ stream.rows) start out'.bytes waiting
@@ -51,7 +60,7 @@ pub record StopsPassing (ticket : Payload) (schema own : Schema) (rows : Rows) (
   pub says : SaysSchema stream own
   pub wrote : Stopped (plain_schema schema) (rows ++ stream.rows) start out'.bytes
   pub why : (FetchGives ticket (Err failure) begun now × (out'.failures ≡ out.failures))
-      ⊎ ((fault : Fault) × (failure ≡ Found fault) × WhyNoMore (stream ∷ []) fault
+      ⊎ ((fault : Fault) × (failure ≡ Found fault) × WhyUnwritten stream fault
       × CountsTransport {A = Unit {0}} (Err fault) out.failures out'.failures × (now ≡ some))
 
 abbrev pub PassesBatches : Result (Unit {0}) Failure → Payload → Schema → Schema → Rows → Option (List ℕ) → Line → FetchAt → Said → Said → List ℕ → Type 0
