@@ -1,5 +1,5 @@
 -- Streams that are written as they come.
-use Rattle.std.proofs.Common.{◌≡◌, ◌≢◌, ◌&&◌, ◌+◌, ◌<◌, ◌≤◌, ℕ, Bool, true, false, List, [], ◌∷◌, ◌++◌, length, Option, Some, None, Result, Ok, Err, refl, sym, ap, subst, ◌∙◌, inl, inr, append-nil, append_assoc, arith}
+use Rattle.std.proofs.Common.{◌≡◌, ◌≢◌, ◌&&◌, ◌⊎◌, ◌+◌, ◌<◌, ◌≤◌, ℕ, Bool, true, false, List, [], ◌∷◌, ◌++◌, length, Option, Some, None, Result, Ok, Err, refl, sym, ap, subst, ◌∙◌, inl, inr, append-nil, append_assoc, arith}
 use Rattle.std.specs.Prelude.{◌==◌, not}
 use Rattle.std.specs.List.{flat_map, list_all}
 use Rattle.std.proofs.lemmas.Grind.{flat_map-append}
@@ -117,6 +117,10 @@ unwritten_by stream before batch _ are cause = absurd cause
 
 -- ---- a stream more joins
 
+next_schema : (stream : StreamAt) (streams : List StreamAt) (schema : Schema) (schemas : List Schema) → schema_said stream ≡ Ok schema → each schema_said streams ≡ Ok schemas
+    → each schema_said (stream ∷ streams) ≡ Ok (schema ∷ schemas)
+next_schema stream streams schema schemas one all = rw (one, all) refl
+
 schemas_more : (streams : List StreamAt) (stream : StreamAt) (schemas : List Schema) (own : Schema) → each schema_said streams ≡ Ok schemas → schema_said stream ≡ Ok own
     → each schema_said (streams ++ stream ∷ []) ≡ Ok (schemas ++ own ∷ [])
 schemas_more [] stream schemas own all one =
@@ -126,8 +130,8 @@ schemas_more (s ∷ ss) stream schemas own all one =
     let front = both (schema_said s) (λ (y : Schema). (each schema_said ss >>= λ ys. fine (y ∷ ys))) schemas all in
     let rest = both (each schema_said ss) (λ (ys : List Schema). fine (front.0 ∷ ys)) schemas front.2 in
     let is : front.0 ∷ rest.0 ≡ schemas = let last = rest.2 in cc in
-    let more = schemas_more ss stream rest.0 own rest.1 one in
-    rw (front.1, more, ← is) refl
+    let more = next_schema s (ss ++ stream ∷ []) front.0 (rest.0 ++ own ∷ []) front.1 (schemas_more ss stream rest.0 own rest.1 one) in
+    subst (λ (l : List Schema). each schema_said (s ∷ (ss ++ stream ∷ [])) ≡ fine (l ++ own ∷ [])) is more
 
 -- whether a schema has the columns of the first
 abbrev alike : Schema → Schema → Bool
@@ -135,11 +139,11 @@ alike first other = same_fields first.fields other.fields
 
 all_more : (p : Schema → Bool) (schemas : List Schema) (own : Schema) → list_all p schemas ≡ true → p own ≡ true → list_all p (schemas ++ own ∷ []) ≡ true
 all_more p [] own all one = rw one refl
-all_more p (s ∷ ss) own all one = by (p s) refl all
+all_more p (s ∷ ss) own all one = by (p s) refl all (λ rest. all_more p ss own rest one)
   where
-    by : (b : Bool) → p s ≡ b → (b && list_all p ss) ≡ true → (p s && list_all p (ss ++ own ∷ [])) ≡ true
-    by true is rest = rw is (all_more p ss own rest one)
-    by false is rest = absurd cc
+    by : (b : Bool) → p s ≡ b → (b && list_all p ss) ≡ true → (list_all p ss ≡ true → list_all p (ss ++ own ∷ []) ≡ true) → (p s && list_all p (ss ++ own ∷ [])) ≡ true
+    by true is rest more = rw is (more rest)
+    by false is rest more = absurd cc
 
 one_more : (schemas : List Schema) (schema own : Schema) → one_schema schemas ≡ Ok schema → alike schema own ≡ true → one_schema (schemas ++ own ∷ []) ≡ Ok schema
 one_more [] schema own one same = let no : Err BadBatch ≡ Ok schema = one in absurd cc
@@ -382,6 +386,9 @@ module _ (wanted : Wanted) (endpoints : List EndpointSaid) (old middle : Line) (
 
 -- ---- there are endpoints
 
+none_demanded : (info : InfoSaid) → info.endpoints ≡ [] → (x : Unit {0}) → demand (not (length info.endpoints == 0)) BadProto ≡ Ok x → ⊥
+none_demanded info none x e = let no : Err BadProto ≡ Ok x = rw none at e in absurd cc
+
 some_said : (message : List ℕ) → (info_answered message >>= λ info. fine info.endpoints) ≡ Ok [] → ⊥
 some_said message e =
     let answered = both (info_answered message) (λ (info : InfoSaid). fine info.endpoints) [] e in
@@ -389,8 +396,7 @@ some_said message e =
     let read = both (info_of message) (λ (info : InfoSaid). (demand (not (length info.endpoints == 0)) BadProto >>= λ _. fine info)) answered.0 answered.1 in
     let right = both (demand (not (length (read.0).endpoints == 0)) BadProto) (λ _. fine read.0) answered.0 read.2 in
     let same : read.0 ≡ answered.0 = let last = right.2 in cc in
-    let no : Err BadProto ≡ Ok right.0 = rw (same, none) at right.1 in
-    absurd cc
+    none_demanded read.0 (ap (λ (info : InfoSaid). info.endpoints) same ∙ none) right.0 right.1
 
 pub some_asked : (wanted : Wanted) (old new : Line) → Asks wanted (Ok []) old new → ⊥
 some_asked wanted old new = by old.incoming.left
