@@ -48,7 +48,7 @@ fn buffer_that_came(column: &Column, index: usize) -> Result<Option<Bytes>, Allo
     }
 }
 
-// Packed values, or the offsets of texts that begin at 0. Indices do not give the buffer in which they lie.
+// Packed values or indices, or the offsets of texts that begin at 0.
 fn values_that_came(column: &Column) -> Result<Option<Bytes>, AllocError>
     ensures { IfOk result (λ found. IfSome found (λ bytes. bytes ≡ buffer_of column.now 1)) }
 {
@@ -57,7 +57,8 @@ fn values_that_came(column: &Column) -> Result<Option<Bytes>, AllocError>
     match column.layout() {
         Layout::Integers(cells) => Ok(Some(cells.packed_between(first, behind)?)),
         Layout::Decimals(cells) => Ok(Some(cells.packed_between(first, behind)?)),
-        Layout::Bools(_) | Layout::Indices(_) => Ok(None),
+        Layout::Indices(cells) => Ok(Some(cells.packed_between(first, behind)?)),
+        Layout::Bools(_) => Ok(None),
         Layout::Texts(_) => offsets_that_came(column),
     }
 }

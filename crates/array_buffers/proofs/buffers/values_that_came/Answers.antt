@@ -26,3 +26,14 @@ returns-in_ok-packed_between-in-Decimals c =
     ∙ ap (λ (n : ℕ). elements 16 cells.values c.first-first.result n) count
     ∙ ap (λ (n : ℕ). elements 16 cells.values n column.len) c.first-first.ensures
     ∙ sym written
+
+pub returns-in_ok-packed_between-in-Indices : goal.returns-in_ok-packed_between-in-Indices
+returns-in_ok-packed_between-in-Indices c =
+    let column = c.args.column.now in
+    let cells = c.in-Indices.cells in
+    let count : c.first-first.result + c.len.result - c.first-first.result ≡ column.len = omega (arith, c.len.ensures.count) in
+    let written = ap (λ (all : List (List ℕ)). get_or all 0 []) (written_as column c.layout.result (layout.Indices cells) c.layout.ensures.value c.in-Indices.is) in
+    c.in_ok-packed_between-in-Indices.ensures
+    ∙ ap (λ (n : ℕ). elements (byte_width cells.index) cells.values c.first-first.result n) count
+    ∙ ap (λ (n : ℕ). elements (byte_width cells.index) cells.values n column.len) c.first-first.ensures
+    ∙ sym written
