@@ -10,12 +10,8 @@ use Rattle.client_calls.specs.declared.failure.Failure.{Failure}
 use Rattle.client_calls.specs.declared.failure.Failure.TheVariants.{Found}
 use Rattle.client_calls.specs.Answers.{Incoming, Stop, stopped_at, AnswersOne}
 use Rattle.client_calls.specs.Outcome.{Outgoing, Line, left_of, IsWritten, WhyNot, CallsAt, Calls}
-use Rattle.client_calls.specs.inside.Parts.{incoming_of, IsOpen, HasStopped, WritesCall, SendsCall, Receives}
+use Rattle.client_calls.specs.inside.Parts.{incoming_of, line_of, IsOpen, HasStopped, WritesCall, SendsCall, Receives}
 use Rattle.client_calls.proofs.Ones.{AnswersMessage, reads, does_not_read, gives_none}
-
--- a connection by its parts
-abbrev pub line_of : Option (List ℕ) → ℕ → Option Fault → Received → Outgoing → Line
-line_of input failed stopped left outgoing = record { incoming = incoming_of input failed (left_of stopped left); outgoing = outgoing }
 
 -- ---- one that is open
 

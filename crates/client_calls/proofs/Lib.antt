@@ -4,3 +4,4 @@ pub mod Streams
 pub mod Sending
 pub mod Calling
 pub mod Payloads
+pub mod Next

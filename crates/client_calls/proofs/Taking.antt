@@ -19,6 +19,7 @@ use Rattle.flight_client.specs.Status.{StatusSays}
 use Rattle.client_calls.specs.declared.answer.Arrival.{Arrival}
 use Rattle.client_calls.specs.declared.answer.Arrival.TheVariants as arrival
 use Rattle.client_calls.specs.Answers.{Fronts, stopped_at, IsAnswer, NoMore, Halts, StopsBehind, IsAnswered}
+pub use Rattle.client_calls.specs.Taking.{Taken}
 use Rattle.client_calls.specs.inside.Arriving.{ArrivesAs}
 use Rattle.client_calls.specs.inside.Parts.{incoming_of}
 
@@ -122,11 +123,6 @@ module _ (a b : Option (List ℕ)) (failed failed' : ℕ) (old new : Received) (
       by (inr (inr breaks)) = inr (inl breaks, counted.1 (no_flaw breaks))
 
 -- ---- the messages so far
-
-pub record Taken (source source' : Option (List ℕ)) (old left : Received) (messages : List Payload) : Type 0 where
-  pub came : List ℕ
-  pub consumed : Consumes source source' came
-  pub fronts : Fronts (map Message messages) (with_more old came) left
 
 pub taken_none : (source : Option (List ℕ)) (old : Received) → old.place ≡ InAnswer → Taken source source old old []
 taken_none source old place = record {

@@ -1,5 +1,6 @@
 pub mod Calls
 pub mod Commands
 pub mod Answers
+pub mod Taking
 pub mod Outcome
 pub mod inside

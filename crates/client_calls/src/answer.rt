@@ -37,8 +37,8 @@ fn status_end(code: u8, text: &str) -> Result<(), Fault>
     Err(fault_of_status(code, text).unwrap_or(Fault::BadFrame))
 }
 
-// Takes what comes next of an answer.
-fn next_arrival<R: Input>(inbox: &mut Inbox, reader: &mut R) -> Result<Arrival, Fault>
+/// Takes what comes next of an answer.
+pub(crate) fn next_arrival<R: Input>(inbox: &mut Inbox, reader: &mut R) -> Result<Arrival, Fault>
     requires failures { CanFail (R.failures reader.old) }
     requires place { inbox.old.place ≡ InAnswer }
     ensures arrives { (came : List ℕ)
@@ -95,8 +95,8 @@ pub(crate) fn read_one<R: Input>(
     }
 }
 
-// Why an answer is not read on where a payload is refused by this fault: want of memory gives way to a faulty record.
-fn refusal_of(inbox: &Inbox, fault: Fault) -> Fault
+/// Why an answer is not read on where a payload is refused by this fault: want of memory gives way to a faulty record.
+pub(crate) fn refusal_of(inbox: &Inbox, fault: Fault) -> Fault
     ensures { Stands inbox.now fault result }
 {
     match fault {

@@ -7,7 +7,7 @@ ghost use Rattle.grpc_frame.specs.declared.place.Place.TheVariants.{InAnswer};
 ghost use Rattle.client_calls.specs.declared.call.Method.TheVariants.{DoGet};
 ghost use Rattle.client_calls.specs.Answers.{AnswersOne, AnswersStream};
 ghost use Rattle.client_calls.specs.Outcome.{Calls};
-ghost use Rattle.client_calls.specs.inside.Parts.{IsOpen, HasStopped, SendsCall, Receives};
+ghost use Rattle.client_calls.specs.inside.Parts.{IsOpen, HasStopped, SendsCall, Receives, line_of, outgoing_of};
 
 use crate::answer::{read_one, read_stream};
 use crate::call::{Method, Payload, write_call};
@@ -25,10 +25,10 @@ use std::marker::Model;
 /// Where a write of a call failed, or its answer did not come to its Status, the connection has stopped: each further call
 /// gives the same fault, and does nothing.
 pub struct Connection<R: Input, W: Output> {
-    inbox: Inbox,
-    reader: R,
-    writer: W,
-    stopped: Option<Fault>,
+    pub(crate) inbox: Inbox,
+    pub(crate) reader: R,
+    pub(crate) writer: W,
+    pub(crate) stopped: Option<Fault>,
 }
 
 // Written out, so that dropping it is one call (docs/DECISIONS.md).
@@ -119,8 +119,29 @@ impl<R: Input, W: Output> Connection<R, W> {
         }
     }
 
+    // A connection that is open, by its parts.
+    pub(crate) fn into_parts(self) -> (Inbox, R, W)
+        requires { IsOpen self }
+        ensures place { result.0.place ≡ InAnswer }
+        ensures line { line_of (R.remaining result.1) (R.failures result.1) None result.0
+            (outgoing_of (W.contents result.2) (W.failures result.2)) ≡ self }
+    {
+        let Connection {
+            inbox,
+            reader,
+            writer,
+            stopped: _,
+        } = self;
+        (inbox, reader, writer)
+    }
+
     // Writes a call.
-    fn send(&mut self, alloc: Global, method: Method, messages: &[Payload]) -> Result<(), Fault>
+    pub(crate) fn send(
+        &mut self,
+        alloc: Global,
+        method: Method,
+        messages: &[Payload],
+    ) -> Result<(), Fault>
         requires writes { CanFail (self.old.outgoing.failed) }
         requires is_open { IsOpen self.old }
         ensures { SendsCall result method messages.now self.old self.new }

@@ -14,8 +14,8 @@ use flight_client::Stream;
 use grpc_frame::{Input, Output};
 use std::alloc::{AllocError, Global};
 
-// The one message of a fetch, which is the ticket.
-fn ticket_payload(alloc: Global, ticket: &[u8]) -> Result<[Payload; 1], AllocError>
+/// The one message of a fetch, which is the ticket.
+pub(crate) fn ticket_payload(alloc: Global, ticket: &[u8]) -> Result<[Payload; 1], AllocError>
     ensures { IfOk result (λ payloads. payloads ≡ ticket.now ∷ []) }
 {
     let mut head = Vec::new(alloc);

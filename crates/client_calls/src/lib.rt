@@ -1,7 +1,7 @@
 //! The calls of a client: what is written for each, and what its answer says.
 //!
 //! `specs/Calls.antt` and `specs/Commands.antt` say what is written, `specs/Answers.antt` what an answer is, and
-//! `specs/Outcome.antt` what became of a call.
+//! `specs/Outcome.antt` what became of a call. `specs/Taking.antt` says how a fetch is taken payload by payload.
 #![tactic(auto)]
 
 mod answer;
@@ -12,6 +12,8 @@ mod expiring;
 mod failure;
 mod fetching;
 mod putting;
+mod streaming;
+mod taken;
 
 pub use crate::asking::info;
 pub use crate::call::Method;
@@ -20,3 +22,4 @@ pub use crate::expiring::expire;
 pub use crate::failure::Failure;
 pub use crate::fetching::fetch;
 pub use crate::putting::{Target, put};
+pub use crate::streaming::Fetching;

@@ -17,7 +17,7 @@ use Rattle.client_calls.specs.Outcome.{Line, Calls, CallsAt}
 use Rattle.client_commands.specs.Fetching.{Asks, FetchesEach, FetchesOne, FailsAt, FetchStops}
 
 -- a stream more
-fetched_more : (front : List EndpointSaid) (streams : List StreamAt) (next : EndpointSaid) (stream : StreamAt) (old middle new : Line)
+pub fetched_more : (front : List EndpointSaid) (streams : List StreamAt) (next : EndpointSaid) (stream : StreamAt) (old middle new : Line)
     → FetchesEach front streams old middle → FetchesOne next (Ok stream) middle new → FetchesEach (front ++ next ∷ []) (streams ++ stream ∷ []) old new
 fetched_more [] [] next stream old middle new same one = (new, subst (λ (from : Line). FetchesOne next (Ok stream) from new) same one, refl)
 fetched_more [] (s ∷ ss) next stream old middle new same one = absurd same

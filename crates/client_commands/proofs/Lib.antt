@@ -1,6 +1,6 @@
-pub mod Failed
 pub mod Fetched
 pub mod Parts
+pub mod Passing
 pub mod Spread
 pub mod Listing
 pub mod Listed

@@ -4,7 +4,7 @@ use Rattle.std.specs.List.{flat_map}
 use Rattle.scan_base.specs.declared.fault.Fault.{Fault}
 use Rattle.scan_base.specs.declared.fault.Fault.TheVariants.{OutOfMemory, Transport}
 use Rattle.flight_proto.specs.Expiry.{expiry_bytes}
-use Rattle.flight_proto.specs.Wanted.{Wanted, rows_of, tables}
+use Rattle.flight_proto.specs.Wanted.{tables}
 use Rattle.ipc_stream.specs.declared.message.IpcMessage.{IpcMessage}
 use Rattle.table_versions.specs.Table.{Table}
 use Rattle.row_lines.specs.Lines.{name_line}
@@ -15,7 +15,6 @@ use Rattle.client_calls.specs.declared.putting.Target.{Target}
 use Rattle.client_calls.specs.Answers.{AnswersOne}
 use Rattle.client_calls.specs.Commands.{put_payloads, ReadsCount, ReadsFloor}
 use Rattle.client_calls.specs.Outcome.{Calls, Line}
-use Rattle.command_line.specs.declared.request.Format.{Format}
 use Rattle.command_ends.specs.Network.{Ends}
 use Rattle.command_ends.specs.Printing.{Said, Prints, cause_lines, count_line, fault_line, floor_line}
 use Rattle.command_ends.specs.Whole.{Source, ReadsMessages}
@@ -24,10 +23,8 @@ use Rattle.command_ends.specs.declared.exit_status.ExitStatus.TheVariants.{Fault
 use Rattle.csv_input.specs.Input.{Form, ReadsCsv}
 use Rattle.client_commands.specs.Fetching.{Fetches}
 use Rattle.client_commands.specs.Lines.{opened_line}
-use Rattle.client_commands.specs.Spread.{FetchesSpread, IsUnconnected}
 use Rattle.client_commands.specs.Names.{names_listed}
 use Rattle.client_commands.specs.Told.{Tells}
-use Rattle.client_commands.specs.Rows.{TellsRows}
 
 -- what a command prints on: its output and its faults, before and behind it
 pub record Desk : Type 0 where
@@ -60,31 +57,6 @@ pub record Over (Gives : Option Ends → Type 0) {A : Type 0} (Made : Result A F
 abbrev pub Connects : (Option Ends → Type 0) → {A : Type 0} → (Result A Failure → Line → Line → Type 0) → Telling A → ExitStatus → Desk → Desk → Type 0
 Connects Gives Made Told status old new =
     (Gives None × ((cause : List ℕ) × EndsBy (cause_lines cause) status old new)) ⊎ Over Gives Made Told status old new
-
--- ---- query
-
--- what came of asking for the first connection; where the network gave none, no other is asked for
-abbrev pub GivesFirst : {N : Type 0} → (N → Option Ends → N → Type 0) → N → N → N → Option Ends → Type 0
-GivesFirst Gives old middle new None = Gives old None new
-GivesFirst Gives old middle new (Some ends) = Gives old (Some ends) middle
-
--- The network gave the first connection, and the rows were not fetched, since it gave no further one: nothing is printed on the
--- output, and why is said.
-pub record IsCutOff {N : Type 0} (Gives : N → Option Ends → N → Type 0) (Shares : N → N → N → Type 0) (streams : ℕ) (wanted : Wanted)
-    (before middle behind : N) (status : ExitStatus) (old new : Desk) : Type 0 where
-  pub ends : Ends
-  pub given : Gives before (Some ends) middle
-  pub last : Line
-  pub unconnected : IsUnconnected Gives Shares streams wanted middle behind (opened_line ends) last
-  pub cause : List ℕ
-  pub says : EndsBy (cause_lines cause) status old new
-
--- the rows that a query answers, fetched over up to `streams` connections, are told in a format
-abbrev pub Queries : {N : Type 0} → (N → Option Ends → N → Type 0) → (N → N → N → Type 0) → ℕ → List ℕ → Format → N → N → ExitStatus → Desk → Desk → Type 0
-Queries {N} Gives Shares streams sql format before behind status old new =
-    (middle : N) × (Connects (GivesFirst Gives before middle behind)
-    (FetchesSpread Gives Shares streams (rows_of sql) middle behind) (TellsRows format) status old new
-    ⊎ IsCutOff Gives Shares streams (rows_of sql) before middle behind status old new)
 
 -- ---- tables
 

@@ -4,6 +4,8 @@ pub mod Lines
 pub mod Fetching
 pub mod Handles
 pub mod Spread
+pub mod Streaming
 pub mod Names
 pub mod Commands
+pub mod Queries
 pub mod inside

@@ -1,3 +1,5 @@
 -- What only the contracts of private functions cite.
 pub mod Naming
 pub mod Parts
+pub mod Passing
+pub mod Forms

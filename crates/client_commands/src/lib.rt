@@ -1,7 +1,8 @@
 //! The commands of a client, as functions over the network, what they read from and what they print on.
 //!
 //! `specs/Told.antt` says how a command ends by what came of its calls, `specs/Fetching.antt` how rows are fetched over one
-//! connection, `specs/Spread.antt` how over several, and `specs/Commands.antt` what each command does.
+//! connection, `specs/Spread.antt` how over several, and `specs/Streaming.antt` how they are written as they come.
+//! `specs/Commands.antt` and `specs/Queries.antt` say what each command does.
 #![tactic(auto)]
 
 mod apart;
@@ -13,5 +14,6 @@ mod names;
 pub mod put;
 pub mod query;
 mod spreading;
+mod streaming;
 pub mod tables;
 mod telling;

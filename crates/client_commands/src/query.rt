@@ -1,22 +1,26 @@
 //! `flightscan query`: the rows that a query answers.
 
+ghost use Rattle.std.specs.Prelude.{◌≡◌, Ok, option_map};
 ghost use Rattle.grpc_frame.specs.Ends.{CanFail};
 ghost use Rattle.command_ends.specs.Printing.{said_of};
-ghost use Rattle.std.specs.Prelude.{Ok};
-ghost use Rattle.client_commands.specs.Rows.{TellsRows, TellsStream};
-ghost use Rattle.client_commands.specs.Commands.{Queries, desk_of};
+ghost use Rattle.client_commands.specs.Told.{Tells};
+ghost use Rattle.client_commands.specs.Rows.{text_of};
+ghost use Rattle.client_commands.specs.Commands.{desk_of};
+ghost use Rattle.client_commands.specs.Queries.{Queries, TellsEnd};
+ghost use Rattle.client_commands.specs.inside.Forms.{text_in};
 
 use crate::connecting::{end_unconnected, open};
 use crate::lost::Lost;
 use crate::spreading::fetch_spread;
+use crate::streaming::stream_rows;
 use crate::telling::{end_by_failure, end_by_printing};
-use command_ends::{Connect, ExitStatus, end_by_fault};
+use client_calls::Failure;
+use command_ends::{Connect, ExitStatus};
 use command_line::Format;
 use csv_rows::write_csv;
 use flight_client::Rows;
 use grpc_frame::Output;
 use row_lines::write_rows;
-use row_stream::write_stream;
 use row_table::write_table;
 use std::alloc::Global;
 use std::thread::Threads;
@@ -35,10 +39,13 @@ pub struct Querying<'a> {
 }
 
 /// Prints the rows that a query answers, in the order of the endpoints: a line of the columns' names, and a line for each
-/// row; or an Arrow IPC stream, CSV, or a table for people. The endpoints are fetched over up to `streams` connections at a time. Each but the
+/// row; or CSV, or a table for people. The endpoints are fetched over up to `streams` connections at a time. Each but the
 /// first is made in a thread of its own, and closed there behind its last stream; where the network gives none, it is asked
-/// once more behind the endpoints before. Nothing is printed before all came. A fault is printed on `faults` in a line, as
-/// far as that takes it; where no connection was made, a second line says so.
+/// once more behind the endpoints before. Nothing is printed before all came.
+///
+/// An Arrow IPC stream is written as its rows come, batch by batch, and all endpoints are fetched over the first connection.
+///
+/// A fault is printed on `faults` in a line, as far as that takes it; where no connection was made, a second line says so.
 pub fn query<T: Threads, C: Connect + Drop + Send, W: Output, E: Output>(
     rt: &T,
     alloc: Global,
@@ -64,59 +71,74 @@ where
         Ok(connection) => connection,
         Err(error) => return end_unconnected(alloc, faults, query.port, &error),
     };
+    let Some(form) = text_form(query.format) else {
+        let streamed = stream_rows(alloc, connection, output, query.sql);
+        return end_by_streaming(faults, streamed);
+    };
     match fetch_spread(rt, alloc, network, connection, query) {
-        Ok(rows) => tell_rows(alloc, output, faults, query.format, &rows),
+        Ok(rows) => tell_rows(alloc, output, faults, form, &rows),
         Err(Lost::Failed(failure)) => end_by_failure(faults, failure),
         Err(Lost::Unconnected(error)) => end_unconnected(alloc, faults, query.port, &error),
     }
 }
 
-// Tells rows in a format.
+// A format that is printed once all rows came.
+#[derive(Clone, Copy, Debug, PartialEq, Eq)]
+enum TextForm {
+    Lines,
+    Csv,
+    Table,
+}
+
+// The form of a text, or nothing where rows are written as they come.
+fn text_form(format: Format) -> Option<TextForm>
+    ensures { option_map text_in result ≡ text_of format }
+{
+    match format {
+        Format::Lines => Some(TextForm::Lines),
+        Format::Csv => Some(TextForm::Csv),
+        Format::Table => Some(TextForm::Table),
+        Format::Arrow => None,
+    }
+}
+
+// Tells rows in a form.
 fn tell_rows<W: Output, E: Output>(
     alloc: Global,
     output: &mut W,
     faults: &mut E,
-    format: Format,
+    form: TextForm,
     rows: &Rows,
 ) -> ExitStatus
     requires writes { CanFail (W.failures output.old) }
     requires prints { CanFail (E.failures faults.old) }
-    ensures { TellsRows format (Ok rows.now) result
+    ensures { Tells (text_in form) (Ok rows.now) result
         (said_of W.Output output.old) (said_of W.Output output.new)
         (said_of E.Output faults.old) (said_of E.Output faults.new) }
 {
-    match format {
-        Format::Lines => {
+    match form {
+        TextForm::Lines => {
             let printed = write_rows(alloc, rows.schema(), rows.batches(), output);
             end_by_printing(faults, printed)
         }
-        Format::Csv => {
+        TextForm::Csv => {
             let printed = write_csv(alloc, rows.schema(), rows.batches(), output);
             end_by_printing(faults, printed)
         }
-        Format::Table => {
+        TextForm::Table => {
             let printed = write_table(alloc, rows.schema(), rows.batches(), output);
             end_by_printing(faults, printed)
         }
-        Format::Arrow => tell_stream(alloc, output, faults, rows),
     }
 }
 
-// Tells rows as an Arrow IPC stream.
-fn tell_stream<W: Output, E: Output>(
-    alloc: Global,
-    output: &mut W,
-    faults: &mut E,
-    rows: &Rows,
-) -> ExitStatus
-    requires writes { CanFail (W.failures output.old) }
-    requires prints { CanFail (E.failures faults.old) }
-    ensures { TellsStream rows.now result
-        (said_of W.Output output.old) (said_of W.Output output.new)
-        (said_of E.Output faults.old) (said_of E.Output faults.new) }
+// Tells why rows were not written whole, if so.
+fn end_by_streaming<E: Output>(faults: &mut E, streamed: Result<(), Failure>) -> ExitStatus
+    requires { CanFail (E.failures faults.old) }
+    ensures { TellsEnd streamed result (said_of E.Output faults.old) (said_of E.Output faults.new) }
 {
-    match write_stream(alloc, rows.schema(), rows.batches(), output) {
+    match streamed {
         Ok(()) => ExitStatus::Done,
-        Err(fault) => end_by_fault(faults, fault),
+        Err(failure) => end_by_failure(faults, failure),
     }
 }

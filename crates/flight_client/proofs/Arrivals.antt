@@ -16,9 +16,9 @@ use Rattle.ipc_batch.specs.State.{Known, State}
 use Rattle.ipc_batch.specs.Said.{Sent, News, Rows, rows_in, next_news, news_in, news_of, glance_of as message_glance, batch_sent, known_after, Follows}
 use Rattle.ipc_batch.proofs.Glances.{glances_come_first}
 use Rattle.ipc_batch.proofs.Lengths.{fine, both}
-use Rattle.ipc_batch.proofs.Messages.{first, joined, once}
+use Rattle.ipc_batch.proofs.Messages.{first, joined, keeps, once}
 use Rattle.flight_info.specs.Payloads.{Payload, message_in, PayloadsSay}
-use Rattle.flight_client.specs.Stream.{StreamAt, after_payload, glance_of, Came, schema_said}
+use Rattle.flight_client.specs.Stream.{StreamAt, payload_glance, payload_news, with_news, Came, schema_said}
 use Rattle.flight_client.specs.Laws.{StreamsHoldWhatIsSaid}
 
 -- ---- one payload more
@@ -37,47 +37,50 @@ each_more {B = B} read (a ∷ xs) x ys y all one =
     let same : front.0 ∷ rest.0 ≡ ys = let last = rest.2 in cc in
     subst (λ (l : List B). each read (a ∷ (xs ++ x ∷ [])) ≡ fine (l ++ y ∷ [])) same (each_step read a (xs ++ x ∷ []) front.0 (rest.0 ++ y ∷ []) front.1 (each_more read xs x rest.0 y rest.1 one))
 
--- a stream with the news of one payload more
-abbrev stream_with : StreamAt → News → StreamAt
-stream_with old news = record old { state = news.state; rows = old.rows ++ rows_in news.batch }
+-- what a payload carries, where it says something
+pub carried_by : (state : State) (payload : Payload) (news : News) → payload_news state payload ≡ Ok news → (carried : DataSaid) × (data_of payload ≡ Ok carried) × (news_of state (message_in carried) ≡ Ok news)
+unfolding payload_news
+carried_by state payload news e = both (data_of payload) (λ (carried : DataSaid). news_of state (message_in carried)) news e
 
-came_news : (payloads : List Payload) (payload : Payload) (old : StreamAt) (carried : DataSaid) (news : News) → data_of payload ≡ Ok carried → news_of old.state (message_in carried) ≡ Ok news
-    → Came payloads old → Came (payloads ++ payload ∷ []) (stream_with old news)
-came_news payloads payload old carried news carries tells came =
-    let one : Follows old.state (message_in carried ∷ []) news.state (rows_in news.batch) = (news, [], tells, sym (append-nil (rows_in news.batch)), (refl, refl)) in
+-- one payload more came
+pub came_more : (payloads : List Payload) (payload : Payload) (old : StreamAt) (news : News) → payload_news old.state payload ≡ Ok news → Came payloads old → Came (payloads ++ payload ∷ []) (with_news old news)
+came_more payloads payload old news e came =
+    let said = carried_by old.state payload news e in
+    let carried = said.0 in
+    let one : Follows old.state (message_in carried ∷ []) news.state (rows_in news.batch) = (news, [], said.2, sym (append-nil (rows_in news.batch)), (refl, refl)) in
     let all = joined None (map message_in came.0) (message_in carried ∷ []) old.state news.state old.rows (rows_in news.batch) came.2 one in (
       came.0 ++ carried ∷ [],
-      each_more data_of payloads payload came.0 carried came.1 carries,
+      each_more data_of payloads payload came.0 carried came.1 said.1,
       subst (λ (messages : List Sent). Follows None messages news.state (old.rows ++ rows_in news.batch)) (sym (map-append message_in came.0 (carried ∷ []))) all,
     )
+
+-- the first payload says a schema, and no batch
+pub schema_first : (payload : Payload) (news : News) → payload_news None payload ≡ Ok news → (known : Known) × (news.state ≡ Some known) × (news.batch ≡ None)
+schema_first payload news e = let said = carried_by None payload news e in first (message_in said.0) news said.2
+
+-- and those behind it keep that schema
+pub schema_kept : (known : Known) (payload : Payload) (news : News) → payload_news (Some known) payload ≡ Ok news → (after : Known) × (news.state ≡ Some after) × (after.schema ≡ known.schema)
+schema_kept known payload news e =
+    let said = carried_by (Some known) payload news e in
+    let kept = keeps known (message_in said.0) news said.2 in
+    (kept.after, kept.state, kept.schema)
 
 -- ---- what a glance refuses
 
 -- what is refused at a glance is what the payload says
-pub glance_stops : (stream : StreamAt) (payload : Payload) (fault : Fault) → glance_of stream payload ≡ Err fault → after_payload stream payload ≡ Err fault
-unfolding glance_of after_payload
-glance_stops stream payload fault e = by (data_of payload) refl e
+pub glance_stops : (state : State) (payload : Payload) (fault : Fault) → payload_glance state payload ≡ Err fault → payload_news state payload ≡ Err fault
+unfolding payload_glance payload_news
+glance_stops state payload fault e = by (data_of payload) refl e
   where
-    by : (read : Result DataSaid Fault) → data_of payload ≡ read → (read >>= λ carried. message_glance stream.state (message_in carried)) ≡ Err fault
-        → (read >>= λ carried. (news_of stream.state (message_in carried) >>= λ news. fine (stream_with stream news))) ≡ Err fault
-    by (Ok carried) is e = rw (glances_come_first stream.state (message_in carried) fault e) refl
+    by : (read : Result DataSaid Fault) → data_of payload ≡ read → (read >>= λ carried. message_glance state (message_in carried)) ≡ Err fault
+        → (read >>= λ carried. news_of state (message_in carried)) ≡ Err fault
+    by (Ok carried) is e = glances_come_first state (message_in carried) fault e
     by (Err one) is e = let same : one ≡ fault = cc in ap (λ (x : Fault). Err x) same
 
-payload_read : (stream : StreamAt) (payload : Payload) (carried : DataSaid) (news : News) → data_of payload ≡ Ok carried → news_of stream.state (message_in carried) ≡ Ok news → after_payload stream payload ≡ fine (stream_with stream news)
-unfolding after_payload
-payload_read stream payload carried news carries tells = rw (carries, tells) refl
-
--- a payload that was read is not refused at a glance, whatever is answered
-pub glance_passes : {X : Type 0} (result : Result X Fault) (stream : StreamAt) (payload : Payload) (carried : DataSaid) (news : News) → data_of payload ≡ Ok carried → news_of stream.state (message_in carried) ≡ Ok news
-    → RefusesFirst result (glance_of stream payload)
-glance_passes result stream payload carried news carries tells = by (glance_of stream payload) (λ fault e. glance_stops stream payload fault e)
-  where
-    read : after_payload stream payload ≡ fine (stream_with stream news)
-    read = payload_read stream payload carried news carries tells
-
-    by : (glance : Result (Unit {0}) Fault) → ((fault : Fault) → glance ≡ Err fault → after_payload stream payload ≡ Err fault) → RefusesFirst result glance
-    by (Ok done) stops = tt
-    by (Err fault) stops = absurd (let one = stops fault refl in let both = read in let no : ⊥ = cc in no)
+-- what was read is not refused at a glance, whatever is answered behind that
+pub glance_passed : {A X : Type 0} (read : Result A Fault) (x : A) (result : Result X Fault) (glance : Result (Unit {0}) Fault) → read ≡ Ok x → RefusesFirst read glance → RefusesFirst result glance
+glance_passed read x result (Ok done) is first = tt
+glance_passed read x result (Err fault) is first = absurd cc
 
 -- what a stream of these batches is
 abbrev pub stream_of : State → List BatchAt → Option (Result (Unit {0}) Fault) → StreamAt
@@ -88,20 +91,20 @@ rows_push [] batch = append-nil (rows_of batch)
 rows_push (b ∷ bs) batch = ap (λ (rows : Rows). rows_of b ++ rows) (rows_push bs batch) ∙ sym (append_assoc (rows_of b) (flat_map rows_of bs) (rows_of batch))
 
 -- a payload came that carries a batch
-pub came_batch : (payloads : List Payload) (payload : Payload) (now : StreamAt) (old new : State) (batches items : List BatchAt) (end : Option (Result (Unit {0}) Fault)) (carried : DataSaid) (batch : BatchAt)
-    → stream_of old batches end ≡ now → data_of payload ≡ Ok carried → news_of old (message_in carried) ≡ Ok (record { state = new; batch = Some batch }) → items ≡ batches ++ batch ∷ []
+pub came_batch : (payloads : List Payload) (payload : Payload) (now : StreamAt) (old new : State) (batches items : List BatchAt) (end : Option (Result (Unit {0}) Fault)) (batch : BatchAt)
+    → stream_of old batches end ≡ now → payload_news old payload ≡ Ok (record { state = new; batch = Some batch }) → items ≡ batches ++ batch ∷ []
     → Came payloads now → Came (payloads ++ payload ∷ []) (stream_of new items end)
-came_batch payloads payload now old new batches items end carried batch is carries tells grown came =
+came_batch payloads payload now old new batches items end batch is tells grown came =
     let rows : flat_map rows_of items ≡ flat_map rows_of batches ++ rows_of batch = ap (flat_map rows_of) grown ∙ rows_push batches batch in
-    let made = came_news payloads payload (stream_of old batches end) carried (record { state = new; batch = Some batch }) carries tells (subst (Came payloads) (sym is) came) in
+    let made = came_more payloads payload (stream_of old batches end) (record { state = new; batch = Some batch }) tells (subst (Came payloads) (sym is) came) in
     subst (λ (rows : Rows). Came (payloads ++ payload ∷ []) (record { state = new; rows = rows; end = end })) (sym rows) made
 
 -- a payload came that carries none
-pub came_none : (payloads : List Payload) (payload : Payload) (now : StreamAt) (old new : State) (batches : List BatchAt) (end : Option (Result (Unit {0}) Fault)) (carried : DataSaid)
-    → stream_of old batches end ≡ now → data_of payload ≡ Ok carried → news_of old (message_in carried) ≡ Ok (record { state = new; batch = None })
+pub came_none : (payloads : List Payload) (payload : Payload) (now : StreamAt) (old new : State) (batches : List BatchAt) (end : Option (Result (Unit {0}) Fault))
+    → stream_of old batches end ≡ now → payload_news old payload ≡ Ok (record { state = new; batch = None })
     → Came payloads now → Came (payloads ++ payload ∷ []) (stream_of new batches end)
-came_none payloads payload now old new batches end carried is carries tells came =
-    let made = came_news payloads payload (stream_of old batches end) carried (record { state = new; batch = None }) carries tells (subst (Came payloads) (sym is) came) in
+came_none payloads payload now old new batches end is tells came =
+    let made = came_more payloads payload (stream_of old batches end) (record { state = new; batch = None }) tells (subst (Came payloads) (sym is) came) in
     subst (λ (rows : Rows). Came (payloads ++ payload ∷ []) (record { state = new; rows = rows; end = end })) (append-nil (flat_map rows_of batches)) made
 
 -- ---- a batch leaves what is known as it was
@@ -131,9 +134,11 @@ batches_leave (Some known) new sent batch e =
     next_same a.0.kind known a.0 sent.body new batch a.2
 
 -- a batch that was not kept leaves the stream as it was
-pub stays : (now : StreamAt) (old new : State) (batches items : List BatchAt) (end : Option (Result (Unit {0}) Fault)) (sent : Sent) (batch : BatchAt) → stream_of old batches end ≡ now
-    → news_of old sent ≡ Ok (record { state = new; batch = Some batch }) → items ≡ batches → stream_of new items end ≡ now
-stays now old new batches items end sent batch is tells same = rw (same, batches_leave old new sent batch tells) is
+pub stays : (now : StreamAt) (old new : State) (batches items : List BatchAt) (end : Option (Result (Unit {0}) Fault)) (payload : Payload) (batch : BatchAt) → stream_of old batches end ≡ now
+    → payload_news old payload ≡ Ok (record { state = new; batch = Some batch }) → items ≡ batches → stream_of new items end ≡ now
+stays now old new batches items end payload batch is tells same =
+    let said = carried_by old payload (record { state = new; batch = Some batch }) tells in
+    rw (same, batches_leave old new (message_in said.0) batch said.2) is
 
 -- ---- what a stream holds its payloads say
 

@@ -48,7 +48,8 @@ field_same f =
     both_true (bytes_eq f.name f.name && same_type f.data_type f.data_type) (same_flag f.nullable f.nullable)
     (both_true (bytes_eq f.name f.name) (same_type f.data_type f.data_type) ((bytes_eq-Decides f.name f.name).1 refl) (type_same f.data_type)) (flag_same f.nullable)
 
-fields_same : (fields : List Field) → same_fields fields fields ≡ true
+-- a schema has its own columns
+pub fields_same : (fields : List Field) → same_fields fields fields ≡ true
 fields_same [] = refl
 fields_same (f ∷ fs) = both_true (same_field f f) (same_fields fs fs) (field_same f) (fields_same fs)
 

@@ -1,10 +1,9 @@
 -- The columns of the batches that a stream and rows hold.
-use Rattle.std.proofs.Common.{◌≡◌, ◌&&◌, ◌++◌, Bool, true, false, List, [], ◌∷◌, All, Option, Some, None, Result, Ok, Err, refl, sym, subst, ◌∙◌}
+use Rattle.std.proofs.Common.{◌≡◌, ◌&&◌, ◌++◌, Bool, true, false, List, [], ◌∷◌, All, Option, Some, None, Ok, Err, refl, sym, subst, ◌∙◌}
 use Rattle.std.specs.Prelude.{IfSome, option_map}
 use Rattle.arrow_schema.specs.Schema.{IsSchema}
 use Rattle.std.specs.List.{list_all, AllByRecursion}
-use Rattle.std.proofs.lemmas.List.Elements.{All-head, All-tail, All-nil, All-push, All-append, All-weaker, All-from_recursion}
-use Rattle.scan_base.specs.declared.fault.Fault.{Fault}
+use Rattle.std.proofs.lemmas.List.Elements.{All-head, All-tail, All-push, All-append, All-weaker, All-from_recursion}
 use Rattle.scan_base.specs.declared.fault.Fault.TheVariants.{BadBatch, SchemaMismatch}
 use Rattle.scan_base.specs.Reading.{◌>>=◌, wanted}
 use Rattle.scan_base.specs.Lists.{each}
@@ -16,7 +15,9 @@ use Rattle.ipc_batch.specs.Said.{Sent, News, news_of, HasColumns}
 use Rattle.ipc_batch.proofs.Lengths.{fine, both}
 use Rattle.ipc_batch.proofs.Messages.{keeps}
 use Rattle.table_versions.specs.Table.{Table, same_fields}
-use Rattle.flight_client.specs.Stream.{StreamAt, schema_said}
+use Rattle.flight_info.specs.Payloads.{Payload, message_in}
+use Rattle.flight_client.specs.Stream.{StreamAt, payload_news, schema_said}
+use Rattle.flight_client.proofs.Arrivals.{carried_by}
 use Rattle.flight_client.specs.Join.{one_schema, schema_of_all}
 use Rattle.flight_client.specs.inside.Gathered.{gathered_with}
 use Rattle.table_versions.proofs.Alike.{typed_alike}
@@ -33,16 +34,17 @@ stays_typed (Some known) sent news e batch has =
     subst (HasColumns (Some batch)) (sym k.state) (subst (λ (schema : Schema). AreOfTypes schema.fields batch.columns) (sym k.schema) has)
 
 -- so have all
-pub typed_on : (old : State) (sent : Sent) (news : News) (batches : List BatchAt) → news_of old sent ≡ Ok news → AreTyped old batches → AreTyped news.state batches
-typed_on old sent news batches e typed =
-    All-weaker (λ (batch : BatchAt). HasColumns (Some batch) old) (λ (batch : BatchAt). HasColumns (Some batch) news.state) (stays_typed old sent news e) batches typed
+pub typed_on : (old : State) (payload : Payload) (news : News) (batches : List BatchAt) → payload_news old payload ≡ Ok news → AreTyped old batches → AreTyped news.state batches
+typed_on old payload news batches e typed =
+    let said = carried_by old payload news e in
+    All-weaker (λ (batch : BatchAt). HasColumns (Some batch) old) (λ (batch : BatchAt). HasColumns (Some batch) news.state) (stays_typed old (message_in said.0) news said.2) batches typed
 
 -- and one more
-pub typed_more : (old new : State) (sent : Sent) (batches items : List BatchAt) (batch : BatchAt) → news_of old sent ≡ Ok (record { state = new; batch = Some batch }) → HasColumns (Some batch) new
+pub typed_more : (old new : State) (payload : Payload) (batches items : List BatchAt) (batch : BatchAt) → payload_news old payload ≡ Ok (record { state = new; batch = Some batch }) → HasColumns (Some batch) new
     → items ≡ batches ++ batch ∷ [] → AreTyped old batches → AreTyped new items
-typed_more old new sent batches items batch e has grown typed =
+typed_more old new payload batches items batch e has grown typed =
     subst (AreTyped new) (sym grown)
-    (All-push (λ (batch : BatchAt). HasColumns (Some batch) new) batches batch (typed_on old sent (record { state = new; batch = Some batch }) batches e typed) has)
+    (All-push (λ (batch : BatchAt). HasColumns (Some batch) new) batches batch (typed_on old payload (record { state = new; batch = Some batch }) batches e typed) has)
 
 -- ---- streams together
 

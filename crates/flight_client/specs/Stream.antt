@@ -7,7 +7,7 @@ use Rattle.scan_base.specs.Lists.{each}
 use Rattle.arrow_schema.specs.declared.schema.Schema.{Schema}
 use Rattle.flight_proto.specs.FlightData.{DataSaid, data_of}
 use Rattle.ipc_batch.specs.State.{State}
-use Rattle.ipc_batch.specs.Said.{Rows, rows_in, news_of, glance_of as message_glance, Follows}
+use Rattle.ipc_batch.specs.Said.{News, Rows, rows_in, news_of, glance_of as message_glance, Follows}
 use Rattle.flight_info.specs.Payloads.{Payload, message_in}
 use Rattle.flight_client.specs.Status.{StatusSays}
 
@@ -22,16 +22,25 @@ pub record StreamAt : Type 0 where
 abbrev pub begun : StreamAt
 begun = record { state = None; rows = []; end = None }
 
--- a stream after one payload more: a FlightData, and the message that it carries
-unfoldable pub after_payload : StreamAt → Payload → Result StreamAt Fault
-after_payload stream payload = do
-  carried ← data_of payload
-  news ← news_of stream.state (message_in carried)
-  Ok (record stream { state = news.state; rows = stream.rows ++ rows_in news.batch })
+-- what a payload says behind others: it is a FlightData, and this is what the message that it carries says
+unfoldable pub payload_news : State → Payload → Result News Fault
+payload_news state payload = data_of payload >>= λ carried. news_of state (message_in carried)
 
 -- what is refused of a payload before anything grows or is cut: it is no FlightData, or its message is refused so
-unfoldable pub glance_of : StreamAt → Payload → Result (Unit {0}) Fault
-glance_of stream payload = data_of payload >>= λ carried. message_glance stream.state (message_in carried)
+unfoldable pub payload_glance : State → Payload → Result (Unit {0}) Fault
+payload_glance state payload = data_of payload >>= λ carried. message_glance state (message_in carried)
+
+-- a stream with what one payload more says
+abbrev pub with_news : StreamAt → News → StreamAt
+with_news stream news = record stream { state = news.state; rows = stream.rows ++ rows_in news.batch }
+
+-- a stream after one payload more
+abbrev pub after_payload : StreamAt → Payload → Result StreamAt Fault
+after_payload stream payload = payload_news stream.state payload >>= λ news. Ok (with_news stream news)
+
+-- what is refused of it before anything grows or is cut
+abbrev pub glance_of : StreamAt → Payload → Result (Unit {0}) Fault
+glance_of stream payload = payload_glance stream.state payload
 
 -- These payloads came, one after another: each carries a message, and what they say is what the stream holds.
 abbrev pub Came : List Payload → StreamAt → Type 0

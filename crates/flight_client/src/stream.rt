@@ -6,11 +6,10 @@ ghost use Rattle.flight_info.specs.Payloads.{Payload};
 ghost use Rattle.flight_client.specs.Stream.{begun, after_payload, glance_of, Came, Ends, schema_said};
 
 use crate::status::status_end;
+use crate::stream_reader::StreamReader;
 use arrays::Batch;
 use arrow_schema::Schema;
 use bytes::Bytes;
-use flight_proto::{BorrowedData, FlightData};
-use ipc_batch::Reader;
 use scan_base::Fault;
 use std::alloc::Global;
 use std::marker::Model;
@@ -19,7 +18,7 @@ use std::marker::Model;
 /// that they say, whose values are cuts of the payloads: none is copied.
 #[derive(Drop)]
 pub struct Stream {
-    pub(crate) reader: Reader,
+    pub(crate) reader: StreamReader,
     pub(crate) batches: Vec<Batch>,
     end: Option<Result<(), Fault>>,
 }
@@ -48,7 +47,7 @@ impl Stream {
         ensures came { Came [] result }
     {
         Stream {
-            reader: Reader::new(),
+            reader: StreamReader::new(),
             batches: Vec::new(alloc),
             end: None,
         }
@@ -63,7 +62,6 @@ impl Stream {
     /// - Those of `ipc_batch::Reader::message` (F6, F7, F8, F12) for its message, also where its header is empty.
     /// - F21 (`Fault::OutOfMemory`) where memory is refused, and never for a payload that is no FlightData, nor for
     ///   what `Reader::message` looks at first.
-    #[tactic(auto, unfolding(crate::specs::Stream::after_payload, crate::specs::Stream::glance_of))]
     pub fn message(&mut self, alloc: Global, payload: &Bytes) -> Result<(), Fault>
         ensures exact { GivesUnlessMemory (λ _. self.new) result (after_payload self.old payload.now) }
         ensures first { RefusesFirst result (glance_of self.old payload.now) }
@@ -71,26 +69,10 @@ impl Stream {
             → Came (payloads ++ payload.now ∷ []) self.new) }
         ensures kept { OnErr result (self.new ≡ self.old) }
     {
-        let Ok(data) = FlightData::read(payload) else {
-            self.glance(alloc, payload.as_slice())?;
-            return Err(Fault::OutOfMemory);
-        };
-        let batch = self
-            .reader
-            .message(alloc, data.data_header, data.data_body)?;
-        if let Some(batch) = batch {
+        if let Some(batch) = self.reader.message(alloc, payload)? {
             self.batches.push(batch)?;
         }
         Ok(())
-    }
-
-    // What is refused of the next payload before anything grows or is cut.
-    #[tactic(auto, unfolding(crate::specs::Stream::glance_of))]
-    fn glance(&self, alloc: Global, payload: &[u8]) -> Result<(), Fault>
-        ensures { Gives (λ done. done) result (glance_of self.now payload.now) }
-    {
-        let data = BorrowedData::read(payload)?;
-        self.reader.glance(alloc, data.data_header, data.data_body)
     }
 
     /// The status came, of this code and this text. A code other than 0 stands for the fault with that code and

@@ -1,7 +1,6 @@
 -- Why a stream was not written.
-use Rattle.std.proofs.Common.{◌≡◌, ◌≤◌, ◌<◌, ◌^◌, ℕ, ◌+◌, List, [], ◌∷◌, length, get_or, All, Result, Ok, Err, sym, subst, arith}
+use Rattle.std.proofs.Common.{◌≡◌, ◌≤◌, ◌<◌, ◌^◌, ℕ, ◌+◌, List, [], ◌∷◌, Result, Ok, Err, sym, subst, arith}
 use Rattle.std.specs.Prelude.{MatchResult}
-use Rattle.std.proofs.lemmas.List.Elements.{All-nil, All-cons}
 use Rattle.scan_base.specs.declared.fault.Fault.{Fault}
 use Rattle.scan_base.specs.declared.fault.Fault.TheVariants.{LimitReached, OutOfMemory, Transport}
 use Rattle.arrays.specs.Batch.{BatchAt, cut_batch}
@@ -20,22 +19,6 @@ by_transport batches fault e = subst (IsCause batches) (sym e) tt
 
 pub by_memory : (batches : List BatchAt) (fault : Fault) → fault ≡ OutOfMemory → IsCause batches fault
 by_memory batches fault e = subst (IsCause batches) (sym e) tt
-
--- the cause of some batches is one of all
-cause_of : (some all : List BatchAt) (fault : Fault) → (All HasShortRows all → All HasShortRows some) → IsCause some fault → IsCause all fault
-cause_of some all Transport less cause = tt
-cause_of some all OutOfMemory less cause = tt
-cause_of some all LimitReached less cause = λ each. cause (less each)
-cause_of some all _ less cause = absurd cause
-
--- of none
-pub cause_of_none : (batches : List BatchAt) (fault : Fault) → IsCause [] fault → IsCause batches fault
-cause_of_none batches fault cause = cause_of [] batches fault (λ each k d inside. absurd (omega (arith, inside))) cause
-
--- of one
-pub cause_of_one : (batches : List BatchAt) (i : ℕ) (batch : BatchAt) (fault : Fault) → i < length batches → batch ≡ get_or batches i batch → IsCause (batch ∷ []) fault → IsCause batches fault
-cause_of_one batches i batch fault inside is cause =
-    cause_of (batch ∷ []) batches fault (λ each. All-cons HasShortRows batch [] (subst HasShortRows (sym is) (each i batch inside)) (All-nil HasShortRows)) cause
 
 -- a row that has too long a body
 pub by_row : (batch : BatchAt) (row : ℕ) → row < batch.rows → 2 ^ 31 ≤ plain_length (cut_batch batch row (row + 1)) → IsCause (batch ∷ []) LimitReached

@@ -12,7 +12,8 @@ use Rattle.arrays.proofs.Slices.{batches_keep}
 use Rattle.ipc_batch.specs.Said.{Rows}
 use Rattle.ipc_stream.specs.Stream.{frame}
 use Rattle.grpc_frame.specs.Sending.{Sent, NotSent}
-use Rattle.row_stream.specs.inside.Cuts.{SoFar, Stopped, SentBehind, IsCut}
+use Rattle.row_stream.specs.Writing.{SoFar, Stopped, SentBehind}
+use Rattle.row_stream.specs.inside.Cuts.{IsCut}
 use Rattle.row_stream.specs.declared.cutting.Cut.{Cut}
 use Rattle.row_stream.proofs.Messages.{length-rows_of}
 use Rattle.row_stream.proofs.SoFar.{went_on, stopped_here, stopped}

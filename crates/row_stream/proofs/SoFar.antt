@@ -16,7 +16,8 @@ use Rattle.ipc_batch.specs.Said.{Rows, Says, Sent as SentMessage}
 use Rattle.ipc_stream.specs.declared.message.IpcMessage.{IpcMessage}
 use Rattle.ipc_stream.specs.Stream.{frame, IsMessage, end_marker}
 use Rattle.row_stream.specs.Stream.{sent_in, HasShortBody, StreamSays, IsWhole, WritesStream}
-use Rattle.row_stream.specs.inside.Cuts.{SaysShort, SoFar, Stopped}
+use Rattle.row_stream.specs.Writing.{SoFar, Stopped}
+use Rattle.row_stream.specs.inside.Cuts.{SaysShort}
 use Rattle.row_stream.specs.inside.Frames.{SaysSchema, FrameSent, SendsMessage}
 use Rattle.row_stream.proofs.Messages.{first_said, more_said, schema_short, batch_short}
 

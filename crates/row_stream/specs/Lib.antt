@@ -1,2 +1,3 @@
 pub mod Stream
+pub mod Writing
 pub mod inside

@@ -1,11 +1,11 @@
 //! Rows as an Arrow IPC stream.
 //!
-//! `specs/Stream.antt` says what is written.
+//! `specs/Stream.antt` says what a written stream is, and `specs/Writing.antt` how it is written, batch by batch.
 #![tactic(auto)]
 
 mod cutting;
 mod message;
 mod sending;
-mod writing;
+mod writer;
 
-pub use crate::writing::write_stream;
+pub use crate::writer::StreamWriter;

@@ -9,7 +9,7 @@ ghost use Rattle.ipc_stream.specs.Stream.{announced, frame};
 ghost use Rattle.grpc_frame.specs.Ends.{CanFail, CountsFailure, FailsByTransport};
 ghost use Rattle.grpc_frame.specs.Sending.{Sends};
 ghost use Rattle.row_stream.specs.Stream.{CountsTransport, IsCause};
-ghost use Rattle.row_stream.specs.inside.Cuts.{SendsBatch};
+ghost use Rattle.row_stream.specs.Writing.{SendsBatch};
 ghost use Rattle.row_stream.specs.inside.Frames.{SaysSchema, SendsMessage};
 
 use crate::cutting::next_cut;

@@ -10,7 +10,7 @@ use Rattle.client_calls.specs.declared.failure.Failure.{Failure}
 use Rattle.client_calls.specs.declared.failure.Failure.TheVariants.{Found}
 use Rattle.client_calls.specs.Answers.{Incoming, Stop, stopped_at}
 use Rattle.client_calls.specs.Calls.{Fit}
-use Rattle.client_calls.specs.Outcome.{Outgoing, Line, IsWritten, IsBegun, WhyNot}
+use Rattle.client_calls.specs.Outcome.{Outgoing, Line, IsWritten, IsBegun, WhyNot, left_of}
 
 -- the ends by their parts
 abbrev pub incoming_of : Option (List ℕ) → ℕ → Result Received Stop → Incoming
@@ -18,6 +18,10 @@ incoming_of input failed left = record { input = input; failed = failed; left = 
 
 abbrev pub outgoing_of : Option (List ℕ) → ℕ → Outgoing
 outgoing_of output failed = record { output = output; failed = failed }
+
+-- a connection by its parts
+abbrev pub line_of : Option (List ℕ) → ℕ → Option Fault → Received → Outgoing → Line
+line_of input failed stopped left outgoing = record { incoming = incoming_of input failed (left_of stopped left); outgoing = outgoing }
 
 -- no call stopped
 abbrev pub IsOpen : Line → Type 0

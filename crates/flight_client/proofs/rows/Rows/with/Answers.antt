@@ -1,9 +1,5 @@
-use Rattle.std.proofs.Common.{◌≡◌, ◌++◌, List, sym, subst, rules}
-use Rattle.arrays.specs.Batch.{BatchAt}
-use Rattle.ipc_batch.specs.State.{State}
-use Rattle.flight_client.specs.Stream.{StreamAt}
-use Rattle.flight_client.specs.inside.Typed.{FitsRows, HaveColumns, HasSchema}
-use Rattle.table_versions.specs.Table.{Table}
+use Rattle.std.proofs.Common.{◌≡◌, ◌++◌, sym, subst, rules}
+use Rattle.flight_client.specs.inside.Typed.{HaveColumns, HasSchema}
 use Rattle.flight_client.proofs.Typed.{rows_begun, rows_more}
 use Rattle.flight_client.proofs.rows.Rows.with.Goals as goal
 

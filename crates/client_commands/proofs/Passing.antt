@@ -1,0 +1,407 @@
+-- Streams that are written as they come.
+use Rattle.std.proofs.Common.{◌≡◌, ◌≢◌, ◌&&◌, ◌⊎◌, ◌+◌, ◌<◌, ◌≤◌, ℕ, Bool, true, false, List, [], ◌∷◌, ◌++◌, length, Option, Some, None, Result, Ok, Err, refl, sym, ap, subst, ◌∙◌, inl, inr, append-nil, append_assoc, arith}
+use Rattle.std.specs.Prelude.{◌==◌, not}
+use Rattle.std.specs.List.{flat_map, list_all}
+use Rattle.std.proofs.lemmas.Grind.{flat_map-append}
+use Rattle.std.proofs.lemmas.List.Elements.{All-cons, All-head, All-nil}
+use Rattle.scan_base.specs.declared.fault.Fault.{Fault}
+use Rattle.scan_base.specs.declared.fault.Fault.TheVariants.{BadBatch, BadProto, LimitReached, OutOfMemory, SchemaMismatch, Transport}
+use Rattle.scan_base.specs.Reading.{◌>>=◌, demand}
+use Rattle.scan_base.specs.Lists.{each}
+use Rattle.arrow_schema.specs.declared.schema.Field.{Field}
+use Rattle.arrow_schema.specs.declared.schema.Schema.{Schema}
+use Rattle.arrow_schema.specs.Answer.{plain_schema}
+use Rattle.arrays.specs.Batch.{BatchAt, rows_of}
+use Rattle.arrays.specs.Typed.{AreOfTypes}
+use Rattle.ipc_batch.specs.State.{Known, State}
+use Rattle.ipc_batch.specs.Said.{HasColumns, Rows}
+use Rattle.ipc_batch.proofs.Lengths.{fine, both}
+use Rattle.table_versions.specs.Table.{Table, same_fields}
+use Rattle.table_versions.proofs.Alike.{typed_alike}
+use Rattle.flight_proto.specs.FlightInfo.{EndpointSaid, InfoSaid, info_of}
+use Rattle.flight_proto.specs.Wanted.{Wanted, wanted_bytes}
+use Rattle.flight_info.specs.Payloads.{Payload}
+use Rattle.flight_client.specs.Info.{info_answered}
+use Rattle.flight_client.specs.Join.{joined, one_schema, schema_of_all}
+use Rattle.flight_client.specs.Stream.{StreamAt, schema_said}
+use Rattle.flight_client.proofs.Arrivals.{schema_there}
+use Rattle.grpc_frame.specs.Records.{Received}
+use Rattle.row_stream.specs.Stream.{CountsTransport, HasShortRows, IsCause, WritesStream}
+use Rattle.row_stream.specs.Writing.{SendsBatch, SoFar, Stopped}
+use Rattle.row_stream.proofs.SoFar.{stopped_before, stopped_here}
+use Rattle.client_calls.specs.declared.call.Method.TheVariants.{DoGet, GetFlightInfo}
+use Rattle.client_calls.specs.declared.failure.Failure.{Failure}
+use Rattle.client_calls.specs.declared.failure.Failure.TheVariants.{Found}
+use Rattle.client_calls.specs.Answers.{AnswersOne, AnswersStream, Stop}
+use Rattle.client_calls.specs.Commands.{ReadsEndpoints}
+use Rattle.client_calls.specs.Outcome.{CallsAt, Line}
+use Rattle.client_calls.specs.Taking.{FetchAt, FetchGives, HasNoSchema, IsBegun, IsFetching, KeepsSchema, ended, with_batch}
+use Rattle.command_ends.specs.Printing.{Said}
+use Rattle.client_commands.specs.Fetching.{Asks, FetchesEach, FetchesOne, FetchStops}
+use Rattle.client_commands.specs.Streaming.{ComeSome, HasLongRow, IsCutShort, IsStreamed, LacksSchema, SaysFirst, SaysOther, SaysSchema, Stops, StopsAmong, Streams, WhyNoMore, WritesSome, rows_held}
+use Rattle.client_commands.specs.inside.Passing.{HasPassed, HavePassed, IsPassing, PassesBatches, PassingAt, StopsPassing, WhyUnwritten}
+use Rattle.client_commands.proofs.Fetched.{fetched_more, quiet}
+
+-- ---- streams that came
+
+rows_more : (streams : List StreamAt) (stream : StreamAt) → rows_held (streams ++ stream ∷ []) ≡ rows_held streams ++ stream.rows
+rows_more streams stream =
+    flat_map-append (λ (s : StreamAt). s.rows) streams (stream ∷ []) ∙ ap (λ (rows : Rows). rows_held streams ++ rows) (append-nil stream.rows)
+
+first_stays : (streams : List StreamAt) (stream : StreamAt) (schema : Schema) → SaysFirst streams schema → SaysFirst (streams ++ stream ∷ []) schema
+first_stays [] stream schema says = absurd says
+first_stays (s ∷ ss) stream schema says = says
+
+-- what was written says some of more rows, too
+writes_more : (streams : List StreamAt) (stream : StreamAt) (a b : Option (List ℕ)) → WritesSome streams a b → WritesSome (streams ++ stream ∷ []) a b
+writes_more streams stream a b (inl same) = inl same
+writes_more streams stream a b (inr (schema, says, stopped)) =
+    inr (schema, first_stays streams stream schema says, stopped_before (plain_schema schema) (rows_held (streams ++ stream ∷ [])) (rows_held streams) stream.rows a b (rows_more streams stream) stopped)
+
+-- why what came of a stream was not written, behind others
+no_more : (streams : List StreamAt) (stream : StreamAt) (fault : Fault) → WhyUnwritten stream fault → WhyNoMore (streams ++ stream ∷ []) fault
+no_more streams stream Transport why = tt
+no_more streams stream OutOfMemory why = tt
+no_more streams stream LimitReached long = record {
+  before = rows_held streams ++ long.before;
+  batch = long.batch;
+  are = rows_more streams stream ∙ ap (λ (rows : Rows). rows_held streams ++ rows) long.are ∙ sym (append_assoc (rows_held streams) long.before (rows_of long.batch));
+  long = long.long;
+}
+no_more streams stream _ why = absurd why
+
+-- behind streams that came whole, more came
+come_behind : (front rest : List EndpointSaid) (streams more : List StreamAt) (old middle new : Line) → FetchesEach front streams old middle → ComeSome rest more middle new
+    → ComeSome (front ++ rest) (streams ++ more) old new
+come_behind [] rest [] more old middle new same come = subst (λ (from : Line). ComeSome rest more from new) same come
+come_behind [] rest (s ∷ ss) more old middle new same come = absurd same
+come_behind (e ∷ es) rest [] more old middle new same come = absurd same
+come_behind (e ∷ es) rest (s ∷ ss) more old middle new fetched come = inr (fetched.0, fetched.1, come_behind es rest ss more fetched.0 middle new fetched.2 come)
+
+come_none : (rest : List EndpointSaid) (line : Line) → ComeSome rest [] line line
+come_none [] line = refl
+come_none (e ∷ es) line = refl
+
+-- no read and no write failed
+pub quiet_each : (endpoints : List EndpointSaid) (streams : List StreamAt) (old new : Line) → FetchesEach endpoints streams old new
+    → (new.incoming.failed ≡ old.incoming.failed) × (new.outgoing.failed ≡ old.outgoing.failed)
+quiet_each [] [] old new same = (ap (λ (l : Line). l.incoming.failed) same, ap (λ (l : Line). l.outgoing.failed) same)
+quiet_each [] (s ∷ ss) old new same = absurd same
+quiet_each (e ∷ es) [] old new same = absurd same
+quiet_each (e ∷ es) (s ∷ ss) old new fetched =
+    let one = quiet e s old fetched.0 fetched.1 in
+    let others = quiet_each es ss fetched.0 new fetched.2 in
+    (others.0 ∙ one.0, others.1 ∙ one.1)
+
+-- ---- one batch more
+
+keeps_said : (stream : StreamAt) (before after : State) (batch : Option BatchAt) (own : Schema) → stream.state ≡ before → KeepsSchema before after → SaysSchema stream own → SaysSchema (with_batch stream after batch) own
+keeps_said stream before after None own is kept says = let k : KeepsSchema (Some says.0) after = rw (← is, says.1) at kept in (k.0, k.1, k.2 ∙ says.2)
+keeps_said stream before after (Some batch) own is kept says = let k : KeepsSchema (Some says.0) after = rw (← is, says.1) at kept in (k.0, k.1, k.2 ∙ says.2)
+
+-- a batch of one schema is right by one with the same columns
+typed_by : (schema own : Schema) (stream : StreamAt) (batch : BatchAt) → SaysSchema stream own → same_fields schema.fields own.fields ≡ true → HasColumns (Some batch) stream.state → AreOfTypes schema.fields batch.columns
+typed_by schema own stream batch says same has =
+    let typed : AreOfTypes (says.0).schema.fields batch.columns = rw says.1 at has in
+    let own_typed : AreOfTypes own.fields batch.columns = rw says.2 at typed in
+    All-head (λ (b : BatchAt). AreOfTypes schema.fields b.columns) batch []
+    (typed_alike schema.fields own.fields (batch ∷ []) same (All-cons (λ (b : BatchAt). AreOfTypes own.fields b.columns) batch [] own_typed (All-nil (λ (b : BatchAt). AreOfTypes own.fields b.columns))))
+
+-- why a batch was not written
+unwritten_by : (stream : StreamAt) (before : Rows) (batch : BatchAt) (fault : Fault) → stream.rows ≡ before ++ rows_of batch → IsCause (batch ∷ []) fault → WhyUnwritten stream fault
+unwritten_by stream before batch Transport are cause = tt
+unwritten_by stream before batch OutOfMemory are cause = tt
+unwritten_by stream before batch LimitReached are cause =
+    record { before = before; batch = batch; are = are; long = λ short. cause (All-cons HasShortRows batch [] short (All-nil HasShortRows)) }
+unwritten_by stream before batch _ are cause = absurd cause
+
+-- ---- a stream more joins
+
+next_schema : (stream : StreamAt) (streams : List StreamAt) (schema : Schema) (schemas : List Schema) → schema_said stream ≡ Ok schema → each schema_said streams ≡ Ok schemas
+    → each schema_said (stream ∷ streams) ≡ Ok (schema ∷ schemas)
+next_schema stream streams schema schemas one all = rw (one, all) refl
+
+schemas_more : (streams : List StreamAt) (stream : StreamAt) (schemas : List Schema) (own : Schema) → each schema_said streams ≡ Ok schemas → schema_said stream ≡ Ok own
+    → each schema_said (streams ++ stream ∷ []) ≡ Ok (schemas ++ own ∷ [])
+schemas_more [] stream schemas own all one =
+    let none : [] ≡ schemas = cc in
+    rw (one, ← none) refl
+schemas_more (s ∷ ss) stream schemas own all one =
+    let front = both (schema_said s) (λ (y : Schema). (each schema_said ss >>= λ ys. fine (y ∷ ys))) schemas all in
+    let rest = both (each schema_said ss) (λ (ys : List Schema). fine (front.0 ∷ ys)) schemas front.2 in
+    let is : front.0 ∷ rest.0 ≡ schemas = let last = rest.2 in cc in
+    let more = next_schema s (ss ++ stream ∷ []) front.0 (rest.0 ++ own ∷ []) front.1 (schemas_more ss stream rest.0 own rest.1 one) in
+    subst (λ (l : List Schema). each schema_said (s ∷ (ss ++ stream ∷ [])) ≡ fine (l ++ own ∷ [])) is more
+
+-- whether a schema has the columns of the first
+abbrev alike : Schema → Schema → Bool
+alike first other = same_fields first.fields other.fields
+
+all_more : (p : Schema → Bool) (schemas : List Schema) (own : Schema) → list_all p schemas ≡ true → p own ≡ true → list_all p (schemas ++ own ∷ []) ≡ true
+all_more p [] own all one = rw one refl
+all_more p (s ∷ ss) own all one = by (p s) refl all (λ rest. all_more p ss own rest one)
+  where
+    by : (b : Bool) → p s ≡ b → (b && list_all p ss) ≡ true → (list_all p ss ≡ true → list_all p (ss ++ own ∷ []) ≡ true) → (p s && list_all p (ss ++ own ∷ [])) ≡ true
+    by true is rest more = rw is (more rest)
+    by false is rest more = absurd cc
+
+one_more : (schemas : List Schema) (schema own : Schema) → one_schema schemas ≡ Ok schema → alike schema own ≡ true → one_schema (schemas ++ own ∷ []) ≡ Ok schema
+one_more [] schema own one same = let no : Err BadBatch ≡ Ok schema = one in absurd cc
+one_more (first ∷ others) schema own one same = by (list_all (alike first) others) refl one
+  where
+    by : (b : Bool) → list_all (alike first) others ≡ b → one_schema (first ∷ others) ≡ Ok schema → one_schema (first ∷ (others ++ own ∷ [])) ≡ Ok schema
+    by true is e =
+        let is_first : first ≡ schema = let f = rw is at e in cc in
+        let more = all_more (alike first) others own is (rw is_first same) in
+        rw (more, is_first) refl
+    by false is e = let no : Err SchemaMismatch ≡ Ok schema = rw is at e in absurd cc
+
+-- the rows of streams behind a schema
+abbrev held_table : Schema → List StreamAt → Table
+held_table schema streams = record { schema = schema; rows = rows_held streams }
+
+joined_by : (streams : List StreamAt) (schema : Schema) → schema_of_all streams ≡ Ok schema → joined streams ≡ Ok (held_table schema streams)
+joined_by streams schema one = rw one refl
+
+one_of : (streams : List StreamAt) (schema : Schema) (rows : Rows) → joined streams ≡ Ok (record { schema = schema; rows = rows }) → schema_of_all streams ≡ Ok schema
+one_of streams schema rows e =
+    let all = both (schema_of_all streams) (λ (found : Schema). fine (held_table found streams)) (record { schema = schema; rows = rows }) e in
+    let same : held_table all.0 streams ≡ record { schema = schema; rows = rows } = let last = all.2 in cc in
+    all.1 ∙ ap (λ (table : Table). fine table.schema) same
+
+pub joined_more : (streams : List StreamAt) (stream : StreamAt) (schema own : Schema) → joined streams ≡ Ok (held_table schema streams) → schema_said stream ≡ Ok own → same_fields schema.fields own.fields ≡ true
+    → joined (streams ++ stream ∷ []) ≡ Ok (held_table schema (streams ++ stream ∷ []))
+joined_more streams stream schema own join says same =
+    let all = both (each schema_said streams) one_schema schema (one_of streams schema (rows_held streams) join) in
+    let schemas = schemas_more streams stream all.0 own all.1 says in
+    joined_by (streams ++ stream ∷ []) schema (rw schemas (one_more all.0 schema own all.2 same))
+
+pub joined_first : (stream : StreamAt) (schema : Schema) → schema_said stream ≡ Ok schema → joined (stream ∷ []) ≡ Ok (held_table schema (stream ∷ []))
+joined_first stream schema says = joined_by (stream ∷ []) schema (rw says refl)
+
+says_ended : (stream : StreamAt) (own : Schema) → stream.end ≡ Some (Ok tt) → SaysSchema stream own → schema_said stream ≡ Ok own
+says_ended stream own end says = schema_there stream says.0 end says.1 ∙ ap (λ (s : Schema). fine s) says.2
+
+-- ---- the batches of a stream
+
+module _ (ticket : Payload) (schema own : Schema) (rows : Rows) (start : Option (List ℕ)) (begun : Line) (stream : StreamAt) (now : FetchAt) (out : Said) (waiting : List ℕ)
+    (passing : IsPassing ticket schema own rows start begun stream now out waiting) where
+  -- a batch came
+  module _ (state : State) (line : Line) (batch : BatchAt) (fetching : IsFetching ticket (with_batch stream state (Some batch)) begun line) (kept : KeepsSchema now.state state) (has : HasColumns (Some batch) state) where
+    abbrev with_it : StreamAt
+    with_it = with_batch stream state (Some batch)
+
+    says : SaysSchema with_it own
+    says = keeps_said stream now.state state (Some batch) own passing.state kept passing.says
+
+    typed : AreOfTypes schema.fields batch.columns
+    typed = typed_by schema own with_it batch says passing.same has
+
+    -- and was written
+    pub batch_passed : (next : FetchAt) (out' : Said) (after : List ℕ) → next.state ≡ state → next.line ≡ line → SendsBatch {A = Unit {0}} {E = Fault} (Ok tt) batch out.bytes out'.bytes waiting after
+        → IsPassing ticket schema own rows start begun with_it next out' after
+    batch_passed next out' after state_is line_is sends = record {
+      fetching = subst (λ (l : Line). IsFetching ticket with_it begun l) (sym line_is) fetching;
+      state = sym state_is;
+      says = says;
+      same = passing.same;
+      so = subst (λ (all : Rows). SoFar (plain_schema schema) all start out'.bytes after) (append_assoc rows stream.rows (rows_of batch)) (sends schema (rows ++ stream.rows) start typed passing.so);
+    }
+
+    -- or not
+    pub batch_stopped : (fault : Fault) (failure : Failure) (first out' : Said) (after : List ℕ) → failure ≡ Found fault → SendsBatch {A = Unit {0}} {E = Fault} (Err fault) batch out.bytes out'.bytes waiting after
+        → IsCause (batch ∷ []) fault → CountsTransport {A = Unit {0}} (Err fault) first.failures out'.failures
+        → StopsPassing ticket schema own rows start begun failure line first out'
+    batch_stopped fault failure first out' after is sends cause counted = record {
+      stream = with_it;
+      some = line;
+      fetching = fetching;
+      says = says;
+      wrote = subst (λ (all : Rows). Stopped (plain_schema schema) all start out'.bytes) (append_assoc rows stream.rows (rows_of batch)) (sends schema (rows ++ stream.rows) start typed passing.so);
+      why = inr (fault, is, unwritten_by with_it stream.rows batch fault refl cause, counted, refl);
+    }
+
+  -- the stream ended
+  pub all_passed : (next : FetchAt) (first : Said) → FetchGives ticket (Ok (ended (with_batch stream next.state None))) begun next.line → KeepsSchema now.state next.state → out.failures ≡ first.failures
+      → HasPassed ticket schema own rows start begun next first out waiting
+  all_passed next first fetched kept quiet = record {
+    stream = ended (with_batch stream next.state None);
+    fetched = fetched;
+    ended = refl;
+    state = refl;
+    says = keeps_said stream now.state next.state None own passing.state kept passing.says;
+    so = passing.so;
+    quiet = quiet;
+  }
+
+  -- it failed
+  pub fetch_failed : (failure : Failure) (line : Line) (first : Said) → FetchGives ticket (Err failure) begun line → out.failures ≡ first.failures
+      → StopsPassing ticket schema own rows start begun failure line first out
+  fetch_failed failure line first fetched quiet = record {
+    stream = stream;
+    some = now.line;
+    fetching = passing.fetching;
+    says = passing.says;
+    wrote = stopped_here (plain_schema schema) (rows ++ stream.rows) (rows ++ stream.rows) [] start out.bytes waiting (sym (append-nil (rows ++ stream.rows))) passing.so;
+    why = inl (fetched, quiet);
+  }
+
+-- ---- a stream behind others
+
+module _ (front behind : List EndpointSaid) (endpoint : EndpointSaid) (streams : List StreamAt) (first middle : Line) (fetched : FetchesEach front streams first middle) where
+  came_next : (stream : StreamAt) (some : Line) → IsFetching endpoint.ticket stream middle some → ComeSome (front ++ endpoint ∷ behind) (streams ++ stream ∷ []) first some
+  came_next stream some fetching = come_behind front (endpoint ∷ behind) streams (stream ∷ []) first middle some fetched (inl (refl, fetching))
+
+  came_whole : (stream : StreamAt) (some : Line) → FetchesOne endpoint (Ok stream) middle some → ComeSome (front ++ endpoint ∷ behind) (streams ++ stream ∷ []) first some
+  came_whole stream some one = come_behind front (endpoint ∷ behind) streams (stream ∷ []) first middle some fetched (inr (some, one, come_none behind some))
+
+  came_front : ComeSome (front ++ endpoint ∷ behind) streams first middle
+  came_front = subst (λ (all : List StreamAt). ComeSome (front ++ endpoint ∷ behind) all first middle) (append-nil streams) (come_behind front (endpoint ∷ behind) streams [] first middle middle fetched refl)
+
+  fetch_stops : (failure : Failure) (last : Line) → FetchGives endpoint.ticket (Err failure) middle last → FetchStops (front ++ endpoint ∷ behind) failure first last
+  fetch_stops failure last gives = record { front = front; rest = endpoint ∷ behind; splits = refl; streams = streams; middle = middle; fetched = fetched; why = inl gives }
+
+  -- it was not begun
+  pub not_begun : (failure : Failure) (last : Line) (begun out : Said) → WritesSome streams begun.bytes out.bytes → out.failures ≡ begun.failures
+      → FetchGives endpoint.ticket (Err failure) middle last ⊎ HasNoSchema endpoint.ticket failure middle last → StopsAmong (front ++ endpoint ∷ behind) failure first last begun out
+  not_begun failure last begun out wrote quiet (inl gives) = record { streams = streams; some = middle; came = came_front; wrote = wrote; why = inl (fetch_stops failure last gives, quiet) }
+  not_begun failure last begun out wrote quiet (inr lacks) = record {
+    streams = streams ++ lacks.stream ∷ [];
+    some = last;
+    came = came_whole lacks.stream last lacks.whole;
+    wrote = writes_more streams lacks.stream begun.bytes out.bytes wrote;
+    why = inr (BadBatch, lacks.failure_is, record { before = streams; last = lacks.stream; are = refl; lacks = lacks.none }, quiet, refl);
+  }
+
+  -- it has other columns
+  pub has_other : (state : State) (line : Line) (schema own : Schema) (begun out : Said) (it : IsBegun endpoint.ticket state middle line) → WritesSome streams begun.bytes out.bytes → out.failures ≡ begun.failures
+      → SaysFirst streams schema → (it.known).schema ≡ own → same_fields schema.fields own.fields ≡ false → StopsAmong (front ++ endpoint ∷ behind) (Found SchemaMismatch) first line begun out
+  has_other state line schema own begun out it wrote quiet says is differ = record {
+    streams = streams ++ it.stream ∷ [];
+    some = line;
+    came = came_next it.stream line it.fetching;
+    wrote = writes_more streams it.stream begun.bytes out.bytes wrote;
+    why = inr (SchemaMismatch, refl, record {
+      schema = schema;
+      first = first_stays streams it.stream schema says;
+      before = streams;
+      last = it.stream;
+      are = refl;
+      other = own;
+      says = (it.known, it.state_is ∙ it.has_schema, is);
+      differ = differ;
+    }, quiet, refl);
+  }
+
+  -- it stopped behind some rows
+  pub stream_stops : (schema own : Schema) (failure : Failure) (last : Line) (begun mid out : Said) → ((stream : StreamAt) → SaysSchema stream own → SaysFirst (streams ++ stream ∷ []) schema) → mid.failures ≡ begun.failures
+      → StopsPassing endpoint.ticket schema own (rows_held streams) begun.bytes middle failure last mid out → StopsAmong (front ++ endpoint ∷ behind) failure first last begun out
+  stream_stops schema own failure last begun mid out says quiet stops = record {
+    streams = streams ++ stops.stream ∷ [];
+    some = stops.some;
+    came = came_next stops.stream stops.some stops.fetching;
+    wrote = inr (schema, says stops.stream stops.says, subst (λ (rows : Rows). Stopped (plain_schema schema) rows begun.bytes out.bytes) (sym (rows_more streams stops.stream)) stops.wrote);
+    why = by stops.why;
+  }
+    where
+      by : ((FetchGives endpoint.ticket (Err failure) middle last × (out.failures ≡ mid.failures))
+          ⊎ ((fault : Fault) × (failure ≡ Found fault) × WhyUnwritten stops.stream fault × CountsTransport {A = Unit {0}} (Err fault) mid.failures out.failures × (last ≡ stops.some)))
+          → Stops (front ++ endpoint ∷ behind) (streams ++ stops.stream ∷ []) failure first stops.some last begun out
+      by (inl (gives, still)) = inl (fetch_stops failure last gives, still ∙ quiet)
+      by (inr (fault, is, why, counted, same)) =
+          inr (fault, is, no_more streams stops.stream fault why, subst (λ (n : ℕ). CountsTransport {A = Unit {0}} (Err fault) n out.failures) quiet counted, same)
+
+  -- it came whole
+  pub stream_passed : (schema own : Schema) (now : FetchAt) (begun mid out : Said) (waiting : List ℕ) → ((stream : StreamAt) → SaysSchema stream own → SaysFirst (streams ++ stream ∷ []) schema) → mid.failures ≡ begun.failures
+      → ((stream : StreamAt) → schema_said stream ≡ Ok own → joined (streams ++ stream ∷ []) ≡ Ok (held_table schema (streams ++ stream ∷ [])))
+      → HasPassed endpoint.ticket schema own (rows_held streams) begun.bytes middle now mid out waiting → HavePassed (front ++ endpoint ∷ []) first begun (record { line = now.line; schema = schema; waiting = waiting }) out
+  stream_passed schema own now begun mid out waiting says quiet join passed = record {
+    streams = streams ++ passed.stream ∷ [];
+    fetched = fetched_more front streams endpoint passed.stream first middle now.line fetched passed.fetched;
+    says = says passed.stream passed.says;
+    join = join passed.stream (says_ended passed.stream own passed.ended passed.says);
+    so = subst (λ (rows : Rows). SoFar (plain_schema schema) rows begun.bytes out.bytes waiting) (sym (rows_more streams passed.stream)) passed.so;
+    quiet = passed.quiet ∙ quiet;
+  }
+
+-- ---- the first stream
+
+-- its schema was not sent
+pub schema_unsent : (endpoint : EndpointSaid) (behind : List EndpointSaid) (state : State) (schema : Schema) (fault : Fault) (first line : Line) (begun out : Said) (it : IsBegun endpoint.ticket state first line) → (it.known).schema ≡ schema
+    → Stopped (plain_schema schema) [] begun.bytes out.bytes → IsCause [] fault → CountsTransport {A = Unit {0}} (Err fault) begun.failures out.failures → StopsAmong (endpoint ∷ behind) (Found fault) first line begun out
+schema_unsent endpoint behind state schema fault first line begun out it is stopped cause counted = record {
+  streams = it.stream ∷ [];
+  some = line;
+  came = inl (refl, it.fetching);
+  wrote = inr (schema, (it.known, it.state_is ∙ it.has_schema, is), subst (λ (rows : Rows). Stopped (plain_schema schema) rows begun.bytes out.bytes) (sym (append-nil it.stream.rows ∙ it.no_rows)) stopped);
+  why = inr (fault, refl, by fault cause, counted, refl);
+}
+  where
+    by : (fault : Fault) → IsCause [] fault → WhyNoMore (it.stream ∷ []) fault
+    by Transport cause = tt
+    by OutOfMemory cause = tt
+    by LimitReached cause = absurd (cause (All-nil HasShortRows))
+    by _ cause = absurd cause
+
+-- ---- all streams
+
+come_all : (endpoints : List EndpointSaid) (streams : List StreamAt) (old new : Line) → FetchesEach endpoints streams old new → ComeSome endpoints streams old new
+come_all [] [] old new same = same
+come_all [] (s ∷ ss) old new same = absurd same
+come_all (e ∷ es) [] old new same = absurd same
+come_all (e ∷ es) (s ∷ ss) old new fetched = inr (fetched.0, fetched.1, come_all es ss fetched.0 new fetched.2)
+
+-- what was sent so far is written, or a beginning of it
+pub have_written : (endpoints : List EndpointSaid) (first : Line) (begun out : Said) (now : PassingAt) (passed : HavePassed endpoints first begun now out) → WritesSome passed.streams begun.bytes out.bytes
+have_written endpoints first begun out now passed =
+    inr (now.schema, passed.says, stopped_here (plain_schema now.schema) (rows_held passed.streams) (rows_held passed.streams) [] begun.bytes out.bytes now.waiting (sym (append-nil (rows_held passed.streams))) passed.so)
+
+module _ (wanted : Wanted) (endpoints : List EndpointSaid) (old middle : Line) (asked : Asks wanted (Ok endpoints) old middle) (begun out out' : Said) (now : PassingAt) (passed : HavePassed endpoints middle begun now out) where
+  -- the end was written
+  pub all_streamed : WritesStream {A = Unit {0}} {E = Fault} (Ok tt) (plain_schema now.schema) (rows_held passed.streams) begun.bytes out'.bytes → out'.failures ≡ out.failures → Streams wanted (Ok tt) old now.line begun out'
+  all_streamed (stream, whole, wrote) quiet = record {
+    table = held_table now.schema passed.streams;
+    fetched = record { endpoints = endpoints; middle = middle; asked = asked; streams = passed.streams; fetched = passed.fetched; rows_are = passed.join };
+    stream = stream;
+    whole = whole;
+    wrote = wrote;
+    quiet = quiet ∙ passed.quiet;
+  }
+
+  -- or not
+  pub not_ended : (fault : Fault) → WritesStream {A = Unit {0}} {E = Fault} (Err fault) (plain_schema now.schema) (rows_held passed.streams) begun.bytes out'.bytes → fault ≡ Transport
+      → CountsTransport {A = Unit {0}} (Err fault) out.failures out'.failures → Streams wanted (Err (Found fault)) old now.line begun out'
+  not_ended fault stopped is counted = inr (record {
+    endpoints = endpoints;
+    middle = middle;
+    asked = asked;
+    stops = record {
+      streams = passed.streams;
+      some = now.line;
+      came = come_all endpoints passed.streams middle now.line passed.fetched;
+      wrote = inr (now.schema, passed.says, stopped);
+      why = inr (fault, refl, subst (WhyNoMore passed.streams) (sym is) tt, subst (λ (n : ℕ). CountsTransport {A = Unit {0}} (Err fault) n out'.failures) passed.quiet counted, refl);
+    };
+  })
+
+-- ---- there are endpoints
+
+none_demanded : (info : InfoSaid) → info.endpoints ≡ [] → (x : Unit {0}) → demand (not (length info.endpoints == 0)) BadProto ≡ Ok x → ⊥
+none_demanded info none x e = let no : Err BadProto ≡ Ok x = rw none at e in absurd cc
+
+some_said : (message : List ℕ) → (info_answered message >>= λ info. fine info.endpoints) ≡ Ok [] → ⊥
+some_said message e =
+    let answered = both (info_answered message) (λ (info : InfoSaid). fine info.endpoints) [] e in
+    let none : (answered.0).endpoints ≡ [] = let last = answered.2 in cc in
+    let read = both (info_of message) (λ (info : InfoSaid). (demand (not (length info.endpoints == 0)) BadProto >>= λ _. fine info)) answered.0 answered.1 in
+    let right = both (demand (not (length (read.0).endpoints == 0)) BadProto) (λ _. fine read.0) answered.0 read.2 in
+    let same : read.0 ≡ answered.0 = let last = right.2 in cc in
+    none_demanded read.0 (ap (λ (info : InfoSaid). info.endpoints) same ∙ none) right.0 right.1
+
+pub some_asked : (wanted : Wanted) (old new : Line) → Asks wanted (Ok []) old new → ⊥
+some_asked wanted old new = by old.incoming.left
+  where
+    by : (left : Result Received Stop) → CallsAt left GetFlightInfo (wanted_bytes wanted ∷ []) (AnswersOne (ReadsEndpoints (λ (endpoints : List EndpointSaid). endpoints))) (Ok []) old new → ⊥
+    by (Ok left) (inl called) = some_said called.answers.0 called.answers.2.0
+    by (Ok left) (inr refused) = let e = refused.1 in absurd cc
+    by (Err fault) stopped = let e = stopped.0 in absurd cc

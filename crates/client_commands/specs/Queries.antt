@@ -1,0 +1,77 @@
+-- What a query does.
+use Rattle.std.specs.Prelude.{◌≡◌, ◌⊎◌, ℕ, List, Option, Some, None, Result, Ok, Err}
+use Rattle.flight_proto.specs.Wanted.{Wanted, rows_of}
+use Rattle.table_versions.specs.Table.{Table}
+use Rattle.client_calls.specs.declared.failure.Failure.{Failure}
+use Rattle.client_calls.specs.Outcome.{Line}
+use Rattle.command_line.specs.declared.request.Format.{Format}
+use Rattle.command_ends.specs.Network.{Ends}
+use Rattle.command_ends.specs.Printing.{Said, cause_lines}
+use Rattle.command_ends.specs.declared.exit_status.ExitStatus.{ExitStatus}
+use Rattle.command_ends.specs.declared.exit_status.ExitStatus.TheVariants.{Done}
+use Rattle.client_commands.specs.Commands.{Connects, Desk, EndsBy}
+use Rattle.client_commands.specs.Handles.{Giving}
+use Rattle.client_commands.specs.Lines.{opened_line}
+use Rattle.client_commands.specs.Rows.{text_of}
+use Rattle.client_commands.specs.Spread.{FetchesSpread, IsUnconnected}
+use Rattle.client_commands.specs.Streaming.{Streams}
+use Rattle.client_commands.specs.Told.{Tells, TellsFailure}
+
+-- ---- a text of all rows
+
+-- what came of asking for the first connection; where the network gave none, no other is asked for
+abbrev pub GivesFirst : {N : Type 0} → Giving N → N → N → N → Option Ends → Type 0
+GivesFirst Gives old middle new None = Gives old None new
+GivesFirst Gives old middle new (Some ends) = Gives old (Some ends) middle
+
+-- The network gave the first connection, and the rows were not fetched, since it gave no further one: nothing is printed on the
+-- output, and why is said.
+pub record IsCutOff {N : Type 0} (Gives : Giving N) (Shares : N → N → N → Type 0) (streams : ℕ) (wanted : Wanted)
+    (before middle behind : N) (status : ExitStatus) (old new : Desk) : Type 0 where
+  pub ends : Ends
+  pub given : Gives before (Some ends) middle
+  pub last : Line
+  pub unconnected : IsUnconnected Gives Shares streams wanted middle behind (opened_line ends) last
+  pub cause : List ℕ
+  pub says : EndsBy (cause_lines cause) status old new
+
+-- the rows that are wanted, fetched over up to `streams` connections, are printed as a text
+abbrev pub PrintsAll : {N : Type 0} → Giving N → (N → N → N → Type 0) → ℕ → Wanted → (Table → List ℕ) → N → N → ExitStatus → Desk → Desk → Type 0
+PrintsAll {N} Gives Shares streams wanted text before behind status old new =
+    (middle : N) × (Connects (GivesFirst Gives before middle behind)
+    (FetchesSpread Gives Shares streams wanted middle behind) (Tells text) status old new
+    ⊎ IsCutOff Gives Shares streams wanted before middle behind status old new)
+
+-- ---- an Arrow IPC stream
+
+-- nothing is said where all was written, and else the failure
+abbrev pub TellsEnd : Result (Unit {0}) Failure → ExitStatus → Said → Said → Type 0
+TellsEnd (Ok done) status old new = (status ≡ Done) × (new ≡ old)
+TellsEnd (Err failure) status old new = TellsFailure failure status old new
+
+-- the network gave a connection, over which the rows that are wanted were fetched and written as they came
+pub record IsPassedOn {N : Type 0} (Gives : Giving N) (wanted : Wanted) (before behind : N) (status : ExitStatus) (old new : Desk) : Type 0 where
+  pub ends : Ends
+  pub given : Gives before (Some ends) behind
+  pub result : Result (Unit {0}) Failure
+  pub last : Line
+  pub streams : Streams wanted result (opened_line ends) last old.out new.out
+  pub tells : TellsEnd result status old.faults new.faults
+
+-- or it gave none, and why is said
+abbrev pub PassesOn : {N : Type 0} → Giving N → Wanted → N → N → ExitStatus → Desk → Desk → Type 0
+PassesOn Gives wanted before behind status old new =
+    (Gives before None behind × ((cause : List ℕ) × EndsBy (cause_lines cause) status old new))
+    ⊎ IsPassedOn Gives wanted before behind status old new
+
+-- ---- all
+
+-- the rows that are wanted are told as a text, or else written as they come
+abbrev pub TellsWanted : {N : Type 0} → Giving N → (N → N → N → Type 0) → ℕ → Wanted → Option (Table → List ℕ) → N → N → ExitStatus → Desk → Desk → Type 0
+TellsWanted Gives Shares streams wanted (Some text) before behind status old new = PrintsAll Gives Shares streams wanted text before behind status old new
+TellsWanted Gives Shares streams wanted None before behind status old new = PassesOn Gives wanted before behind status old new
+
+-- the rows that a query answers, in a format
+abbrev pub Queries : {N : Type 0} → Giving N → (N → N → N → Type 0) → ℕ → List ℕ → Format → N → N → ExitStatus → Desk → Desk → Type 0
+Queries Gives Shares streams sql format before behind status old new =
+    TellsWanted Gives Shares streams (rows_of sql) (text_of format) before behind status old new

@@ -1,0 +1,127 @@
+-- Rows that are written as they come: fetched over one connection, and written as an Arrow IPC stream, batch by batch.
+use Rattle.std.specs.Prelude.{◌≡◌, ◌⊎◌, ℕ, false, List, [], ◌∷◌, ◌++◌, Option, Some, Result, Ok, Err}
+use Rattle.std.specs.List.{flat_map}
+use Rattle.std.specs.Io.KnownBytes.{Appends}
+use Rattle.scan_base.specs.declared.fault.Fault.{Fault}
+use Rattle.scan_base.specs.declared.fault.Fault.TheVariants.{BadBatch, LimitReached, OutOfMemory, SchemaMismatch, Transport}
+use Rattle.arrow_schema.specs.declared.schema.Schema.{Schema}
+use Rattle.arrow_schema.specs.Answer.{plain_schema}
+use Rattle.arrays.specs.Batch.{BatchAt, rows_of}
+use Rattle.ipc_batch.specs.State.{Known}
+use Rattle.ipc_batch.specs.Said.{Rows}
+use Rattle.table_versions.specs.Table.{Table, same_fields}
+use Rattle.flight_proto.specs.FlightInfo.{EndpointSaid}
+use Rattle.flight_proto.specs.Wanted.{Wanted}
+use Rattle.flight_client.specs.Stream.{StreamAt, schema_said}
+use Rattle.row_stream.specs.Stream.{CountsTransport, HasShortRows, IsWhole}
+use Rattle.row_stream.specs.Writing.{Stopped}
+use Rattle.client_calls.specs.declared.failure.Failure.{Failure}
+use Rattle.client_calls.specs.declared.failure.Failure.TheVariants.{Found}
+use Rattle.client_calls.specs.Outcome.{Line}
+use Rattle.client_calls.specs.Taking.{IsFetching}
+use Rattle.command_ends.specs.Printing.{Said}
+use Rattle.client_commands.specs.Fetching.{Asks, FetchesOne, FetchStops, IsFetched}
+
+-- ---- what came
+
+-- the streams of the first endpoints came whole, and of the next one so much
+abbrev pub ComeSome : List EndpointSaid → List StreamAt → Line → Line → Type 0
+ComeSome endpoints [] old new = new ≡ old
+ComeSome [] (stream ∷ streams) old new = ⊥
+ComeSome (endpoint ∷ endpoints) (stream ∷ streams) old new =
+    ((streams ≡ []) × IsFetching endpoint.ticket stream old new)
+    ⊎ ((middle : Line) × FetchesOne endpoint (Ok stream) old middle × ComeSome endpoints streams middle new)
+
+-- the rows that streams hold, one stream's behind another's
+abbrev pub rows_held : List StreamAt → Rows
+rows_held streams = flat_map (λ (stream : StreamAt). stream.rows) streams
+
+-- this schema came of a stream
+abbrev pub SaysSchema : StreamAt → Schema → Type 0
+SaysSchema stream schema = (known : Known) × (stream.state ≡ Some known) × (known.schema ≡ schema)
+
+-- it came of the first stream
+abbrev pub SaysFirst : List StreamAt → Schema → Type 0
+SaysFirst [] schema = ⊥
+SaysFirst (stream ∷ streams) schema = SaysSchema stream schema
+
+-- ---- what was written of it
+
+-- nothing; or a beginning of the Arrow IPC stream of these rows behind the first schema, which says some of them
+abbrev pub WritesSome : List StreamAt → Option (List ℕ) → Option (List ℕ) → Type 0
+WritesSome streams old new =
+    (new ≡ old) ⊎ ((schema : Schema) × SaysFirst streams schema × Stopped (plain_schema schema) (rows_held streams) old new)
+
+-- ---- why no more was, though no fetch failed
+
+-- the last of these streams ended without a schema
+pub record LacksSchema (streams : List StreamAt) : Type 0 where
+  pub before : List StreamAt
+  pub last : StreamAt
+  pub are : streams ≡ before ++ last ∷ []
+  pub lacks : schema_said last ≡ Err BadBatch
+
+-- the last one says other columns than the first
+pub record SaysOther (streams : List StreamAt) : Type 0 where
+  pub schema : Schema
+  pub first : SaysFirst streams schema
+  pub before : List StreamAt
+  pub last : StreamAt
+  pub are : streams ≡ before ++ last ∷ []
+  pub other : Schema
+  pub says : SaysSchema last other
+  pub differ : same_fields schema.fields other.fields ≡ false
+
+-- the last batch that came has a row of 2 to the 31 bytes or more
+pub record HasLongRow (rows : Rows) : Type 0 where
+  pub before : Rows
+  pub batch : BatchAt
+  pub are : rows ≡ before ++ rows_of batch
+  pub long : ¬ HasShortRows batch
+
+abbrev pub WhyNoMore : List StreamAt → Fault → Type 0
+WhyNoMore streams BadBatch = LacksSchema streams
+WhyNoMore streams SchemaMismatch = SaysOther streams
+WhyNoMore streams LimitReached = HasLongRow (rows_held streams)
+WhyNoMore streams OutOfMemory = Unit {0}
+WhyNoMore streams Transport = Unit {0}
+WhyNoMore streams _ = ⊥
+
+-- ---- all
+
+-- all streams came and join, and the Arrow IPC stream of their rows was written whole
+pub record IsStreamed (wanted : Wanted) (old new : Line) (out out' : Said) : Type 0 where
+  pub table : Table
+  pub fetched : IsFetched wanted table old new
+  pub stream : List ℕ
+  pub whole : IsWhole (plain_schema table.schema) table.rows stream
+  pub wrote : Appends out.bytes out'.bytes stream
+  pub quiet : out'.failures ≡ out.failures
+
+-- a fetch failed; or there is a fault of these streams, or of writing: a write that failed is counted
+abbrev pub Stops : List EndpointSaid → List StreamAt → Failure → Line → Line → Line → Said → Said → Type 0
+Stops endpoints streams failure old some new out out' =
+    (FetchStops endpoints failure old new × (out'.failures ≡ out.failures))
+    ⊎ ((fault : Fault) × (failure ≡ Found fault) × WhyNoMore streams fault
+    × CountsTransport {A = Unit {0}} (Err fault) out.failures out'.failures × (new ≡ some))
+
+-- these streams came, some of them, and no more were written
+pub record StopsAmong (endpoints : List EndpointSaid) (failure : Failure) (old new : Line) (out out' : Said) : Type 0 where
+  pub streams : List StreamAt
+  pub some : Line
+  pub came : ComeSome endpoints streams old some
+  pub wrote : WritesSome streams out.bytes out'.bytes
+  pub why : Stops endpoints streams failure old some new out out'
+
+-- where the rows are was asked, and then it stopped among their streams
+pub record IsCutShort (wanted : Wanted) (failure : Failure) (old new : Line) (out out' : Said) : Type 0 where
+  pub endpoints : List EndpointSaid
+  pub middle : Line
+  pub asked : Asks wanted (Ok endpoints) old middle
+  pub stops : StopsAmong endpoints failure middle new out out'
+
+-- the rows that are wanted are written as they come; or a failure ends it, before the rows or among them
+abbrev pub Streams : Wanted → Result (Unit {0}) Failure → Line → Line → Said → Said → Type 0
+Streams wanted (Ok done) old new out out' = IsStreamed wanted old new out out'
+Streams wanted (Err failure) old new out out' =
+    (Asks wanted (Err failure) old new × (out' ≡ out)) ⊎ IsCutShort wanted failure old new out out'

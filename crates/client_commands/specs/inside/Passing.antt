@@ -1,0 +1,91 @@
+-- Inside: streams that are written as they come.
+use Rattle.std.specs.Prelude.{◌≡◌, ◌⊎◌, ℕ, true, List, [], ◌∷◌, ◌++◌, Option, Some, Result, Ok, Err}
+use Rattle.scan_base.specs.declared.fault.Fault.{Fault}
+use Rattle.scan_base.specs.declared.fault.Fault.TheVariants.{LimitReached, OutOfMemory, Transport}
+use Rattle.arrow_schema.specs.declared.schema.Schema.{Schema}
+use Rattle.arrow_schema.specs.Answer.{plain_schema}
+use Rattle.ipc_batch.specs.State.{State}
+use Rattle.ipc_batch.specs.Said.{Rows}
+use Rattle.table_versions.specs.Table.{same_fields}
+use Rattle.flight_proto.specs.FlightInfo.{EndpointSaid}
+use Rattle.flight_client.specs.Join.{joined}
+use Rattle.flight_client.specs.Stream.{StreamAt}
+use Rattle.flight_info.specs.Payloads.{Payload}
+use Rattle.row_stream.specs.Stream.{CountsTransport}
+use Rattle.row_stream.specs.Writing.{SoFar, Stopped}
+use Rattle.client_calls.specs.declared.failure.Failure.{Failure}
+use Rattle.client_calls.specs.declared.failure.Failure.TheVariants.{Found}
+use Rattle.client_calls.specs.Outcome.{Line}
+use Rattle.client_calls.specs.Taking.{FetchAt, FetchGives, IsFetching}
+use Rattle.command_ends.specs.Printing.{Said}
+use Rattle.client_commands.specs.Fetching.{FetchesEach}
+use Rattle.client_commands.specs.Streaming.{HasLongRow, SaysFirst, SaysSchema, StopsAmong, rows_held}
+
+-- ---- one stream
+
+-- A stream of this schema is being fetched, which has the columns of the schema that is written; and the rows before it and its own
+-- so far were sent.
+pub record IsPassing (ticket : Payload) (schema own : Schema) (rows : Rows) (start : Option (List ℕ)) (begun : Line) (stream : StreamAt)
+    (now : FetchAt) (out : Said) (waiting : List ℕ) : Type 0 where
+  pub fetching : IsFetching ticket stream begun now.line
+  pub state : stream.state ≡ now.state
+  pub says : SaysSchema stream own
+  pub same : same_fields schema.fields own.fields ≡ true
+  pub so : SoFar (plain_schema schema) (rows ++ stream.rows) start out.bytes waiting
+
+-- why what came of a stream is not written
+abbrev pub WhyUnwritten : StreamAt → Fault → Type 0
+WhyUnwritten stream Transport = Unit {0}
+WhyUnwritten stream OutOfMemory = Unit {0}
+WhyUnwritten stream LimitReached = HasLongRow stream.rows
+WhyUnwritten stream _ = ⊥
+
+-- it came whole
+pub record HasPassed (ticket : Payload) (schema own : Schema) (rows : Rows) (start : Option (List ℕ)) (begun : Line)
+    (now : FetchAt) (out out' : Said) (waiting : List ℕ) : Type 0 where
+  pub stream : StreamAt
+  pub fetched : FetchGives ticket (Ok stream) begun now.line
+  pub ended : stream.end ≡ Some (Ok tt)
+  pub state : stream.state ≡ now.state
+  pub says : SaysSchema stream own
+  pub so : SoFar (plain_schema schema) (rows ++ stream.rows) start out'.bytes waiting
+  pub quiet : out'.failures ≡ out.failures
+
+-- it stopped behind some rows
+pub record StopsPassing (ticket : Payload) (schema own : Schema) (rows : Rows) (start : Option (List ℕ)) (begun : Line)
+    (failure : Failure) (now : Line) (out out' : Said) : Type 0 where
+  pub stream : StreamAt
+  pub some : Line
+  pub fetching : IsFetching ticket stream begun some
+  pub says : SaysSchema stream own
+  pub wrote : Stopped (plain_schema schema) (rows ++ stream.rows) start out'.bytes
+  pub why : (FetchGives ticket (Err failure) begun now × (out'.failures ≡ out.failures))
+      ⊎ ((fault : Fault) × (failure ≡ Found fault) × WhyUnwritten stream fault
+      × CountsTransport {A = Unit {0}} (Err fault) out.failures out'.failures × (now ≡ some))
+
+abbrev pub PassesBatches : Result (Unit {0}) Failure → Payload → Schema → Schema → Rows → Option (List ℕ) → Line → FetchAt → Said → Said → List ℕ → Type 0
+PassesBatches (Ok done) ticket schema own rows start begun now out out' waiting = HasPassed ticket schema own rows start begun now out out' waiting
+PassesBatches (Err failure) ticket schema own rows start begun now out out' waiting = StopsPassing ticket schema own rows start begun failure now.line out out'
+
+-- ---- streams one behind the other
+
+-- what goes on from one stream to the next: the connection, the schema of the first one, and the bytes that wait for the next write
+pub record PassingAt : Type 0 where
+  pub line : Line
+  pub schema : Schema
+  pub waiting : List ℕ
+
+-- the streams of these endpoints came whole and join, and their rows were sent
+pub record HavePassed (endpoints : List EndpointSaid) (first : Line) (begun : Said) (now : PassingAt) (out : Said) : Type 0 where
+  pub streams : List StreamAt
+  pub fetched : FetchesEach endpoints streams first now.line
+  pub says : SaysFirst streams now.schema
+  pub join : joined streams ≡ Ok (record { schema = now.schema; rows = rows_held streams })
+  pub so : SoFar (plain_schema now.schema) (rows_held streams) begun.bytes out.bytes now.waiting
+  pub quiet : out.failures ≡ begun.failures
+
+-- the stream of one more endpoint behind these was passed on, or it stopped there, whatever endpoints come behind that
+abbrev pub Passes : {A : Type 0} → (A → PassingAt) → Result A Failure → List EndpointSaid → EndpointSaid → Line → Said → Said → Type 0
+Passes view (Ok passing) front endpoint first begun out = HavePassed (front ++ endpoint ∷ []) first begun (view passing) out
+Passes view (Err failure) front endpoint first begun out = (behind : List EndpointSaid) →
+    (last : Line) × StopsAmong (front ++ endpoint ∷ behind) failure first last begun out
