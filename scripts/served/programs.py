@@ -317,7 +317,7 @@ LINES = [[], ["another"], ["--help"], ["put", "--help"], ["pipe", "--parts", "0"
          ["serve", "--port", "0", "--accept", "65536"], ["serve", "--port", "0", "--workers", "17"],
          ["put", "--port", "1", "--table", "t"], ["put", "--port", "1", "--table", "t", "--mode", "upsert"],
          ["query", "--port", "1"], ["query", "--port", "1", "--streams", "17", "SELECT * FROM t"],
-         ["tables", "--port", "x"],
+         ["tables", "--port", "x"], ["serve", "--port", "0", "--keep", "65537"], ["put", "--port", "1", "--progress", "1"],
          ["expire", "--port", "1"], ["expire", "--version", "1"], ["expire", "--port", "1", "--version", "4294967296"]]
 
 

@@ -6,5 +6,6 @@ pub record Ends : Type 0 where
   pub input : Option (List ℕ)
   pub output : Option (List ℕ)
 
+-- the ends with these, in that order
 abbrev pub ends_of : Option (List ℕ) → Option (List ℕ) → Ends
 ends_of input output = record { input = input; output = output }

@@ -14,5 +14,5 @@ pub mod whole;
 pub use crate::ending::{end_by_answer, end_by_cause, end_by_fault};
 pub use crate::exit_status::ExitStatus;
 pub use crate::network::{Connect, Listen};
-pub use crate::printing::{print_count, print_floor, print_listening};
+pub use crate::printing::{Announced, print_count, print_floor, print_listening};
 pub use crate::whole::{read_messages, read_whole};

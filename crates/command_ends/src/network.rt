@@ -1,5 +1,6 @@
 //! The network, as commands see it: sockets in the program, and ends in memory in tests.
 
+use crate::printing::Announced;
 use grpc_frame::{Input, Output};
 use std::io;
 
@@ -37,7 +38,8 @@ pub trait Connect {
         ensures { shares self.old result self.new };
 }
 
-/// Takes connections of clients.
+/// Takes connections of clients, one behind the other. The first one is taken when the line of the port was printed. Each
+/// other one is taken when the one before it was served as it is owed, and is closed.
 pub trait Listen {
     ghost use Rattle.std.specs.Prelude.{◌≡◌, ℕ, Option, Some, None, IfErr, IfOk};
     ghost use Rattle.command_ends.specs.Network.{Ends, ends_of};
@@ -57,6 +59,21 @@ pub trait Listen {
     // What came of an accept: a connection of these ends, or none.
     ghost accepts: { Self → Option Ends → Self → Type 0 };
 
+    // What came of closing the connection that is open.
+    ghost closes: { Self → Self → Type 0 };
+
+    // The port that is listened to.
+    ghost port_of: { Self → ℕ };
+
+    // No connection that it gave is open.
+    ghost idle: { Self → Type 0 };
+
+    // A connection that it gave is open. These were its ends when it was made.
+    ghost holds: { Self → Ends → Type 0 };
+
+    // What is owed for a connection before it is closed: from its ends when it was made to those that it left.
+    ghost owed: { Ends → Ends → Type 0 };
+
     /// Listens to a port of this machine, 0 for one that is free, and gives the port.
     ///
     /// # Errors
@@ -64,26 +81,45 @@ pub trait Listen {
     /// The system's.
     fn listen(&mut self, port: u16) -> io::Result<u16>
         ensures heard { IfOk result (λ heard. listens self.old port (Some heard) self.new) }
-        ensures refused { IfErr result (λ _. listens self.old port None self.new) };
+        ensures refused { IfErr result (λ _. listens self.old port None self.new) }
+        ensures port { IfOk result (λ heard. port_of self.new ≡ heard) }
+        ensures idle { IfOk result (λ _. idle self.new) };
 
-    /// Another listener to the same port: a connection to it is taken by one of the two.
+    /// Another listener to the same port: a connection to it is taken by one of the two. It gave none yet.
     ///
     /// # Errors
     ///
     /// The system's.
     fn share(&self) -> io::Result<Self>
         ensures made { IfOk result (λ other. shares self.now (Some other)) }
-        ensures refused { IfErr result (λ _. shares self.now None) };
+        ensures refused { IfErr result (λ _. shares self.now None) }
+        ensures port { IfOk result (λ other. port_of other ≡ port_of self.now) }
+        ensures idle { IfOk result (λ other. idle other) };
 
-    /// Waits for the next connection. No call of its ends has failed yet.
+    /// Waits for the next connection, where the line of its port was printed and no other is open. No call of its ends has
+    /// failed yet.
     ///
     /// # Errors
     ///
-    /// The system's.
-    fn accept(&mut self) -> io::Result<(Self::Reader, Self::Writer)>
+    /// The system's. No connection is open then.
+    fn accept(&mut self, announced: &Announced) -> io::Result<(Self::Reader, Self::Writer)>
+        requires announced { announced.now ≡ port_of self.old }
+        requires idle { idle self.old }
         ensures taken { IfOk result (λ ends. accepts self.old
             (Some (ends_of (Self.Reader.remaining ends.0) (Self.Writer.contents ends.1))) self.new) }
         ensures failed { IfErr result (λ _. accepts self.old None self.new) }
         ensures reads { IfOk result (λ ends. Self.Reader.failures ends.0 ≡ 0) }
-        ensures writes { IfOk result (λ ends. Self.Writer.failures ends.1 ≡ 0) };
+        ensures writes { IfOk result (λ ends. Self.Writer.failures ends.1 ≡ 0) }
+        ensures holds { IfOk result (λ ends. holds self.new
+            (ends_of (Self.Reader.remaining ends.0) (Self.Writer.contents ends.1))) }
+        ensures idle { IfErr result (λ _. idle self.new) }
+        ensures port { port_of self.new ≡ port_of self.old };
+
+    /// Closes the connection that is open, and was served as it is owed.
+    fn done(&mut self, reader: Self::Reader, writer: Self::Writer)
+        requires served { (made : Ends) × holds self.old made
+            × owed made (ends_of (Self.Reader.remaining reader) (Self.Writer.contents writer)) }
+        ensures closed { closes self.old self.new }
+        ensures idle { idle self.new }
+        ensures port { port_of self.new ≡ port_of self.old };
 }

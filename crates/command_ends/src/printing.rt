@@ -1,6 +1,6 @@
 //! Lines that commands print.
 
-ghost use Rattle.std.specs.Prelude.{◌++◌};
+ghost use Rattle.std.specs.Prelude.{◌≡◌, ◌++◌, IfOk};
 ghost use Rattle.std.specs.Fmt.{decimal};
 ghost use Rattle.grpc_frame.specs.Ends.{CanFail, CountsFailure, FailsByTransport, Writes};
 ghost use Rattle.grpc_frame.specs.Sending.{Sends};
@@ -10,6 +10,21 @@ use grpc_frame::{Outbox, Output};
 use itoa::Buffer;
 use scan_base::Fault;
 use std::alloc::Global;
+use std::marker::Model;
+
+/// That the line of a port was printed: `print_listening` alone makes one. A contract sees the port.
+#[derive(Drop)]
+pub struct Announced {
+    port: u16,
+}
+
+impl Model for Announced {
+    ghost use Rattle.std.specs.Prelude.{ℕ};
+
+    ghost Value = { ℕ };
+
+    ghost view = { λ announced. announced.port };
+}
 
 /// Prints how many rows were put, in a line.
 ///
@@ -32,15 +47,21 @@ pub fn print_count<W: Output>(alloc: Global, output: &mut W, rows: u64) -> Resul
 /// # Errors
 ///
 /// `Fault::Transport` where a write failed. It is counted, and a beginning of the line is written.
-pub fn print_listening<W: Output>(alloc: Global, output: &mut W, port: u16) -> Result<(), Fault>
+pub fn print_listening<W: Output>(
+    alloc: Global,
+    output: &mut W,
+    port: u16,
+) -> Result<Announced, Fault>
     requires { CanFail (W.failures output.old) }
     ensures bytes { Writes result (W.contents output.old) (W.contents output.new) (listening_line port) }
     ensures counted { CountsFailure result (W.failures output.old) (W.failures output.new) }
     ensures kind { FailsByTransport result }
+    ensures port { IfOk result (λ announced. announced ≡ port) }
 {
     let mut outbox = Outbox::new(alloc);
     send_listening(&mut outbox, output, port)?;
-    outbox.flush(output)
+    outbox.flush(output)?;
+    Ok(Announced { port })
 }
 
 // Sends the line of the port.

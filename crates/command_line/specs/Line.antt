@@ -6,7 +6,7 @@ use Rattle.clap.specs.Simple.{App, new_app, with_rule, with_subcommand}
 use Rattle.clap.specs.declared.builder.value_parser.ValueParser.{ValueParser}
 use Rattle.clap.specs.declared.builder.value_parser.ValueParser.TheVariants.{Names}
 use Rattle.command_line.specs.declared.names.TakenNames.{TakenNames}
-use Rattle.command_line.specs.Numbers.{text_rule, number_rule, parts_taken, workers_taken, seats_taken, accept_taken, idle_taken, streams_taken, port_taken, version_taken}
+use Rattle.command_line.specs.Numbers.{text_rule, number_rule, parts_taken, workers_taken, seats_taken, accept_taken, idle_taken, keep_taken, streams_taken, port_taken, version_taken}
 
 -- ---- options
 
@@ -29,6 +29,10 @@ version_rule = required_rule (number_rule (codes "version") version_taken)
 abbrev pub table_rule : Rule
 table_rule = required_rule (text_rule (codes "table"))
 
+-- the option `--name`, which has no value
+abbrev pub flag_rule : Text → Rule
+flag_rule name = record (new_rule name) { long = Some name; action = Some SetTrue }
+
 -- `--mode`, whose values a parser takes
 abbrev pub mode_rule : ValueParser → Rule
 mode_rule modes = required_rule (record (text_rule (codes "mode")) { parser = Some modes })
@@ -43,7 +47,11 @@ columns_rule = text_rule (codes "columns")
 
 -- `--header`, which has no value
 abbrev pub header_rule : Rule
-header_rule = record (new_rule (codes "header")) { long = Some (codes "header"); action = Some SetTrue }
+header_rule = flag_rule (codes "header")
+
+-- `--progress`, which has no value
+abbrev pub progress_rule : Rule
+progress_rule = flag_rule (codes "progress")
 
 -- the query, which has no name before it
 abbrev pub sql_rule : Rule
@@ -91,18 +99,21 @@ serve =
     let seats = with_rule at (number_rule (codes "seats") seats_taken) in
     let accept = with_rule seats (number_rule (codes "accept") accept_taken) in
     let idle = with_rule accept (number_rule (codes "idle") idle_taken) in
-    with_rule (with_rule idle parts_rule) workers_rule
+    let keep = with_rule idle (number_rule (codes "keep") keep_taken) in
+    with_rule (with_rule keep parts_rule) workers_rule
 
 abbrev pub put : ValueParser → ValueParser → App
 put modes forms =
     let targeted = with_rule (with_rule (with_rule (new_app (codes "put")) port_rule) table_rule) (mode_rule modes) in
-    with_rule (with_rule (with_rule targeted (format_rule forms)) columns_rule) header_rule
+    let formed = with_rule (with_rule (with_rule targeted (format_rule forms)) columns_rule) header_rule in
+    with_rule formed progress_rule
 
 abbrev pub query : ValueParser → App
 query formats =
     let at = with_rule (new_app (codes "query")) port_rule in
     let formatted = with_rule at (format_rule formats) in
-    with_rule (with_rule formatted (number_rule (codes "streams") streams_taken)) sql_rule
+    let fetched = with_rule formatted (number_rule (codes "streams") streams_taken) in
+    with_rule (with_rule fetched progress_rule) sql_rule
 
 abbrev pub tables : App
 tables = with_rule (new_app (codes "tables")) port_rule

@@ -23,6 +23,9 @@ accept_taken = record { least = 0; most = 65535; default = 0 }
 abbrev pub idle_taken : Numbers
 idle_taken = record { least = 0; most = 65535; default = 300 }
 
+abbrev pub keep_taken : Numbers
+keep_taken = record { least = 0; most = 65536; default = 0 }
+
 abbrev pub streams_taken : Numbers
 streams_taken = record { least = 1; most = 16; default = 1 }
 

@@ -9,7 +9,7 @@ use Rattle.clap.specs.Simple.{subcommand_of}
 use Rattle.scan_base.specs.declared.put_options.PutMode.{PutMode}
 use Rattle.scan_base.specs.declared.put_options.PutMode.TheVariants.{Create, Append, Replace}
 use Rattle.command_line.specs.Line.{Parsers, program}
-use Rattle.command_line.specs.Numbers.{SaysNumber, parts_taken, workers_taken, seats_taken, accept_taken, idle_taken, streams_taken, port_taken, version_taken}
+use Rattle.command_line.specs.Numbers.{SaysNumber, parts_taken, workers_taken, seats_taken, accept_taken, idle_taken, keep_taken, streams_taken, port_taken, version_taken}
 use Rattle.command_line.specs.declared.number.Numbers.{Numbers}
 use Rattle.command_line.specs.declared.request.Format.{Format}
 use Rattle.command_line.specs.declared.request.Format.TheVariants.{Lines, Arrow, Csv, Table}
@@ -68,6 +68,7 @@ pub record IsServing (rows : List Row) (serving : Serving) : Type 0 where
   pub seats : IsGiven rows (codes "seats") seats_taken serving.seats
   pub accept : IsGiven rows (codes "accept") accept_taken serving.accept
   pub idle : IsGiven rows (codes "idle") idle_taken serving.idle
+  pub keep : IsGiven rows (codes "keep") keep_taken serving.keep
   pub parts : IsGiven rows (codes "parts") parts_taken serving.parts
   pub workers : IsGiven rows (codes "workers") workers_taken serving.workers
 
@@ -78,13 +79,15 @@ Asks (name, rows) (Pipe parts workers) =
     (name ≢ codes "serve") × (name ≢ codes "put") × (name ≢ codes "query") × (name ≢ codes "tables") × (name ≢ codes "expire")
     × IsGiven rows (codes "parts") parts_taken parts × IsGiven rows (codes "workers") workers_taken workers
 Asks (name, rows) (Serve serving) = (name ≡ codes "serve") × IsServing rows serving
-Asks (name, rows) (Put port table mode form) =
+Asks (name, rows) (Put port table mode form progress) =
     (name ≡ codes "put") × IsGiven rows (codes "port") port_taken port
     × (table.now ≡ text_given rows (codes "table")) × (mode ≡ mode_named (text_given rows (codes "mode"))) × IsForm rows form
-Asks (name, rows) (Query port format streams sql) =
+    × (progress ≡ flag_given rows (codes "progress"))
+Asks (name, rows) (Query port format streams sql progress) =
     (name ≡ codes "query") × IsGiven rows (codes "port") port_taken port
     × (format ≡ format_named (text_given rows (codes "format")))
     × IsGiven rows (codes "streams") streams_taken streams × (sql.now ≡ text_given rows (codes "sql"))
+    × (progress ≡ flag_given rows (codes "progress"))
 Asks (name, rows) (Tables port) = (name ≡ codes "tables") × IsGiven rows (codes "port") port_taken port
 Asks (name, rows) (Expire port version) =
     (name ≡ codes "expire") × IsGiven rows (codes "port") port_taken port × IsGiven rows (codes "version") version_taken version

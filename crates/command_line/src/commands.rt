@@ -7,7 +7,9 @@ ghost use Rattle.clap.specs.Words.{AddsSubcommand, app_of, new_app, rule_of, wit
 ghost use Rattle.command_line.specs.Line as line;
 
 use crate::names::TakenNames;
-use crate::number::{ACCEPT, IDLE, PARTS, PORT, SEATS, STREAMS, VERSION, WORKERS, number_option};
+use crate::number::{
+    ACCEPT, IDLE, KEEP, PARTS, PORT, SEATS, STREAMS, VERSION, WORKERS, number_option,
+};
 use clap::builder::ValueParser;
 use clap::{Arg, ArgAction, Command};
 use std::alloc::{AllocError, Global};
@@ -97,15 +99,33 @@ fn columns<'a>(alloc: Global) -> Arg<'a>
         )
 }
 
+// The option of this name, which has no value.
+fn flag<'a>(alloc: Global, name: &'a str, help: &'a str) -> Arg<'a>
+    ensures rule { rule_of result ≡ line.flag_rule name.entry.now }
+    ensures local { result.global ≡ false }
+{
+    Arg::new(alloc, name)
+        .long(name)
+        .action(ArgAction::SetTrue)
+        .help(help)
+}
+
 // The option `--header`.
 fn header<'a>(alloc: Global) -> Arg<'a>
     ensures rule { rule_of result ≡ line.header_rule }
     ensures local { result.global ≡ false }
 {
-    Arg::new(alloc, "header")
-        .long("header")
-        .action(ArgAction::SetTrue)
-        .help("The first record of CSV has the columns' names")
+    let help = "The first record of CSV has the columns' names";
+    flag(alloc, "header", help)
+}
+
+// The option `--progress`.
+fn progress<'a>(alloc: Global) -> Arg<'a>
+    ensures rule { rule_of result ≡ line.progress_rule }
+    ensures local { result.global ≡ false }
+{
+    let help = "Tells on standard error how far it is";
+    flag(alloc, "progress", help)
 }
 
 // The option `--table`.
@@ -197,11 +217,13 @@ fn serve<'a>(alloc: Global) -> Result<Command<'a>, AllocError>
         number_option(alloc, "accept", ACCEPT, "A", end),
     )?;
     let silence = "Ends a connection after so many seconds without news, 0: never [default: 300]";
-    let waiting = with_one(
+    let newest = "Versions that are kept behind each put, 0: all [default: 0]";
+    let kept = with_two(
         seated,
         number_option(alloc, "idle", IDLE, "SECONDS", silence),
+        number_option(alloc, "keep", KEEP, "K", newest),
     )?;
-    with_two(waiting, parts(alloc), workers(alloc))
+    with_two(kept, parts(alloc), workers(alloc))
 }
 
 // `put`: the rows from standard input, in a form of these names, into a table, by a mode of these names.
@@ -219,7 +241,8 @@ fn put<'a>(
     let at_port = with_one(command(alloc, "put", about, example), port(alloc))?;
     let targeted = with_two(at_port, table(alloc), mode(alloc, modes))?;
     let formed = with_one(targeted, format(alloc, forms, FORMS_HELP))?;
-    with_two(formed, columns(alloc), header(alloc))
+    let named = with_two(formed, columns(alloc), header(alloc))?;
+    with_one(named, progress(alloc))
 }
 
 // `query`: the rows of an answer, in a format of these names.
@@ -234,7 +257,8 @@ fn query<'a>(alloc: Global, formats: &'a [&'a str]) -> Result<Command<'a>, Alloc
     let bare = command(alloc, "query", about, example);
     let formatted = with_two(bare, port(alloc), format(alloc, formats, FORMATS_HELP))?;
     let streams = number_option(alloc, "streams", STREAMS, "K", many);
-    with_two(formatted, streams, sql(alloc))
+    let fetched = with_two(formatted, streams, progress(alloc))?;
+    with_one(fetched, sql(alloc))
 }
 
 // `tables`: the names of the tables.

@@ -51,6 +51,13 @@ pub(crate) const IDLE: Numbers = Numbers {
     default: 300,
 };
 
+/// How many versions are kept behind an accepted put; 0 stands for all.
+pub(crate) const KEEP: Numbers = Numbers {
+    least: 0,
+    most: 65_536,
+    default: 0,
+};
+
 /// Over how many connections `query` fetches.
 pub(crate) const STREAMS: Numbers = Numbers {
     least: 1,

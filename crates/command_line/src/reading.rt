@@ -6,7 +6,7 @@ ghost use Rattle.clap.specs.Words.{first_of, found_of, rows_of};
 ghost use Rattle.command_line.specs.Numbers as taken;
 ghost use Rattle.command_line.specs.Request.{Asks, IsForm, IsGiven, IsServing, flag_given, format_named, is_csv, is_misused, mode_named, text_given};
 
-use crate::number::{ACCEPT, IDLE, PARTS, PORT, SEATS, STREAMS, VERSION, WORKERS, number_of};
+use crate::number::{ACCEPT, IDLE, KEEP, PARTS, PORT, SEATS, STREAMS, VERSION, WORKERS, number_of};
 use crate::request::{CsvForm, Format, PutForm, Request, Serving};
 use clap::ArgMatches;
 use scan_base::PutMode;
@@ -108,6 +108,7 @@ fn serving_of(matches: &ArgMatches<'_>) -> Serving
         seats: number_of(matches, "seats", SEATS),
         accept: number_of(matches, "accept", ACCEPT) as u16,
         idle: number_of(matches, "idle", IDLE) as u16,
+        keep: number_of(matches, "keep", KEEP),
         parts: number_of(matches, "parts", PARTS),
         workers: number_of(matches, "workers", WORKERS),
     }
@@ -124,12 +125,14 @@ pub(crate) fn request_of<'a>(name: &str, matches: &ArgMatches<'a>) -> Request<'a
             table: text_of(matches, "table"),
             mode: mode_of(matches),
             form: form_of(matches),
+            progress: flag_of(matches, "progress"),
         },
         "query" => Request::Query {
             port: port_of(matches),
             format: format_of(matches),
             streams: number_of(matches, "streams", STREAMS),
             sql: text_of(matches, "sql"),
+            progress: flag_of(matches, "progress"),
         },
         "tables" => Request::Tables {
             port: port_of(matches),

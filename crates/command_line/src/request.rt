@@ -13,6 +13,8 @@ pub struct Serving {
     pub accept: u16,
     /// A connection ends where so many seconds nothing comes, or nothing of an answer is read; 0 stands for no end.
     pub idle: u16,
+    /// So many versions are kept behind an accepted put; 0 stands for all.
+    pub keep: u32,
     /// In so many parts the rows of a query may be fetched.
     pub parts: u32,
     /// So many workers one fetch may have.
@@ -60,19 +62,21 @@ pub enum Request<'a> {
     },
     /// Serves connections to a port.
     Serve(Serving),
-    /// Puts the rows from standard input into a table.
+    /// Puts the rows from standard input into a table, and may tell how far it is.
     Put {
         port: u16,
         table: &'a str,
         mode: PutMode,
         form: PutForm<'a>,
+        progress: bool,
     },
-    /// Prints the rows that a query answers in a format, fetched over so many connections.
+    /// Prints the rows that a query answers in a format, fetched over so many connections, and may tell how far it is.
     Query {
         port: u16,
         format: Format,
         streams: u32,
         sql: &'a str,
+        progress: bool,
     },
     /// Prints the names of the tables.
     Tables {

@@ -14,8 +14,8 @@ asked_seats : (found : Option (Text × List Row)) (request : Request) → IsSome
 asked_seats None request asked = absurd asked
 asked_seats (Some (name, rows)) (Pipe parts workers) asked = tt
 asked_seats (Some (name, rows)) (Serve serving) asked = (omega (arith, asked.1.seats.1), asked.1.seats.2)
-asked_seats (Some (name, rows)) (Put port table mode form) asked = tt
-asked_seats (Some (name, rows)) (Query port format streams sql) asked = tt
+asked_seats (Some (name, rows)) (Put port table mode form progress) asked = tt
+asked_seats (Some (name, rows)) (Query port format streams sql progress) asked = tt
 asked_seats (Some (name, rows)) (Tables port) asked = tt
 asked_seats (Some (name, rows)) (Expire port version) asked = tt
 

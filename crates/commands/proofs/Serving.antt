@@ -7,13 +7,19 @@ use Rattle.flight_calls.specs.declared.setting.Options.{Options}
 use Rattle.flight_calls.specs.Seats.{Moves, Seat}
 use Rattle.flight_calls.specs.Owed.{Connection, Serves, connection_of}
 use Rattle.command_ends.specs.Network.{Ends, ends_of}
-use Rattle.commands.specs.Serve.{Accept, Failed, Took, Worker, ServesInTurn, ServesUpTo, worker_of}
+use Rattle.commands.specs.Serve.{Accept, AcceptsThenCloses, Failed, Took, Worker, ServesInTurn, ServesUpTo, worker_of}
 use Rattle.commands.specs.inside.Accepting.{FailsSo, TakesNext, TakesNone}
 
 -- so many connections more, where so many more accepts may fail
 abbrev ServesRest : {L : Type 0} → (L → Option Ends → L → Type 0) → Moves → Options → ℕ → ℕ → Result (Unit {0}) Fault → Worker L → Worker L → Type 0
 ServesRest {L} accepts moves options more patience result old new =
     (all : List (Accept L)) × ServesInTurn accepts moves options all more patience result old new
+
+-- accepts that failed took no connection that is closed
+no_closing : {L : Type 0} (accepts : L → Option Ends → L → Type 0) (closes : L → L → Type 0) (failed : ℕ) (old new : L) → FailsSo accepts failed old new
+    → FailsSo (AcceptsThenCloses accepts closes) failed old new
+no_closing {L} accepts closes zero old new passed = passed
+no_closing {L} accepts closes (suc failed) old new passed = (passed.0, no_closing accepts closes failed old passed.0 passed.1, passed.2)
 
 -- accepts that failed, before what follows
 failed_before : {L : Type 0} (accepts : L → Option Ends → L → Type 0) (moves : Moves) (options : Options) (more failed patience : ℕ) (result : Result (Unit {0}) Fault) (old middle : L) (seat : Seat) (new : Worker L)
@@ -55,31 +61,34 @@ counted_all : (served : ℕ) → served + 0 ≡ served
 counted_all served = omega arith
 
 -- one connection more
-pub one_more : {L : Type 0} (accepts : L → Option Ends → L → Type 0) (moves : Moves) (options : Options) (served : ℕ) (start : Worker L) (old new : L) (seat : Seat) (input output : Option (List ℕ)) (reads writes : ℕ) (result : Result (Unit {0}) Fault) (last : Connection)
-    → ServedSo accepts moves options served start (worker_of old seat)
-    → TakesNext accepts (ends_of input output) old new → reads ≡ 0 → writes ≡ 0
+pub one_more : {L : Type 0} (accepts : L → Option Ends → L → Type 0) (closes : L → L → Type 0) (moves : Moves) (options : Options) (served : ℕ) (start : Worker L) (old middle new : L) (seat : Seat) (input output : Option (List ℕ)) (reads writes : ℕ) (result : Result (Unit {0}) Fault) (last : Connection)
+    → ServedSo (AcceptsThenCloses accepts closes) moves options served start (worker_of old seat)
+    → TakesNext accepts (ends_of input output) old middle → closes middle new → reads ≡ 0 → writes ≡ 0
     → Serves moves options result (connection_of input output reads writes seat) last
-    → ServedSo accepts moves options (served + 1) start (worker_of new last.seat)
-one_more {L} accepts moves options served start old new seat input output reads writes result last so takes unread unwritten serves more end final rest =
+    → ServedSo (AcceptsThenCloses accepts closes) moves options (served + 1) start (worker_of new last.seat)
+one_more {L} accepts closes moves options served start old middle new seat input output reads writes result last so takes closed unread unwritten serves more end final rest =
+    let turns : L → Option Ends → L → Type 0 = AcceptsThenCloses accepts closes in
     let first : Serves moves options result (connection_of input output 0 0 seat) last = rw (unread, unwritten) at serves in
-    let next : ServesRest accepts moves options (suc more) (suc (99 - takes.failed)) end (worker_of takes.listener seat) final
-    = (Took new (ends_of input output) result last ∷ rest.0, (takes.took, first, rest.1)) in
-    let all : ServesRest accepts moves options (suc more) (suc (99 - takes.failed) + takes.failed) end (worker_of old seat) final
-    = failed_before accepts moves options more takes.failed (suc (99 - takes.failed)) end old takes.listener seat final takes.passed next in
-    let whole : ServesUpTo accepts moves options (served + suc more) end start final
-    = so (suc more) end final (subst (λ (n : ℕ). ServesRest accepts moves options (suc more) n end (worker_of old seat) final) (patience_behind takes.failed takes.few) all) in
-    subst (λ (n : ℕ). ServesUpTo accepts moves options n end start final) (counted_once served more) whole
+    let next : ServesRest turns moves options (suc more) (suc (99 - takes.failed)) end (worker_of takes.listener seat) final
+    = (Took new (ends_of input output) result last ∷ rest.0, ((middle, takes.took, closed), first, rest.1)) in
+    let all : ServesRest turns moves options (suc more) (suc (99 - takes.failed) + takes.failed) end (worker_of old seat) final
+    = failed_before turns moves options more takes.failed (suc (99 - takes.failed)) end old takes.listener seat final
+    (no_closing accepts closes takes.failed old takes.listener takes.passed) next in
+    let whole : ServesUpTo turns moves options (served + suc more) end start final
+    = so (suc more) end final (subst (λ (n : ℕ). ServesRest turns moves options (suc more) n end (worker_of old seat) final) (patience_behind takes.failed takes.few) all) in
+    subst (λ (n : ℕ). ServesUpTo turns moves options n end start final) (counted_once served more) whole
 
 -- no connection more, where one was drawn
-pub no_more : {L : Type 0} (accepts : L → Option Ends → L → Type 0) (moves : Moves) (options : Options) (served drawn : ℕ) (start : Worker L) (old new : L) (seat : Seat) (fault : Fault)
-    → drawn ≡ served + 1 → ServedSo accepts moves options served start (worker_of old seat) → TakesNone accepts old new → fault ≡ Transport
-    → ServesUpTo accepts moves options drawn (Err fault) start (worker_of new seat)
-no_more {L} accepts moves options served drawn start old new seat fault one so takes kind =
-    let none : ServesRest accepts moves options 1 0 (Err fault) (worker_of new seat) (worker_of new seat) = ([], (ap Err kind, refl)) in
-    let all : ServesRest accepts moves options 1 (0 + takes.failed) (Err fault) (worker_of old seat) (worker_of new seat)
-    = failed_before accepts moves options 0 takes.failed 0 (Err fault) old new seat (worker_of new seat) takes.passed none in
+pub no_more : {L : Type 0} (accepts : L → Option Ends → L → Type 0) (closes : L → L → Type 0) (moves : Moves) (options : Options) (served drawn : ℕ) (start : Worker L) (old new : L) (seat : Seat) (fault : Fault)
+    → drawn ≡ served + 1 → ServedSo (AcceptsThenCloses accepts closes) moves options served start (worker_of old seat) → TakesNone accepts old new → fault ≡ Transport
+    → ServesUpTo (AcceptsThenCloses accepts closes) moves options drawn (Err fault) start (worker_of new seat)
+no_more {L} accepts closes moves options served drawn start old new seat fault one so takes kind =
+    let turns : L → Option Ends → L → Type 0 = AcceptsThenCloses accepts closes in
+    let none : ServesRest turns moves options 1 0 (Err fault) (worker_of new seat) (worker_of new seat) = ([], (ap Err kind, refl)) in
+    let all : ServesRest turns moves options 1 (0 + takes.failed) (Err fault) (worker_of old seat) (worker_of new seat)
+    = failed_before turns moves options 0 takes.failed 0 (Err fault) old new seat (worker_of new seat) (no_closing accepts closes takes.failed old new takes.passed) none in
     rw one (so 1 (Err fault) (worker_of new seat)
-    (subst (λ (n : ℕ). ServesRest accepts moves options 1 n (Err fault) (worker_of old seat) (worker_of new seat)) (no_patience_behind takes.failed takes.all) all))
+    (subst (λ (n : ℕ). ServesRest turns moves options 1 n (Err fault) (worker_of old seat) (worker_of new seat)) (no_patience_behind takes.failed takes.all) all))
 
 -- as many as were drawn
 pub all_served : {L : Type 0} (accepts : L → Option Ends → L → Type 0) (moves : Moves) (options : Options) (served drawn : ℕ) (start now : Worker L)

@@ -8,7 +8,7 @@ use Rattle.flight_calls.specs.declared.setting.Options.{Options}
 use Rattle.flight_calls.specs.Seats.{Moves, Seat}
 use Rattle.flight_calls.specs.Owed.{Connection, Serves, connection_of}
 use Rattle.shared_calls.specs.Sharing.{onward}
-use Rattle.command_ends.specs.Network.{Ends}
+use Rattle.command_ends.specs.Network.{Ends, ends_of}
 
 -- ---- a worker
 
@@ -20,6 +20,23 @@ pub record Worker (L : Type 0) : Type 0 where
 -- a worker of this listener and this seat
 abbrev pub worker_of : {L : Type 0} → L → Seat → Worker L
 worker_of listener seat = record { listener = listener; seat = seat }
+
+-- An accept: it failed, and the listener is this one; or it took a connection of these ends, and this one is the listener
+-- when that is closed.
+abbrev pub AcceptsThenCloses : {L : Type 0} → (L → Option Ends → L → Type 0) → (L → L → Type 0) → L → Option Ends → L → Type 0
+AcceptsThenCloses accepts closes old None new = accepts old None new
+AcceptsThenCloses {L} accepts closes old (Some ends) new = (middle : L) × accepts old (Some ends) middle × closes middle new
+
+-- a connection of these ends was served, from a seat on, and left those
+abbrev pub IsServedTo : Moves → Options → Ends → Ends → Type 0
+IsServedTo moves options made left =
+    (seat : Seat) × (result : Result (Unit {0}) Fault) × (last : Connection)
+    × Serves moves options result (connection_of made.input made.output 0 0 seat) last
+    × (left ≡ ends_of last.input last.output)
+
+-- whatever is owed for a connection, serving it to its end is that
+abbrev pub Pays : Moves → Options → (Ends → Ends → Type 0) → Type 0
+Pays moves options owed = (made left : Ends) → IsServedTo moves options made left → owed made left
 
 -- An accept, and the listener behind it: it failed; or it took a connection of these ends, and serving that ended so
 pub data Accept (L : Type 0) : Type 0 where

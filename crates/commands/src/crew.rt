@@ -5,8 +5,8 @@ ghost use Rattle.scan_base.specs.declared.fault.Fault.TheVariants.{OutOfMemory, 
 ghost use Rattle.version_cell.specs.Seats.{seat};
 ghost use Rattle.connection_turns.specs.Drawers as drawers;
 ghost use Rattle.commands.specs.Port.{IsFresh};
-ghost use Rattle.commands.specs.Serve.{DrawsAll, ServesSideBySide, first_fault, made_by};
-ghost use Rattle.commands.specs.inside.Gathering.{HasDrawn, HasWorked, IsNew, IsWithin, state_of, work_of};
+ghost use Rattle.commands.specs.Serve.{AcceptsThenCloses, DrawsAll, ServesSideBySide, first_fault, made_by};
+ghost use Rattle.commands.specs.inside.Gathering.{HasDrawn, HasWorked, IsIdle, IsNew, IsWithin, MayServe, state_of, work_of};
 
 use crate::turns::{Service, serve_in_turn};
 use command_ends::Listen;
@@ -14,6 +14,7 @@ use connection_turns::{Drawer, Turns};
 use flight_calls::Executor;
 use scan_base::Fault;
 use shared_calls::Shared;
+use std::alloc::Global;
 use std::sync::Wait;
 use std::thread;
 use std::thread::Threads;
@@ -45,22 +46,24 @@ pub(crate) struct Crew<'a, 'h, C: CellName, T: Wait, X> {
 ///
 /// - `Fault::OutOfMemory` (F21) where memory is refused.
 /// - `Fault::Transport` (F22) where the network gives no further listener.
-pub(crate) fn workers_of<L: Listen + Drop, C: CellName, T: Wait, X>(
-    service: &Service<'_, '_, T, X>,
+pub(crate) fn workers_of<L: Listen + Drop, C: CellName>(
+    alloc: Global,
+    turns: &Turns,
     drawer: &mut Drawer,
     network: &L,
     scanners: Vec<Scanner<C>>,
 ) -> Result<Vec<ServingWorker<L, C>>, Fault>
     requires seats { All (λ scanner. scanner ≡ seat [] [] 0 []) scanners.items }
-    requires drawer { drawer.old ≡ drawers.drawer_at service.now.turns.now.name (length scanners.items + 1) 0 0 }
+    requires drawer { drawer.old ≡ drawers.drawer_at turns.now.name (length scanners.items + 1) 0 0 }
     ensures made { MatchResult result
         (λ workers. (length workers.items ≡ length scanners.items)
         × All (λ hired. IsFresh L.shares network.now (state_of hired)) workers.items
-        × All (IsNew service.now.turns.now.name) workers.items)
+        × All (IsNew turns.now.name) workers.items
+        × All (IsIdle L.idle L.port_of (L.port_of network.now)) workers.items)
         (λ fault. (fault ≡ OutOfMemory) ⊎ ((fault ≡ Transport) × L.shares network.now None)) }
-    ensures drawer { IfOk result (λ _. drawer.new ≡ drawers.drawer_at service.now.turns.now.name 1 0 0) }
+    ensures drawer { IfOk result (λ _. drawer.new ≡ drawers.drawer_at turns.now.name 1 0 0) }
 {
-    let mut workers = Vec::new(service.alloc);
+    let mut workers = Vec::new(alloc);
     for scanner in scanners {
         let Ok(listener) = network.share() else {
             return Err(Fault::Transport);
@@ -68,7 +71,7 @@ pub(crate) fn workers_of<L: Listen + Drop, C: CellName, T: Wait, X>(
         let worker = Hired {
             listener,
             scanner: Some(scanner),
-            drawer: service.turns.cut(drawer),
+            drawer: turns.cut(drawer),
             served: Ok(()),
         };
         if workers.push(worker).is_err() {
@@ -101,11 +104,14 @@ where
     T: Wait + Clock,
     X: Executor,
 {
-    ghost use Rattle.commands.specs.inside.Gathering.{HasWorked, IsNew};
+    ghost use Rattle.commands.specs.Serve.{AcceptsThenCloses};
+    ghost use Rattle.commands.specs.inside.Gathering.{HasWorked, MayServe};
 
-    ghost takes = { λ crew worker. IsNew crew.service.turns.now.name worker };
+    ghost takes = { λ crew worker. MayServe L.idle L.port_of L.owed crew.service.options crew.service.announced.now
+        crew.service.turns.now.name worker };
 
-    ghost leaves = { λ crew old new. HasWorked L.accepts crew.service.options crew.service.turns.now.name old new };
+    ghost leaves = { λ crew old new. HasWorked (AcceptsThenCloses L.accepts L.closes) crew.service.options
+        crew.service.turns.now.name old new };
 
     fn work(&self, worker: &mut ServingWorker<L, C>) {
         let scanner = worker.scanner.take().unwrap();
@@ -191,9 +197,10 @@ where
     X: Executor + Sync,
     requires parts { crew.now.service.turns.now.parts ≡ length workers.items + 1 }
     requires drawer { drawer ≡ drawers.drawer_at crew.now.service.turns.now.name 1 0 0 }
-    requires new { All (IsNew crew.now.service.turns.now.name) workers.items }
+    requires may { All (MayServe L.idle L.port_of L.owed crew.now.service.options crew.now.service.announced.now
+        crew.now.service.turns.now.name) workers.items }
     requires seats { length workers.items ≡ C.parts }
-    ensures { ServesSideBySide L.accepts crew.now.service.options crew.now.service.turns.now.most
+    ensures { ServesSideBySide (AcceptsThenCloses L.accepts L.closes) crew.now.service.options crew.now.service.turns.now.most
         (map state_of workers.items) result }
 {
     work_side_by_side(crew.service.rt, crew, workers.as_mut_slice());

@@ -1,5 +1,6 @@
 //! A law of servers. The function here does nothing: its contract is the law.
 
+ghost use Rattle.commands.specs.Serve.{AcceptsThenCloses};
 ghost use Rattle.commands.specs.Together.{ServerMeetsHeadline};
 
 use command_ends::Listen;
@@ -9,7 +10,7 @@ use flight_calls::laws::joined;
 /// of one `serve` took, in any order, the streams joined are the rows that were wanted, on the tables as they stood when
 /// the info was given.
 pub fn server_meets_headline<L: Listen>()
-    ensures { ServerMeetsHeadline L.accepts }
+    ensures { ServerMeetsHeadline (AcceptsThenCloses L.accepts L.closes) }
 {
     joined();
 }

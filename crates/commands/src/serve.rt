@@ -7,6 +7,8 @@ ghost use Rattle.command_ends.specs.Printing.{Prints, cause_lines, said_of};
 ghost use Rattle.command_ends.specs.declared.exit_status.ExitStatus.TheVariants.{FaultAtThisEnd};
 ghost use Rattle.commands.specs.Port as serves;
 ghost use Rattle.commands.specs.Port.{Listens, ServesPort};
+ghost use Rattle.commands.specs.Serve.{AcceptsThenCloses, Pays};
+ghost use Rattle.shared_calls.specs.Sharing.{onward};
 
 use crate::crew::{Crew, serve_side_by_side, workers_of};
 use crate::turns::Service;
@@ -39,6 +41,9 @@ pub struct Host<'a, T> {
 /// printed on `faults` in a line, as far as that takes it: F21 where memory for the catalog or the workers is refused,
 /// F22 where a further listener is, the line of the port is not printed, or a hundred accepts of a worker failed one
 /// behind the other; where it does not listen, a second line says so.
+///
+/// The network asks of each accept that the line of the port was printed, and that no connection is open. A connection is closed
+/// when it was served. So of a server that never ends this holds, too.
 pub fn serve<T, L, W: Output, E: Output>(
     host: Host<'_, T>,
     network: &mut L,
@@ -58,8 +63,11 @@ where
     requires writes { CanFail (W.failures output.old) }
     requires prints { CanFail (E.failures faults.old) }
 
+    // Whatever the network is owed for a connection, serving it is that.
+    requires owed { Pays onward (serves.options_of serving) L.owed }
+
     // The network gave a port, which is served, and a fault of this end is printed; or it gave none, and why is.
-    ensures { Listens L.accepts L.shares (L.listens network.old serving.port) serving result network.new
+    ensures { Listens (AcceptsThenCloses L.accepts L.closes) L.shares (L.listens network.old serving.port) serving result network.new
         (said_of W.Output output.old) (said_of W.Output output.new)
         (said_of E.Output faults.old) (said_of E.Output faults.new) }
 {
@@ -100,7 +108,9 @@ where
     L::Writer: Send,
     requires seats { (0 < serving.seats) × (serving.seats ≤ most_seats) }
     requires writes { CanFail (W.failures output.old) }
-    ensures { ServesPort L.accepts L.shares serving result network.now
+    requires port { L.port_of network.now ≡ serving.port }
+    requires owed { Pays onward (serves.options_of serving) L.owed }
+    ensures { ServesPort (AcceptsThenCloses L.accepts L.closes) L.shares serving result network.now
         (said_of W.Output output.old) (said_of W.Output output.new) }
 {
     let blank = open(host.alloc, host.seed, serving.seats as usize)?;
@@ -123,7 +133,9 @@ where
     requires cell { IsNamed blank C.book C.name C.parts }
     requires seats { blank.seats ≡ serving.seats }
     requires writes { CanFail (W.failures output.old) }
-    ensures { ServesPort L.accepts L.shares serving result network.now
+    requires port { L.port_of network.now ≡ serving.port }
+    requires owed { Pays onward (serves.options_of serving) L.owed }
+    ensures { ServesPort (AcceptsThenCloses L.accepts L.closes) L.shares serving result network.now
         (said_of W.Output output.old) (said_of W.Output output.new) }
 {
     let (turns, mut drawer) = open_turns(
@@ -134,15 +146,16 @@ where
     let (putter, scanners) = blank.named::<C, &T>(host.alloc, host.rt)?;
     let putter = SharedPutter::new(putter);
     let executor = Workers::new(host.rt);
+    let workers = workers_of(host.alloc, &turns, &mut drawer, network, scanners)?;
+    let announced = print_listening(host.alloc, output, serving.port)?;
     let service = Service {
         rt: host.rt,
         alloc: host.alloc,
         executor: &executor,
         options: options_of(&serving),
         turns: &turns,
+        announced: &announced,
     };
-    let workers = workers_of(&service, &mut drawer, network, scanners)?;
-    print_listening(host.alloc, output, serving.port)?;
     let crew = Crew {
         service,
         putter: &putter,

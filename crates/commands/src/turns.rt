@@ -4,10 +4,10 @@ ghost use Rattle.std.specs.Prelude.{◌≡◌, ◌<◌, IfErr, IfOk};
 ghost use Rattle.grpc_frame.specs.Ends.{FailsByTransport};
 ghost use Rattle.connection_turns.specs.Drawers as drawers;
 ghost use Rattle.command_ends.specs.Network.{ends_of};
-ghost use Rattle.commands.specs.Serve.{ServesUpTo, worker_of};
+ghost use Rattle.commands.specs.Serve.{AcceptsThenCloses, Pays, ServesUpTo, worker_of};
 ghost use Rattle.commands.specs.inside.Accepting.{TakesNext, TakesNone};
 
-use command_ends::Listen;
+use command_ends::{Announced, Listen};
 use connection_turns::{Drawer, Turns};
 use flight_calls::{Backend, Executor, Options, Setting};
 use scan_base::Fault;
@@ -22,7 +22,8 @@ const MOST_FAILED_ACCEPTS: u32 = 100;
 // It waits so long behind each: what keeps a connection from being accepted may pass.
 const PAUSE_MILLISECONDS: u64 = 20;
 
-/// How all workers serve, who makes the answers to fetches, and how many connections are still to be accepted.
+/// How all workers serve, who makes the answers to fetches, how many connections are still to be accepted, and that the line of
+/// the port was printed.
 #[derive(Drop)]
 pub struct Service<'a, 'h, T: Wait, X> {
     pub rt: &'h T,
@@ -30,9 +31,11 @@ pub struct Service<'a, 'h, T: Wait, X> {
     pub executor: &'a X,
     pub options: Options,
     pub turns: &'a Turns,
+    pub announced: &'a Announced,
 }
 
-/// Serves connections one behind the other, over one backend: one for each turn that it draws, until none is left.
+/// Serves connections one behind the other, over one backend: one for each turn that it draws, until none is left. Each is served
+/// to its end and closed before the next one is accepted, also where turns never end: the listener asks for that.
 ///
 /// # Errors
 ///
@@ -43,8 +46,13 @@ pub fn serve_in_turn<L: Listen, B: Backend, T: Wait + Clock, X: Executor>(
     network: &mut L,
     backend: &mut B,
 ) -> Result<(), Fault>
-    requires { drawer.old ≡ drawers.drawer_at service.now.turns.now.name 1 0 0 }
-    ensures serves { ServesUpTo L.accepts B.moves service.now.options drawer.new.drawn result
+    requires drawer { drawer.old ≡ drawers.drawer_at service.now.turns.now.name 1 0 0 }
+    requires idle { L.idle network.old }
+    requires announced { service.now.announced.now ≡ L.port_of network.old }
+
+    // Whatever the network is owed for a connection, serving it is that.
+    requires owed { Pays B.moves service.now.options L.owed }
+    ensures serves { ServesUpTo (AcceptsThenCloses L.accepts L.closes) B.moves service.now.options drawer.new.drawn result
         (worker_of network.old (B.seat backend.old)) (worker_of network.new (B.seat backend.new)) }
     ensures drawer { (drawer.new.name ≡ service.now.turns.now.name) × (drawer.new.parts ≡ 1) }
     ensures ended { IfOk result (λ _. 0 < drawer.new.ended) }
@@ -53,13 +61,14 @@ pub fn serve_in_turn<L: Listen, B: Backend, T: Wait + Clock, X: Executor>(
         if !service.turns.draw(service.rt, drawer) {
             return Ok(());
         }
-        let (mut reader, mut writer) = accept_next(service.rt, network)?;
+        let (mut reader, mut writer) = accept_next(service.rt, network, service.announced)?;
         let setting = Setting {
             alloc: service.alloc,
             executor: service.executor,
             options: service.options,
         };
         let _ = flight_calls::serve(&setting, &mut reader, &mut writer, backend);
+        network.done(reader, writer);
     }
     unreachable!()
 }
@@ -68,16 +77,22 @@ pub fn serve_in_turn<L: Listen, B: Backend, T: Wait + Clock, X: Executor>(
 fn accept_next<L: Listen>(
     clock: &impl Clock,
     network: &mut L,
+    announced: &Announced,
 ) -> Result<(L::Reader, L::Writer), Fault>
+    requires idle { L.idle network.old }
+    requires announced { announced.now ≡ L.port_of network.old }
     ensures taken { IfOk result (λ ends. TakesNext L.accepts
         (ends_of (L.Reader.remaining ends.0) (L.Writer.contents ends.1)) network.old network.new) }
     ensures none { IfErr result (λ _. TakesNone L.accepts network.old network.new) }
     ensures reads { IfOk result (λ ends. L.Reader.failures ends.0 ≡ 0) }
     ensures writes { IfOk result (λ ends. L.Writer.failures ends.1 ≡ 0) }
+    ensures holds { IfOk result (λ ends. L.holds network.new
+        (ends_of (L.Reader.remaining ends.0) (L.Writer.contents ends.1))) }
+    ensures port { L.port_of network.new ≡ L.port_of network.old }
     ensures kind { FailsByTransport result }
 {
     for _ in 0..MOST_FAILED_ACCEPTS {
-        if let Ok(ends) = network.accept() {
+        if let Ok(ends) = network.accept(announced) {
             return Ok(ends);
         }
         thread::sleep(clock, Duration::from_millis(PAUSE_MILLISECONDS));

@@ -20,7 +20,7 @@ fn words(alloc: Global, line: &str) -> Result<Vec<String>, AllocError> {
 }
 
 // Command lines that are refused, and the first words that are printed.
-static REFUSED: [(&'static str, &'static [u8]); 34] = [
+static REFUSED: [(&'static str, &'static [u8]); 40] = [
     ("", b"error: "),
     ("pipes", b"error: unrecognized subcommand 'pipes'"),
     ("pipe more", b"error: unexpected argument 'more' found"),
@@ -58,6 +58,18 @@ static REFUSED: [(&'static str, &'static [u8]); 34] = [
         b"error: invalid value '65536' for '--accept <A>'",
     ),
     (
+        "serve --port 1 --keep 65537",
+        b"error: invalid value '65537' for '--keep <K>': 65537 is not in 0..=65536",
+    ),
+    (
+        "serve --port 1 --keep all",
+        b"error: invalid value 'all' for '--keep <K>'",
+    ),
+    (
+        "pipe --keep 1",
+        b"error: unexpected argument '--keep' found",
+    ),
+    (
         "put --port 1 --table t",
         b"error: the following required arguments were not provided",
     ),
@@ -82,6 +94,10 @@ static REFUSED: [(&'static str, &'static [u8]); 34] = [
         b"error: invalid value 'lines' for '--format <F>'",
     ),
     (
+        "put --port 1 --table t --mode create --progress=yes",
+        b"error: unexpected value 'yes' for '--progress' found",
+    ),
+    (
         "query --port 1",
         b"error: the following required arguments were not provided",
     ),
@@ -96,6 +112,14 @@ static REFUSED: [(&'static str, &'static [u8]); 34] = [
     (
         "query --port 1 x y",
         b"error: unexpected argument 'y' found",
+    ),
+    (
+        "query --port 1 --progress",
+        b"error: the following required arguments were not provided",
+    ),
+    (
+        "tables --port 1 --progress",
+        b"error: unexpected argument '--progress' found",
     ),
     (
         "tables",
@@ -184,15 +208,16 @@ fn told(alloc: Global, request: Request<'_>) -> Result<String, AllocError> {
         Request::Pipe { parts, workers } => format!(in alloc; "pipe {parts} {workers}"),
         Request::Serve(serving) => {
             let (port, seats, accept) = (serving.port, serving.seats, serving.accept);
-            let idle = serving.idle;
+            let (idle, keep) = (serving.idle, serving.keep);
             let (parts, workers) = (serving.parts, serving.workers);
-            format!(in alloc; "serve {port} {seats} {accept} {idle} {parts} {workers}")
+            format!(in alloc; "serve {port} {seats} {accept} {idle} {keep} {parts} {workers}")
         }
         Request::Put {
             port,
             table,
             mode,
             form,
+            progress,
         } => {
             let mode = match mode {
                 PutMode::Create => "create",
@@ -200,11 +225,11 @@ fn told(alloc: Global, request: Request<'_>) -> Result<String, AllocError> {
                 PutMode::Replace => "replace",
             };
             match form {
-                PutForm::Arrow => format!(in alloc; "put {port} {table} {mode}"),
+                PutForm::Arrow => format!(in alloc; "put {port} {table} {mode} {progress}"),
                 PutForm::Csv(form) => {
                     let columns = form.columns.unwrap_or("found");
                     let header = form.header;
-                    format!(in alloc; "put {port} {table} {mode} csv {columns} {header}")
+                    format!(in alloc; "put {port} {table} {mode} {progress} csv {columns} {header}")
                 }
             }
         }
@@ -213,6 +238,7 @@ fn told(alloc: Global, request: Request<'_>) -> Result<String, AllocError> {
             format,
             streams,
             sql,
+            progress,
         } => {
             let format = match format {
                 Format::Lines => "lines",
@@ -220,7 +246,7 @@ fn told(alloc: Global, request: Request<'_>) -> Result<String, AllocError> {
                 Format::Csv => "csv",
                 Format::Table => "table",
             };
-            format!(in alloc; "query {port} {format} {streams} {sql}")
+            format!(in alloc; "query {port} {format} {streams} {progress} {sql}")
         }
         Request::Tables { port } => format!(in alloc; "tables {port}"),
         Request::Expire { port, version } => format!(in alloc; "expire {port} {version}"),
@@ -228,41 +254,67 @@ fn told(alloc: Global, request: Request<'_>) -> Result<String, AllocError> {
 }
 
 // Command lines, and what they ask for.
-static TAKEN: [(&'static str, &'static str); 17] = [
+static TAKEN: [(&'static str, &'static str); 22] = [
     ("pipe", "pipe 1 1"),
     ("pipe --workers 16 --parts=64", "pipe 64 16"),
-    ("serve --port 0", "serve 0 4 0 300 1 1"),
+    ("serve --port 0", "serve 0 4 0 300 0 1 1"),
     (
         "serve --accept 65535 --port 65535 --seats 32 --parts 2 --workers 3",
-        "serve 65535 32 65535 300 2 3",
+        "serve 65535 32 65535 300 0 2 3",
     ),
-    ("serve --port 1 --idle 0", "serve 1 4 0 0 1 1"),
-    ("put --port 1 --table t --mode create", "put 1 t create"),
+    (
+        "serve --keep 65536 --port 1 --idle 0",
+        "serve 1 4 0 0 65536 1 1",
+    ),
+    ("serve --port 1 --keep=1", "serve 1 4 0 300 1 1 1"),
+    (
+        "put --port 1 --table t --mode create",
+        "put 1 t create false",
+    ),
     (
         "put --mode append --table create --port 1",
-        "put 1 create append",
+        "put 1 create append false",
     ),
-    ("put --port=1 --table= --mode=replace", "put 1  replace"),
+    (
+        "put --port=1 --table= --mode=replace",
+        "put 1  replace false",
+    ),
+    (
+        "put --progress --port 1 --table t --mode create",
+        "put 1 t create true",
+    ),
     (
         "put --port 1 --table t --mode create --format csv",
-        "put 1 t create csv found false",
+        "put 1 t create false csv found false",
     ),
     (
         "put --header --columns a:date? --format=csv --port 1 --table t --mode create",
-        "put 1 t create csv a:date? true",
+        "put 1 t create false csv a:date? true",
     ),
-    ("query --port 1 tables", "query 1 lines 1 tables"),
+    (
+        "put --port 1 --table t --mode create --format csv --progress",
+        "put 1 t create true csv found false",
+    ),
+    ("query --port 1 tables", "query 1 lines 1 false tables"),
     (
         "query SELECT --streams 16 --port 1 --format=arrow",
-        "query 1 arrow 16 SELECT",
+        "query 1 arrow 16 false SELECT",
     ),
     (
         "query --format csv --port 1 -- --port",
-        "query 1 csv 1 --port",
+        "query 1 csv 1 false --port",
     ),
     (
         "query --port 1 --format table SELECT",
-        "query 1 table 1 SELECT",
+        "query 1 table 1 false SELECT",
+    ),
+    (
+        "query --progress --port 1 SELECT",
+        "query 1 lines 1 true SELECT",
+    ),
+    (
+        "query --port 1 -- --progress",
+        "query 1 lines 1 false --progress",
     ),
     ("tables --port 4711", "tables 4711"),
     ("expire --version 3 --port 4711", "expire 4711 3"),

@@ -99,6 +99,7 @@ where
             table,
             mode,
             form,
+            progress: _,
         } => {
             let target = Target { table, mode };
             let putting = Putting { port, target };
@@ -116,6 +117,7 @@ where
             format,
             streams,
             sql,
+            progress: _,
         } => {
             let querying = Querying {
                 port,

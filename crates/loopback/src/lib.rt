@@ -3,7 +3,7 @@
 
 ghost use Rattle.std.specs.Prelude.{◌≡◌, IfOk};
 
-use command_ends::{Connect, Listen};
+use command_ends::{Announced, Connect, Listen};
 use grpc_frame::{Counted, Output};
 use scan_base::Fault;
 use std::io;
@@ -93,6 +93,8 @@ impl<R: Net<Listener = TcpListener, Stream = TcpStream>> Connect for Loopback<'_
 pub struct Port<'a, R> {
     rt: &'a R,
     listener: Option<TcpListener>,
+    // The port that is listened to, or 0 where none is.
+    number: u16,
     // A read or a write of a connection fails after so long without a byte; `None` is never.
     patience: Option<Duration>,
 }
@@ -108,6 +110,7 @@ impl<'a, R> Port<'a, R> {
         Port {
             rt,
             listener: None,
+            number: 0,
             patience,
         }
     }
@@ -124,10 +127,21 @@ impl<R: Net<Listener = TcpListener, Stream = TcpStream>> Listen for Port<'_, R> 
 
     ghost accepts = { λ _ _ _. Unit {0} };
 
+    ghost closes = { λ _ _. Unit {0} };
+
+    ghost port_of = { λ port. port.number };
+
+    ghost idle = { λ _. Unit {0} };
+
+    ghost holds = { λ _ _. Unit {0} };
+
+    ghost owed = { λ _ _. Unit {0} };
+
     fn listen(&mut self, port: u16) -> io::Result<u16> {
         let listener = TcpListener::bind(self.rt, (Ipv4Addr::LOCALHOST, port))?;
         let port = listener.local_addr()?.port();
         self.listener = Some(listener);
+        self.number = port;
         Ok(port)
     }
 
@@ -138,11 +152,12 @@ impl<R: Net<Listener = TcpListener, Stream = TcpStream>> Listen for Port<'_, R> 
         Ok(Port {
             rt: self.rt,
             listener: Some(listener.try_clone()?),
+            number: self.number,
             patience: self.patience,
         })
     }
 
-    fn accept(&mut self) -> io::Result<(Counted<TcpStream>, SocketWriter)> {
+    fn accept(&mut self, _announced: &Announced) -> io::Result<(Counted<TcpStream>, SocketWriter)> {
         let Some(listener) = &self.listener else {
             return Err(io::Error::from(ErrorKind::NotConnected));
         };
@@ -151,6 +166,9 @@ impl<R: Net<Listener = TcpListener, Stream = TcpStream>> Listen for Port<'_, R> 
         stream.set_write_timeout(self.patience)?;
         ends_of(stream)
     }
+
+    // Both ends have the stream, and are dropped.
+    fn done(&mut self, _reader: Counted<TcpStream>, _writer: SocketWriter) {}
 }
 
 // The ends of a stream. What is written goes out at once.

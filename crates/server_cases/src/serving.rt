@@ -1,5 +1,7 @@
 //! A server in a thread, and a client beside it.
 
+ghost use Rattle.std.specs.Prelude.{◌≡◌};
+
 use crate::asking::connected;
 use crate::at_once::{stay_open, stay_whole};
 use crate::clients::run_commands;
@@ -7,7 +9,7 @@ use crate::expiring::expire_old;
 use crate::formats::run_formats;
 use crate::texts::push_text;
 use client_calls::Failure;
-use command_ends::Listen;
+use command_ends::{Announced, Listen};
 use command_line::Serving;
 use commands::serve::{Host, serve};
 use grpc_frame::{Counted, MemoryOutput};
@@ -56,6 +58,7 @@ where
 struct Bound<'a, R> {
     port: Port<'a, R>,
     number: u16,
+    ghost same: { port.number ≡ number },
 }
 
 impl<R: Net<Listener = TcpListener, Stream = TcpStream>> Listen for Bound<'_, R> {
@@ -69,6 +72,16 @@ impl<R: Net<Listener = TcpListener, Stream = TcpStream>> Listen for Bound<'_, R>
 
     ghost accepts = { λ _ _ _. Unit {0} };
 
+    ghost closes = { λ _ _. Unit {0} };
+
+    ghost port_of = { λ bound. bound.number };
+
+    ghost idle = { λ _. Unit {0} };
+
+    ghost holds = { λ _ _. Unit {0} };
+
+    ghost owed = { λ _ _. Unit {0} };
+
     fn listen(&mut self, _port: u16) -> io::Result<u16> {
         Ok(self.number)
     }
@@ -80,8 +93,12 @@ impl<R: Net<Listener = TcpListener, Stream = TcpStream>> Listen for Bound<'_, R>
         })
     }
 
-    fn accept(&mut self) -> io::Result<(Counted<TcpStream>, SocketWriter)> {
-        self.port.accept()
+    fn accept(&mut self, announced: &Announced) -> io::Result<(Counted<TcpStream>, SocketWriter)> {
+        self.port.accept(announced)
+    }
+
+    fn done(&mut self, reader: Counted<TcpStream>, writer: SocketWriter) {
+        self.port.done(reader, writer);
     }
 }
 
@@ -114,6 +131,7 @@ where
         seats: 2,
         accept,
         idle: 0,
+        keep: 0,
         parts: 2,
         workers: 1,
     };

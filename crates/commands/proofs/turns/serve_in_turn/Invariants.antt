@@ -1,5 +1,5 @@
 use Rattle.std.proofs.Common.{◌≡◌}
-use Rattle.commands.specs.Serve.{worker_of}
+use Rattle.commands.specs.Serve.{AcceptsThenCloses, worker_of}
 use Rattle.commands.proofs.Serving.{ServedSo}
 use Rattle.commands.proofs.turns.serve_in_turn.Given as goal
 
@@ -7,5 +7,6 @@ abbrev pub invariant-loop : goal.invariant-loop
 invariant-loop g l =
     (goal.iterator-loop g).can_next l.iterator' × (goal.iterator-loop g).is_finite l.iterator'
     × (l.drawer.name ≡ l.service.turns.now.name) × (l.drawer.parts ≡ 1)
-    × ServedSo g.L.Listen.accepts g.B.Backend.moves l.service.options l.drawer.drawn
+    × ServedSo (AcceptsThenCloses g.L.Listen.accepts g.L.Listen.closes) g.B.Backend.moves l.service.options l.drawer.drawn
     (worker_of l.initial.network (g.B.Backend.seat l.initial.backend)) (worker_of l.network (g.B.Backend.seat l.backend))
+    × g.L.Listen.idle l.network × (g.L.Listen.port_of l.network ≡ g.L.Listen.port_of l.initial.network)
