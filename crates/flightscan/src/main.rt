@@ -40,10 +40,16 @@ fn main(rt: HostRuntime) -> ExitCode {
     };
     let words = match std::env::args(&rt) {
         Ok(words) => words.collect::<Vec<String>>(alloc),
-        Err(error) => return ExitCode::from(refuse_arguments(error.kind(), &mut streams.faults).number()),
+        Err(error) => return ExitCode::from(refuse_arguments(
+            error.kind(),
+            &mut streams.faults,
+        ).number()),
     };
     let Ok(words) = words else {
-        return ExitCode::from(refuse_arguments(ErrorKind::OutOfMemory, &mut streams.faults).number());
+        return ExitCode::from(refuse_arguments(
+            ErrorKind::OutOfMemory,
+            &mut streams.faults,
+        ).number());
     };
     let machine = Machine {
         rt: &rt,

@@ -69,11 +69,7 @@ fn run_put<C: Connect, I: Input, W: Output, E: Output>(
         (λ ends. C.connects connector.old putting.entry.port ends connector.new) putting.entry.target result
         (standard_of I.Input W.Output E.Output streams.old) (standard_of I.Input W.Output E.Output streams.new) }
 {
-    let (input, output, faults) = (
-        &mut streams.input,
-        &mut streams.output,
-        &mut streams.faults,
-    );
+    let (input, output, faults) = (&mut streams.input, &mut streams.output, &mut streams.faults);
     match form {
         PutForm::Arrow => put(alloc, connector, input, output, faults, putting),
         PutForm::Csv(form) => {
