@@ -68,16 +68,15 @@ def with_stands_on(text, amiss):
 
 def exported(crate):
     """The names of types, traits and functions that other crates can see: those that its root declares or brings out, and
-    those of its public modules."""
+    those of its public modules. Of a program, which no crate sees, those that its modules make public."""
     source = CRATES / crate / "src"
-    root = source / "lib.rt"
-    if not root.exists():
-        return set()
+    is_program = not (source / "lib.rt").exists()
+    root = source / ("main.rt" if is_program else "lib.rt")
     text, item = root.read_text(), r"(?m)^pub (?:const )?(?:fn|struct|enum|trait) (\w+)"
     names = set(re.findall(item, text))
     for listed, one in re.findall(r"(?m)^pub use crate::[\w:]+::(?:\{([^}]*)\}|(\w+))", text):
         names |= set(re.findall(r"\w+", listed or one))
-    for module in re.findall(r"(?m)^pub mod (\w+);", text):
+    for module in re.findall(r"(?m)^(?:pub )?mod (\w+);" if is_program else r"(?m)^pub mod (\w+);", text):
         for path in (source / f"{module}.rt", source / module / "mod.rt"):
             names |= set(re.findall(item, path.read_text())) if path.exists() else set()
     return names

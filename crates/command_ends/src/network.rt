@@ -50,8 +50,9 @@ pub trait Listen {
     /// What goes to it.
     type Writer: Output + Drop;
 
-    // What came of asking for a port: this one is listened to, or none.
-    ghost listens: { Self → ℕ → Option ℕ → Self → Type 0 };
+    // What came of asking for a port, where a connection ends behind so many seconds of silence: this port is listened to, or
+    // none.
+    ghost listens: { Self → ℕ → ℕ → Option ℕ → Self → Type 0 };
 
     // What came of asking for another listener to the same port: this one, or none.
     ghost shares: { Self → Option Self → Type 0 };
@@ -66,7 +67,7 @@ pub trait Listen {
     ghost port_of: { Self → ℕ };
 
     // No connection that it gave is open.
-    ghost idle: { Self → Type 0 };
+    ghost at_rest: { Self → Type 0 };
 
     // A connection that it gave is open. These were its ends when it was made.
     ghost holds: { Self → Ends → Type 0 };
@@ -74,16 +75,17 @@ pub trait Listen {
     // What is owed for a connection before it is closed: from its ends when it was made to those that it left.
     ghost owed: { Ends → Ends → Type 0 };
 
-    /// Listens to a port of this machine, 0 for one that is free, and gives the port.
+    /// Listens to a port of this machine, 0 for one that is free, and gives the port. A read or a write of a connection fails
+    /// where for `idle` seconds no byte comes or goes; 0 stands for no end.
     ///
     /// # Errors
     ///
     /// The system's.
-    fn listen(&mut self, port: u16) -> io::Result<u16>
-        ensures heard { IfOk result (λ heard. listens self.old port (Some heard) self.new) }
-        ensures refused { IfErr result (λ _. listens self.old port None self.new) }
+    fn listen(&mut self, port: u16, idle: u16) -> io::Result<u16>
+        ensures heard { IfOk result (λ heard. listens self.old port idle (Some heard) self.new) }
+        ensures refused { IfErr result (λ _. listens self.old port idle None self.new) }
         ensures port { IfOk result (λ heard. port_of self.new ≡ heard) }
-        ensures idle { IfOk result (λ _. idle self.new) };
+        ensures at_rest { IfOk result (λ _. at_rest self.new) };
 
     /// Another listener to the same port: a connection to it is taken by one of the two. It gave none yet.
     ///
@@ -94,7 +96,7 @@ pub trait Listen {
         ensures made { IfOk result (λ other. shares self.now (Some other)) }
         ensures refused { IfErr result (λ _. shares self.now None) }
         ensures port { IfOk result (λ other. port_of other ≡ port_of self.now) }
-        ensures idle { IfOk result (λ other. idle other) };
+        ensures at_rest { IfOk result (λ other. at_rest other) };
 
     /// Waits for the next connection, where the line of its port was printed and no other is open. No call of its ends has
     /// failed yet.
@@ -104,7 +106,7 @@ pub trait Listen {
     /// The system's. No connection is open then.
     fn accept(&mut self, announced: &Announced) -> io::Result<(Self::Reader, Self::Writer)>
         requires announced { announced.now ≡ port_of self.old }
-        requires idle { idle self.old }
+        requires at_rest { at_rest self.old }
         ensures taken { IfOk result (λ ends. accepts self.old
             (Some (ends_of (Self.Reader.remaining ends.0) (Self.Writer.contents ends.1))) self.new) }
         ensures failed { IfErr result (λ _. accepts self.old None self.new) }
@@ -112,7 +114,7 @@ pub trait Listen {
         ensures writes { IfOk result (λ ends. Self.Writer.failures ends.1 ≡ 0) }
         ensures holds { IfOk result (λ ends. holds self.new
             (ends_of (Self.Reader.remaining ends.0) (Self.Writer.contents ends.1))) }
-        ensures idle { IfErr result (λ _. idle self.new) }
+        ensures at_rest { IfErr result (λ _. at_rest self.new) }
         ensures port { port_of self.new ≡ port_of self.old };
 
     /// Closes the connection that is open, and was served as it is owed.
@@ -120,6 +122,6 @@ pub trait Listen {
         requires served { (made : Ends) × holds self.old made
             × owed made (ends_of (Self.Reader.remaining reader) (Self.Writer.contents writer)) }
         ensures closed { closes self.old self.new }
-        ensures idle { idle self.new }
+        ensures at_rest { at_rest self.new }
         ensures port { port_of self.new ≡ port_of self.old };
 }

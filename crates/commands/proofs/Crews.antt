@@ -19,7 +19,7 @@ use Rattle.command_ends.specs.Network.{Ends}
 use Rattle.command_ends.specs.Printing.{Said, listening_line}
 use Rattle.commands.specs.Port.{IsFresh, IsServed, ServesPort, most_of, options_of}
 use Rattle.commands.specs.Serve.{DrawsAll, Pays, Work, IsPartOf, ServesSideBySide, both, first_fault, made_by}
-use Rattle.commands.specs.inside.Gathering.{Begun, Gathered, HasDrawn, HasWorked, HiredWorker, IsIdle, IsNew, IsWithin, MayServe, seat_in, state_of, work_of}
+use Rattle.commands.specs.inside.Gathering.{Begun, Gathered, HasDrawn, HasWorked, HiredWorker, IsAtRest, IsNew, IsWithin, MayServe, seat_in, state_of, work_of}
 
 -- all that is of a history is of one that goes on from it
 within_more : {L : Type 0} (told history : Log) → Begins told history → (all : List (HiredWorker L)) → All (IsWithin told) all → All (IsWithin history) all
@@ -31,24 +31,24 @@ within_more {L} told history more (hired ∷ all) parts =
 
 -- ---- workers that begin
 
-pub none_begun : {L : Type 0} (shares : L → Option L → Type 0) (idle : L → Type 0) (port_of : L → ℕ) (heard : L) (name : TableId) (hub : DrawerAt) (left : List cell.Seat) → All (λ found. found ≡ cell.seat [] [] 0 []) left → hub ≡ drawer_at name (length left + 1) 0 0
-    → Begun shares idle port_of heard name hub [] left (length left)
-none_begun {L} shares idle port_of heard name hub left seats parts = record {
+pub none_begun : {L : Type 0} (shares : L → Option L → Type 0) (at_rest : L → Type 0) (port_of : L → ℕ) (heard : L) (name : TableId) (hub : DrawerAt) (left : List cell.Seat) → All (λ found. found ≡ cell.seat [] [] 0 []) left → hub ≡ drawer_at name (length left + 1) 0 0
+    → Begun shares at_rest port_of heard name hub [] left (length left)
+none_begun {L} shares at_rest port_of heard name hub left seats parts = record {
   counted = omega arith;
   fresh = All-nil (λ (hired : HiredWorker L). IsFresh shares heard (state_of hired));
   new = All-nil (IsNew name);
-  may = All-nil (IsIdle idle port_of (port_of heard));
+  may = All-nil (IsAtRest at_rest port_of (port_of heard));
   seats = seats;
   parts = parts;
 }
 
 -- a worker for one seat more
-pub one_begins : {L : Type 0} (shares : L → Option L → Type 0) (idle : L → Type 0) (port_of : L → ℕ) (heard listener : L) (name : TableId) (hub after other : DrawerAt) (workers more : List (HiredWorker L)) (scanner : cell.Seat) (left rest : List cell.Seat) (count : ℕ)
-    → Begun shares idle port_of heard name hub workers left count → left ≡ scanner ∷ rest → shares heard (Some listener) → idle listener → port_of listener ≡ port_of heard
+pub one_begins : {L : Type 0} (shares : L → Option L → Type 0) (at_rest : L → Type 0) (port_of : L → ℕ) (heard listener : L) (name : TableId) (hub after other : DrawerAt) (workers more : List (HiredWorker L)) (scanner : cell.Seat) (left rest : List cell.Seat) (count : ℕ)
+    → Begun shares at_rest port_of heard name hub workers left count → left ≡ scanner ∷ rest → shares heard (Some listener) → at_rest listener → port_of listener ≡ port_of heard
     → after ≡ drawer_at hub.name (hub.parts - 1) hub.drawn hub.ended → other ≡ drawer_at hub.name 1 0 0
     → more ≡ workers ++ record { listener = listener; scanner = Some scanner; drawer = other; served = Ok tt } ∷ []
-    → Begun shares idle port_of heard name after more rest count
-one_begins {L} shares idle port_of heard listener name hub after other workers more scanner left rest count so next shared free same cut part pushed =
+    → Begun shares at_rest port_of heard name after more rest count
+one_begins {L} shares at_rest port_of heard listener name hub after other workers more scanner left rest count so next shared free same cut part pushed =
     let hired : HiredWorker L = record { listener = listener; scanner = Some scanner; drawer = other; served = Ok tt } in
     let here : All (λ found. found ≡ cell.seat [] [] 0 []) (scanner ∷ rest) = rw next at so.seats in
     let fresh : scanner ≡ cell.seat [] [] 0 [] = All-head (λ found. found ≡ cell.seat [] [] 0 []) scanner rest here in
@@ -60,20 +60,20 @@ one_begins {L} shares idle port_of heard listener name hub after other workers m
       counted = omega (arith, longer, counted);
       fresh = rw pushed (All-push (λ (worker : HiredWorker L). IsFresh shares heard (state_of worker)) workers hired so.fresh (shared, ap seat_at fresh));
       new = rw pushed (All-push (IsNew name) workers hired so.new (refl, new));
-      may = rw pushed (All-push (IsIdle idle port_of (port_of heard)) workers hired so.may (free, same));
+      may = rw pushed (All-push (IsAtRest at_rest port_of (port_of heard)) workers hired so.may (free, same));
       seats = All-tail (λ found. found ≡ cell.seat [] [] 0 []) scanner rest here;
       parts = (rw held at cut) ∙ ap (λ (n : ℕ). drawer_at name n 0 0) one_less;
     }
 
 -- workers may serve, when the line of the port was printed
-pub may_serve : {L : Type 0} (idle : L → Type 0) (port_of : L → ℕ) (owed : Ends → Ends → Type 0) (options : Options) (at port : ℕ) (name : TableId) (all : List (HiredWorker L))
-    → at ≡ port → Pays onward options owed → All (IsNew name) all → All (IsIdle idle port_of at) all → All (MayServe idle port_of owed options port name) all
-may_serve {L} idle port_of owed options at port name [] same pays new may = All-nil (MayServe idle port_of owed options port name)
-may_serve {L} idle port_of owed options at port name (hired ∷ all) same pays new may =
-    let here : IsIdle idle port_of at hired = All-head (IsIdle idle port_of at) hired all may in
-    All-cons (MayServe idle port_of owed options port name) hired all
+pub may_serve : {L : Type 0} (at_rest : L → Type 0) (port_of : L → ℕ) (owed : Ends → Ends → Type 0) (options : Options) (at port : ℕ) (name : TableId) (all : List (HiredWorker L))
+    → at ≡ port → Pays onward options owed → All (IsNew name) all → All (IsAtRest at_rest port_of at) all → All (MayServe at_rest port_of owed options port name) all
+may_serve {L} at_rest port_of owed options at port name [] same pays new may = All-nil (MayServe at_rest port_of owed options port name)
+may_serve {L} at_rest port_of owed options at port name (hired ∷ all) same pays new may =
+    let here : IsAtRest at_rest port_of at hired = All-head (IsAtRest at_rest port_of at) hired all may in
+    All-cons (MayServe at_rest port_of owed options port name) hired all
     (record { new = All-head (IsNew name) hired all new; may = (here.0, here.1 ∙ same); pays = pays })
-    (may_serve idle port_of owed options at port name all same pays (All-tail (IsNew name) hired all new) (All-tail (IsIdle idle port_of at) hired all may))
+    (may_serve at_rest port_of owed options at port name all same pays (All-tail (IsNew name) hired all new) (All-tail (IsAtRest at_rest port_of at) hired all may))
 
 -- ---- workers that have ended
 

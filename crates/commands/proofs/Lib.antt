@@ -2,4 +2,5 @@ pub mod Refusing
 pub mod Serving
 pub mod Crews
 pub mod Seated
+pub mod Telling
 pub mod Together

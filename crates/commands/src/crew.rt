@@ -6,7 +6,7 @@ ghost use Rattle.version_cell.specs.Seats.{seat};
 ghost use Rattle.connection_turns.specs.Drawers as drawers;
 ghost use Rattle.commands.specs.Port.{IsFresh};
 ghost use Rattle.commands.specs.Serve.{AcceptsThenCloses, DrawsAll, ServesSideBySide, first_fault, made_by};
-ghost use Rattle.commands.specs.inside.Gathering.{HasDrawn, HasWorked, IsIdle, IsNew, IsWithin, MayServe, state_of, work_of};
+ghost use Rattle.commands.specs.inside.Gathering.{HasDrawn, HasWorked, IsAtRest, IsNew, IsWithin, MayServe, state_of, work_of};
 
 use crate::turns::{Service, serve_in_turn};
 use command_ends::Listen;
@@ -59,7 +59,7 @@ pub(crate) fn workers_of<L: Listen + Drop, C: CellName>(
         (λ workers. (length workers.items ≡ length scanners.items)
         × All (λ hired. IsFresh L.shares network.now (state_of hired)) workers.items
         × All (IsNew turns.now.name) workers.items
-        × All (IsIdle L.idle L.port_of (L.port_of network.now)) workers.items)
+        × All (IsAtRest L.at_rest L.port_of (L.port_of network.now)) workers.items)
         (λ fault. (fault ≡ OutOfMemory) ⊎ ((fault ≡ Transport) × L.shares network.now None)) }
     ensures drawer { IfOk result (λ _. drawer.new ≡ drawers.drawer_at turns.now.name 1 0 0) }
 {
@@ -107,7 +107,7 @@ where
     ghost use Rattle.commands.specs.Serve.{AcceptsThenCloses};
     ghost use Rattle.commands.specs.inside.Gathering.{HasWorked, MayServe};
 
-    ghost takes = { λ crew worker. MayServe L.idle L.port_of L.owed crew.service.options crew.service.announced.now
+    ghost takes = { λ crew worker. MayServe L.at_rest L.port_of L.owed crew.service.options crew.service.announced.now
         crew.service.turns.now.name worker };
 
     ghost leaves = { λ crew old new. HasWorked (AcceptsThenCloses L.accepts L.closes) crew.service.options
@@ -197,7 +197,7 @@ where
     X: Executor + Sync,
     requires parts { crew.now.service.turns.now.parts ≡ length workers.items + 1 }
     requires drawer { drawer ≡ drawers.drawer_at crew.now.service.turns.now.name 1 0 0 }
-    requires may { All (MayServe L.idle L.port_of L.owed crew.now.service.options crew.now.service.announced.now
+    requires may { All (MayServe L.at_rest L.port_of L.owed crew.now.service.options crew.now.service.announced.now
         crew.now.service.turns.now.name) workers.items }
     requires seats { length workers.items ≡ C.parts }
     ensures { ServesSideBySide (AcceptsThenCloses L.accepts L.closes) crew.now.service.options crew.now.service.turns.now.most

@@ -67,11 +67,11 @@ where
     requires owed { Pays onward (serves.options_of serving) L.owed }
 
     // The network gave a port, which is served, and a fault of this end is printed; or it gave none, and why is.
-    ensures { Listens (AcceptsThenCloses L.accepts L.closes) L.shares (L.listens network.old serving.port) serving result network.new
+    ensures { Listens (AcceptsThenCloses L.accepts L.closes) L.shares (L.listens network.old serving.port serving.idle) serving result network.new
         (said_of W.Output output.old) (said_of W.Output output.new)
         (said_of E.Output faults.old) (said_of E.Output faults.new) }
 {
-    let serving = match network.listen(serving.port) {
+    let serving = match network.listen(serving.port, serving.idle) {
         Ok(port) => Serving { port, ..serving },
         Err(error) => return end_unheard(host.alloc, faults, serving.port, &error),
     };

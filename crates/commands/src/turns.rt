@@ -47,7 +47,7 @@ pub fn serve_in_turn<L: Listen, B: Backend, T: Wait + Clock, X: Executor>(
     backend: &mut B,
 ) -> Result<(), Fault>
     requires drawer { drawer.old ≡ drawers.drawer_at service.now.turns.now.name 1 0 0 }
-    requires idle { L.idle network.old }
+    requires at_rest { L.at_rest network.old }
     requires announced { service.now.announced.now ≡ L.port_of network.old }
 
     // Whatever the network is owed for a connection, serving it is that.
@@ -79,7 +79,7 @@ fn accept_next<L: Listen>(
     network: &mut L,
     announced: &Announced,
 ) -> Result<(L::Reader, L::Writer), Fault>
-    requires idle { L.idle network.old }
+    requires at_rest { L.at_rest network.old }
     requires announced { announced.now ≡ L.port_of network.old }
     ensures taken { IfOk result (λ ends. TakesNext L.accepts
         (ends_of (L.Reader.remaining ends.0) (L.Writer.contents ends.1)) network.old network.new) }

@@ -2,144 +2,17 @@
 //! sockets and the random bytes of the system.
 #![tactic(auto)]
 
-ghost use Rattle.grpc_frame.specs.Ends.{CanFail};
-ghost use Rattle.commands.specs.Words.{HasSeats};
+mod running;
 
-use client_calls::Target;
-use client_commands::expire::expire;
-use client_commands::put::{CsvPutting, Putting, put, put_csv};
-use client_commands::query::{Querying, query};
-use client_commands::tables::tables;
-use command_ends::{ExitStatus, end_by_fault};
-use command_line::{PutForm, Request};
+use crate::running::{Machine, Network, Streams, run_words};
 use commands::arguments::refuse_arguments;
-use commands::pipe::pipe;
-use commands::serve::{Host, serve};
-use commands::words::read_words;
-use fetch_workers::Workers;
-use flight_calls::{Options, Setting};
-use grpc_frame::{Counted, Input, Output};
+use grpc_frame::Counted;
 use hash_seed::HashSeed;
 use loopback::{Loopback, Port};
-use scan_base::Fault;
 use std::alloc::Global;
 use std::fs::{File, Files};
 use std::io::ErrorKind;
-use std::net::{Net, TcpListener, TcpStream};
 use std::process::ExitCode;
-use std::random::RandomSource;
-use std::sync::Wait;
-use std::thread::Threads;
-use std::time::Clock;
-
-// Runs a command that serves, with hashes that begin with a secret of the system's. Where the system gives no random
-// bytes, this end fails, as where it does not read or write.
-fn run_server<R, I: Input, W: Output, E: Output>(
-    rt: &R,
-    request: Request<'_>,
-    input: &mut I,
-    output: &mut W,
-    faults: &mut E,
-) -> ExitStatus
-where
-    R: Net<Listener = TcpListener, Stream = TcpStream>,
-    R: RandomSource + AllocGlobal + Threads + Wait + Clock + Sync,
-    requires seats { HasSeats request }
-    requires reads { CanFail (I.failures input.old) }
-    requires writes { CanFail (W.failures output.old) }
-    requires prints { CanFail (E.failures faults.old) }
-{
-    let Ok(seed) = HashSeed::new(rt) else {
-        return end_by_fault(faults, Fault::Transport);
-    };
-    match request {
-        Request::Serve(serving) => {
-            let alloc = rt.alloc();
-            let host = Host { rt, alloc, seed };
-            serve(
-                host,
-                &mut Port::new(rt, serving.idle),
-                output,
-                faults,
-                serving,
-            )
-        }
-        Request::Pipe { parts, workers } => {
-            let workers = workers as usize;
-            let setting = Setting {
-                alloc: rt.alloc(),
-                executor: &Workers::new(rt),
-                options: Options {
-                    parts,
-                    workers,
-                    keep: 0,
-                },
-            };
-            pipe(&setting, seed, input, output, faults)
-        }
-        _ => ExitStatus::BadCommandLine,
-    }
-}
-
-// Runs a command.
-fn run<R, I: Input, W: Output, E: Output>(
-    rt: &R,
-    request: Request<'_>,
-    input: &mut I,
-    output: &mut W,
-    faults: &mut E,
-) -> ExitStatus
-where
-    R: Net<Listener = TcpListener, Stream = TcpStream>,
-    R: RandomSource + AllocGlobal + Threads + Wait + Clock + Sync,
-    requires seats { HasSeats request }
-    requires reads { CanFail (I.failures input.old) }
-    requires writes { CanFail (W.failures output.old) }
-    requires prints { CanFail (E.failures faults.old) }
-{
-    let mut network = Loopback::new(rt);
-    match request {
-        Request::Put {
-            port,
-            table,
-            mode,
-            form,
-            progress: _,
-        } => {
-            let target = Target { table, mode };
-            let putting = Putting { port, target };
-            let alloc = rt.alloc();
-            match form {
-                PutForm::Arrow => put(alloc, &mut network, input, output, faults, putting),
-                PutForm::Csv(form) => {
-                    let putting = CsvPutting { putting, form };
-                    put_csv(alloc, &mut network, input, output, faults, putting)
-                }
-            }
-        }
-        Request::Query {
-            port,
-            format,
-            streams,
-            sql,
-            progress: _,
-        } => {
-            let querying = Querying {
-                port,
-                streams,
-                sql,
-                format,
-            };
-            query(rt, rt.alloc(), &mut network, output, faults, querying)
-        }
-        Request::Tables { port } => tables(rt.alloc(), &mut network, output, faults, port),
-        Request::Expire { port, version } => {
-            let version = u64::from(version);
-            expire(rt.alloc(), &mut network, output, faults, port, version)
-        }
-        request => run_server(rt, request, input, output, faults),
-    }
-}
 
 // The null device, where it can be opened. A file takes the least number that is free.
 fn null_device<R: Files>(files: &R) -> Option<R::File> {
@@ -160,19 +33,32 @@ fn main(rt: HostRuntime) -> ExitCode {
     let _standard = (null_device(&rt), null_device(&rt), null_device(&rt));
     let alloc = rt.alloc();
     keep_freed_memory(alloc);
-    let mut output = Counted::new(rt.stdout());
-    let mut faults = Counted::new(rt.stderr());
+    let mut streams = Streams {
+        input: Counted::new(rt.stdin()),
+        output: Counted::new(rt.stdout()),
+        faults: Counted::new(rt.stderr()),
+    };
     let words = match std::env::args(&rt) {
         Ok(words) => words.collect::<Vec<String>>(alloc),
-        Err(error) => return ExitCode::from(refuse_arguments(error.kind(), &mut faults).number()),
+        Err(error) => return ExitCode::from(refuse_arguments(
+            error.kind(),
+            &mut streams.faults,
+        ).number()),
     };
     let Ok(words) = words else {
-        return ExitCode::from(refuse_arguments(ErrorKind::OutOfMemory, &mut faults).number());
+        return ExitCode::from(refuse_arguments(
+            ErrorKind::OutOfMemory,
+            &mut streams.faults,
+        ).number());
     };
-    let request = match read_words(alloc, &words, &mut output, &mut faults) {
-        Ok(request) => request,
-        Err(status) => return ExitCode::from(status.number()),
+    let machine = Machine {
+        rt: &rt,
+        alloc,
+        seed: HashSeed::new(&rt).ok(),
     };
-    let mut input = Counted::new(rt.stdin());
-    ExitCode::from(run(&rt, request, &mut input, &mut output, &mut faults).number())
+    let mut network = Network {
+        connector: Loopback::new(&rt),
+        listener: Port::new(&rt),
+    };
+    ExitCode::from(run_words(machine, &mut network, &mut streams, &words).number())
 }

@@ -100,19 +100,22 @@ pub struct Port<'a, R> {
 }
 
 impl<'a, R> Port<'a, R> {
-    /// By the sockets of this runtime. No port is listened to yet. A read or a write of a connection fails where so many seconds
-    /// no byte comes or goes; 0 stands for no end.
-    pub fn new(rt: &'a R, idle: u16) -> Port<'a, R> {
-        let patience = match idle {
-            0 => None,
-            seconds => Some(Duration::from_secs(u64::from(seconds))),
-        };
+    /// By the sockets of this runtime. No port is listened to yet.
+    pub fn new(rt: &'a R) -> Port<'a, R> {
         Port {
             rt,
             listener: None,
             number: 0,
-            patience,
+            patience: None,
         }
+    }
+}
+
+// So many seconds; 0 stands for no end.
+fn patience_of(idle: u16) -> Option<Duration> {
+    match idle {
+        0 => None,
+        seconds => Some(Duration::from_secs(u64::from(seconds))),
     }
 }
 
@@ -121,7 +124,7 @@ impl<R: Net<Listener = TcpListener, Stream = TcpStream>> Listen for Port<'_, R> 
 
     type Writer = SocketWriter;
 
-    ghost listens = { λ _ _ _ _. Unit {0} };
+    ghost listens = { λ _ _ _ _ _. Unit {0} };
 
     ghost shares = { λ _ _. Unit {0} };
 
@@ -131,17 +134,18 @@ impl<R: Net<Listener = TcpListener, Stream = TcpStream>> Listen for Port<'_, R> 
 
     ghost port_of = { λ port. port.number };
 
-    ghost idle = { λ _. Unit {0} };
+    ghost at_rest = { λ _. Unit {0} };
 
     ghost holds = { λ _ _. Unit {0} };
 
     ghost owed = { λ _ _. Unit {0} };
 
-    fn listen(&mut self, port: u16) -> io::Result<u16> {
+    fn listen(&mut self, port: u16, idle: u16) -> io::Result<u16> {
         let listener = TcpListener::bind(self.rt, (Ipv4Addr::LOCALHOST, port))?;
         let port = listener.local_addr()?.port();
         self.listener = Some(listener);
         self.number = port;
+        self.patience = patience_of(idle);
         Ok(port)
     }
 

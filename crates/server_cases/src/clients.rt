@@ -173,7 +173,7 @@ where
     R: Net<Listener = TcpListener, Stream = TcpStream> + AllocGlobal,
 {
     let alloc = rt.alloc();
-    let port = Port::new(rt, 0).listen(0)?;
+    let port = Port::new(rt).listen(0, 0)?;
     let wanted = format!(in alloc; "cannot connect to 127.0.0.1:{port}: ")?;
     let mut output = MemoryOutput::new(alloc);
     let mut faults = MemoryOutput::new(alloc);

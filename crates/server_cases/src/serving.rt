@@ -79,7 +79,7 @@ impl<R: Net<Listener = TcpListener, Stream = TcpStream>> Listen for Bound<'_, R>
 
     type Writer = SocketWriter;
 
-    ghost listens = { λ _ _ _ _. Unit {0} };
+    ghost listens = { λ _ _ _ _ _. Unit {0} };
 
     ghost shares = { λ _ _. Unit {0} };
 
@@ -89,13 +89,13 @@ impl<R: Net<Listener = TcpListener, Stream = TcpStream>> Listen for Bound<'_, R>
 
     ghost port_of = { λ bound. bound.number };
 
-    ghost idle = { λ _. Unit {0} };
+    ghost at_rest = { λ _. Unit {0} };
 
     ghost holds = { λ _ _. Unit {0} };
 
     ghost owed = { λ _ _. Unit {0} };
 
-    fn listen(&mut self, _port: u16) -> io::Result<u16> {
+    fn listen(&mut self, _port: u16, _idle: u16) -> io::Result<u16> {
         Ok(self.number)
     }
 
@@ -188,8 +188,8 @@ where
 {
     let (alloc, seed) = (rt.alloc(), HashSeed::new(rt)?);
     let host = Host { rt, alloc, seed };
-    let mut port = Port::new(rt, 0);
-    let number = port.listen(0)?;
+    let mut port = Port::new(rt);
+    let number = port.listen(0, 0)?;
     let bound = Bound { port, number };
     let (served, told) = thread::join(
         rt,

@@ -33,14 +33,14 @@ abbrev pub IsNew : {L : Type 0} → TableId → HiredWorker L → Type 0
 IsNew name hired = IsSome hired.scanner × (hired.drawer ≡ drawer_at name 1 0 0)
 
 -- its listener hears this port, and no connection that it gave is open
-abbrev pub IsIdle : {L : Type 0} → (L → Type 0) → (L → ℕ) → ℕ → HiredWorker L → Type 0
-IsIdle idle port_of port hired = idle hired.listener × (port_of hired.listener ≡ port)
+abbrev pub IsAtRest : {L : Type 0} → (L → Type 0) → (L → ℕ) → ℕ → HiredWorker L → Type 0
+IsAtRest at_rest port_of port hired = at_rest hired.listener × (port_of hired.listener ≡ port)
 
 -- it may serve: it is new, its listener may accept, and what is owed for a connection is that it is served
-pub record MayServe {L : Type 0} (idle : L → Type 0) (port_of : L → ℕ) (owed : Ends → Ends → Type 0) (options : Options) (port : ℕ) (name : TableId)
+pub record MayServe {L : Type 0} (at_rest : L → Type 0) (port_of : L → ℕ) (owed : Ends → Ends → Type 0) (options : Options) (port : ℕ) (name : TableId)
     (hired : HiredWorker L) : Type 0 where
   pub new : IsNew name hired
-  pub may : IsIdle idle port_of port hired
+  pub may : IsAtRest at_rest port_of port hired
   pub pays : Pays onward options owed
 
 -- where it ended well, it was told that no turn is left
@@ -74,11 +74,11 @@ pub record Gathered {L : Type 0} (all left : List (HiredWorker L)) (seats : cell
   pub ended : (0 < hub.ended) ⊎ All (λ work. IsErr work.result) (map work_of done)
 
 -- workers were made for the seats that were taken, and the first drawer has a part for each that is left
-pub record Begun {L : Type 0} (shares : L → Option L → Type 0) (idle : L → Type 0) (port_of : L → ℕ) (heard : L) (name : TableId)
+pub record Begun {L : Type 0} (shares : L → Option L → Type 0) (at_rest : L → Type 0) (port_of : L → ℕ) (heard : L) (name : TableId)
     (hub : DrawerAt) (workers : List (HiredWorker L)) (left : List cell.Seat) (count : ℕ) : Type 0 where
   pub counted : length workers + length left ≡ count
   pub fresh : All (λ hired. IsFresh shares heard (state_of hired)) workers
   pub new : All (IsNew name) workers
-  pub may : All (IsIdle idle port_of (port_of heard)) workers
+  pub may : All (IsAtRest at_rest port_of (port_of heard)) workers
   pub seats : All (λ found. found ≡ cell.seat [] [] 0 []) left
   pub parts : hub ≡ drawer_at name (length left + 1) 0 0

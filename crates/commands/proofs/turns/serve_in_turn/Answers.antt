@@ -33,6 +33,6 @@ loop-preserved g c = (
   rw c.if-not-draw.ensures.turn.0
       (one_more g.L.Listen.accepts g.L.Listen.closes g.B.Backend.moves c.args.service.now.options c.loop.drawer.drawn _ _ _ _ _ _ _ _ _ _ _
       c.loop.invariant.4 c.in_ok-reader.ensures.taken c.done.ensures.closed c.in_ok-reader.ensures.reads c.in_ok-reader.ensures.writes c.serve.ensures),
-  c.done.ensures.idle,
+  c.done.ensures.at_rest,
   c.done.ensures.port ∙ (c.in_ok-reader.ensures.port ∙ c.loop.invariant.6),
 )

@@ -9,4 +9,4 @@ invariant-loop g l =
     × (l.drawer.name ≡ l.service.turns.now.name) × (l.drawer.parts ≡ 1)
     × ServedSo (AcceptsThenCloses g.L.Listen.accepts g.L.Listen.closes) g.B.Backend.moves l.service.options l.drawer.drawn
     (worker_of l.initial.network (g.B.Backend.seat l.initial.backend)) (worker_of l.network (g.B.Backend.seat l.backend))
-    × g.L.Listen.idle l.network × (g.L.Listen.port_of l.network ≡ g.L.Listen.port_of l.initial.network)
+    × g.L.Listen.at_rest l.network × (g.L.Listen.port_of l.network ≡ g.L.Listen.port_of l.initial.network)

@@ -1,0 +1,50 @@
+-- What the calls of a server's connections tell of its history.
+use Rattle.std.specs.Prelude.{◌≡◌, ℕ, zero, suc, ◌+◌, length, All, List, [], ◌∷◌, ◌++◌, Option, Result}
+use Rattle.scan_base.specs.declared.fault.Fault.{Fault}
+use Rattle.flight_core.specs.Headline.{Pairwise}
+use Rattle.version_log.specs.Log.{Log}
+use Rattle.flight_calls.specs.declared.setting.Options.{Options}
+use Rattle.flight_calls.specs.Laws.{entries_in_all}
+use Rattle.flight_calls.specs.Seats.{Moves}
+use Rattle.shared_calls.specs.Sharing.{onward}
+use Rattle.command_ends.specs.Network.{Ends}
+use Rattle.commands.specs.Port.{IsFresh}
+use Rattle.commands.specs.Serve.{Accept, Failed, Took, Work, Worker, IsPartOf, ServesInTurn, ServesSideBySide, worker_of}
+
+-- The entries that the calls of connections tell of, which were served one behind the other: of each call, in order, its put
+-- where the reply accepts it, or its mark where the reply tells of an expiry.
+abbrev pub told_in_turn : {L : Type 0} (accepts : L → Option Ends → L → Type 0) (moves : Moves) (options : Options) (all : List (Accept L)) (more patience : ℕ)
+    (result : Result (Unit {0}) Fault) (old new : Worker L) → ServesInTurn accepts moves options all more patience result old new → Log
+told_in_turn accepts moves options (Failed listener ∷ others) (suc more) (suc patience) result old new serves =
+    told_in_turn accepts moves options others (suc more) patience result (worker_of listener old.seat) new serves.1
+told_in_turn accepts moves options (Took listener ends served last ∷ others) (suc more) (suc patience) result old new serves =
+    entries_in_all options serves.1.calls serves.1.replies
+    ++ told_in_turn accepts moves options others more 100 result (worker_of listener last.seat) new serves.2
+told_in_turn accepts moves options all more patience result old new serves = []
+
+-- the same of the connections of one worker
+abbrev pub told_by : {L : Type 0} (accepts : L → Option Ends → L → Type 0) (options : Options) (history : Log) (old : Worker L) (new : Work L)
+    → IsPartOf accepts options history old new → Log
+told_by accepts options history old new part =
+    told_in_turn accepts onward options part.serves.0 new.drawn 100 new.result old new.worker part.serves.1
+
+-- how many entries the calls of all connections of workers tell of
+abbrev pub told_by_all : {L : Type 0} (accepts : L → Option Ends → L → Type 0) (options : Options) (history : Log) (workers : List (Worker L)) (ends : List (Work L))
+    → Pairwise (IsPartOf accepts options history) workers ends → ℕ
+told_by_all accepts options history (old ∷ workers) (new ∷ ends) parts =
+    length (told_by accepts options history old new parts.0) + told_by_all accepts options history workers ends parts.1
+told_by_all accepts options history workers ends parts = 0
+
+-- The seat of a worker made the entries that the calls of its connections tell of, in order, and no other.
+abbrev pub WorkersMakeWhatIsTold : {L : Type 0} → (L → Option Ends → L → Type 0) → Type 0
+WorkersMakeWhatIsTold {L} accepts =
+    (options : Options) (history : Log) (old : Worker L) (new : Work L) (part : IsPartOf accepts options history old new)
+    → new.worker.seat.made ≡ old.seat.made ++ told_by accepts options history old new part
+
+-- Where workers that are new serve side by side, their history has as many entries as the calls of all their connections tell
+-- of: one for each put that was accepted, and one for each expiry that was done.
+abbrev pub HistoryIsTold : {L : Type 0} → (L → Option Ends → L → Type 0) → (L → Option L → Type 0) → Type 0
+HistoryIsTold {L} accepts shares =
+    (options : Options) (most : ℕ) (heard : L) (workers : List (Worker L)) (result : Result (Unit {0}) Fault)
+    (served : ServesSideBySide accepts options most workers result) → All (IsFresh shares heard) workers
+    → length served.history ≡ told_by_all accepts options served.history workers served.ends served.served
