@@ -44,12 +44,12 @@ stops_before endpoints line = record {
 -- ---- the next of some items
 
 module _ {X : Type 0} (said : X → EndpointSaid) (items : List X) (i : ℕ) (x : X) (inside : i < length items) (is : x ≡ get_or items i x) where
-  split_at : map said items ≡ map said (take i items) ++ said x ∷ map said (drop (i + 1) items)
+  pub split_at : map said items ≡ map said (take i items) ++ said x ∷ map said (drop (i + 1) items)
   split_at =
       ap (map said) (sym (take-append-drop i items) ∙ ap (λ (l : List X). take i items ++ l) (drop_more items i x inside ∙ ap (λ (y : X). y ∷ drop (i + 1) items) (sym is)))
       ∙ map-append said (take i items) (x ∷ drop (i + 1) items)
 
-  front_more : map said (take (i + 1) items) ≡ map said (take i items) ++ said x ∷ []
+  pub front_more : map said (take (i + 1) items) ≡ map said (take i items) ++ said x ∷ []
   front_more =
       ap (map said) (take_more items i x inside ∙ ap (λ (y : X). take i items ++ y ∷ []) (sym is))
       ∙ map-append said (take i items) (x ∷ [])

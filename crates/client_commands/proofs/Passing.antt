@@ -1,19 +1,18 @@
 -- Streams that are written as they come.
-use Rattle.std.proofs.Common.{◌≡◌, ◌≢◌, ◌&&◌, ◌⊎◌, ◌+◌, ◌<◌, ◌≤◌, ℕ, Bool, true, false, List, [], ◌∷◌, ◌++◌, length, Option, Some, None, Result, Ok, Err, refl, sym, ap, subst, ◌∙◌, inl, inr, append-nil, append_assoc, arith}
+use Rattle.std.proofs.Common.{◌≡◌, ◌&&◌, ◌⊎◌, ◌+◌, ◌<◌, ℕ, Bool, true, false, List, [], ◌∷◌, ◌++◌, length, Option, Some, None, Result, Ok, Err, refl, sym, ap, subst, ◌∙◌, inl, inr, append-nil, append_assoc, map, take, drop, get_or}
 use Rattle.std.specs.Prelude.{◌==◌, not}
-use Rattle.std.specs.List.{flat_map, list_all}
+use Rattle.std.specs.List.{list_all}
 use Rattle.std.proofs.lemmas.Grind.{flat_map-append}
 use Rattle.std.proofs.lemmas.List.Elements.{All-cons, All-head, All-nil}
 use Rattle.scan_base.specs.declared.fault.Fault.{Fault}
 use Rattle.scan_base.specs.declared.fault.Fault.TheVariants.{BadBatch, BadProto, LimitReached, OutOfMemory, SchemaMismatch, Transport}
 use Rattle.scan_base.specs.Reading.{◌>>=◌, demand}
 use Rattle.scan_base.specs.Lists.{each}
-use Rattle.arrow_schema.specs.declared.schema.Field.{Field}
 use Rattle.arrow_schema.specs.declared.schema.Schema.{Schema}
 use Rattle.arrow_schema.specs.Answer.{plain_schema}
 use Rattle.arrays.specs.Batch.{BatchAt, rows_of}
 use Rattle.arrays.specs.Typed.{AreOfTypes}
-use Rattle.ipc_batch.specs.State.{Known, State}
+use Rattle.ipc_batch.specs.State.{State}
 use Rattle.ipc_batch.specs.Said.{HasColumns, Rows}
 use Rattle.ipc_batch.proofs.Lengths.{fine, both}
 use Rattle.table_versions.specs.Table.{Table, same_fields}
@@ -29,18 +28,18 @@ use Rattle.grpc_frame.specs.Records.{Received}
 use Rattle.row_stream.specs.Stream.{CountsTransport, HasShortRows, IsCause, WritesStream}
 use Rattle.row_stream.specs.Writing.{SendsBatch, SoFar, Stopped}
 use Rattle.row_stream.proofs.SoFar.{stopped_before, stopped_here}
-use Rattle.client_calls.specs.declared.call.Method.TheVariants.{DoGet, GetFlightInfo}
+use Rattle.client_calls.specs.declared.call.Method.TheVariants.{GetFlightInfo}
 use Rattle.client_calls.specs.declared.failure.Failure.{Failure}
 use Rattle.client_calls.specs.declared.failure.Failure.TheVariants.{Found}
-use Rattle.client_calls.specs.Answers.{AnswersOne, AnswersStream, Stop}
+use Rattle.client_calls.specs.Answers.{AnswersOne, Stop}
 use Rattle.client_calls.specs.Commands.{ReadsEndpoints}
 use Rattle.client_calls.specs.Outcome.{CallsAt, Line}
 use Rattle.client_calls.specs.Taking.{FetchAt, FetchGives, HasNoSchema, IsBegun, IsFetching, KeepsSchema, ended, with_batch}
 use Rattle.command_ends.specs.Printing.{Said}
 use Rattle.client_commands.specs.Fetching.{Asks, FetchesEach, FetchesOne, FetchStops}
-use Rattle.client_commands.specs.Streaming.{ComeSome, HasLongRow, IsCutShort, IsStreamed, LacksSchema, SaysFirst, SaysOther, SaysSchema, Stops, StopsAmong, Streams, WhyNoMore, WritesSome, rows_held}
-use Rattle.client_commands.specs.inside.Passing.{HasPassed, HavePassed, IsPassing, PassesBatches, PassingAt, StopsPassing, WhyUnwritten}
-use Rattle.client_commands.proofs.Fetched.{fetched_more, quiet}
+use Rattle.client_commands.specs.Streaming.{ComeSome, SaysFirst, SaysSchema, Stops, StopsAmong, Streams, WhyNoMore, WritesSome, rows_held}
+use Rattle.client_commands.specs.inside.Passing.{HasPassed, HavePassed, IsPassing, PassingAt, StopsPassing, WhyUnwritten}
+use Rattle.client_commands.proofs.Fetched.{fetched_more, front_more, quiet, split_at}
 
 -- ---- streams that came
 
@@ -48,7 +47,7 @@ rows_more : (streams : List StreamAt) (stream : StreamAt) → rows_held (streams
 rows_more streams stream =
     flat_map-append (λ (s : StreamAt). s.rows) streams (stream ∷ []) ∙ ap (λ (rows : Rows). rows_held streams ++ rows) (append-nil stream.rows)
 
-first_stays : (streams : List StreamAt) (stream : StreamAt) (schema : Schema) → SaysFirst streams schema → SaysFirst (streams ++ stream ∷ []) schema
+pub first_stays : (streams : List StreamAt) (stream : StreamAt) (schema : Schema) → SaysFirst streams schema → SaysFirst (streams ++ stream ∷ []) schema
 first_stays [] stream schema says = absurd says
 first_stays (s ∷ ss) stream schema says = says
 
@@ -184,6 +183,17 @@ says_ended stream own end says = schema_there stream says.0 end says.1 ∙ ap (�
 
 -- ---- the batches of a stream
 
+-- a stream that begins has the columns of the schema that is written
+pub at_begin : (ticket : Payload) (schema own : Schema) (rows : Rows) (start : Option (List ℕ)) (begun : Line) (now : FetchAt) (out : Said) (waiting : List ℕ) (it : IsBegun ticket now.state begun now.line) → (it.known).schema ≡ own
+    → same_fields schema.fields own.fields ≡ true → SoFar (plain_schema schema) rows start out.bytes waiting → IsPassing ticket schema own rows start begun it.stream now out waiting
+at_begin ticket schema own rows start begun now out waiting it is same so = record {
+  fetching = it.fetching;
+  state = it.state_is;
+  says = (it.known, it.state_is ∙ it.has_schema, is);
+  same = same;
+  so = subst (λ (all : Rows). SoFar (plain_schema schema) all start out.bytes waiting) (sym (ap (λ (more : Rows). rows ++ more) it.no_rows ∙ append-nil rows)) so;
+}
+
 module _ (ticket : Payload) (schema own : Schema) (rows : Rows) (start : Option (List ℕ)) (begun : Line) (stream : StreamAt) (now : FetchAt) (out : Said) (waiting : List ℕ)
     (passing : IsPassing ticket schema own rows start begun stream now out waiting) where
   -- a batch came
@@ -281,16 +291,22 @@ module _ (front behind : List EndpointSaid) (endpoint : EndpointSaid) (streams :
     some = line;
     came = came_next it.stream line it.fetching;
     wrote = writes_more streams it.stream begun.bytes out.bytes wrote;
-    why = inr (SchemaMismatch, refl, record {
-      schema = schema;
-      first = first_stays streams it.stream schema says;
-      before = streams;
-      last = it.stream;
-      are = refl;
-      other = own;
-      says = (it.known, it.state_is ∙ it.has_schema, is);
-      differ = differ;
-    }, quiet, refl);
+    why = inr (
+      SchemaMismatch,
+      refl,
+      record {
+        schema = schema;
+        first = first_stays streams it.stream schema says;
+        before = streams;
+        last = it.stream;
+        are = refl;
+        other = own;
+        says = (it.known, it.state_is ∙ it.has_schema, is);
+        differ = differ;
+      },
+      quiet,
+      refl,
+    );
   }
 
   -- it stopped behind some rows
@@ -405,3 +421,16 @@ some_asked wanted old new = by old.incoming.left
     by (Ok left) (inl called) = some_said called.answers.0 called.answers.2.0
     by (Ok left) (inr refused) = let e = refused.1 in absurd cc
     by (Err fault) stopped = let e = stopped.0 in absurd cc
+
+-- ---- streams one behind the other
+
+module _ {X : Type 0} (said : X → EndpointSaid) (items : List X) (i : ℕ) (x : X) (inside : i < length items) (is : x ≡ get_or items i x) (front : EndpointSaid) where
+  -- the next one was passed on
+  pub passed_more : (first : Line) (begun out : Said) (now : PassingAt) → HavePassed ((front ∷ map said (take i items)) ++ said x ∷ []) first begun now out → HavePassed (front ∷ map said (take (i + 1) items)) first begun now out
+  passed_more first begun out now passed =
+      subst (λ (endpoints : List EndpointSaid). HavePassed (front ∷ endpoints) first begun now out) (sym (front_more said items i x inside is)) passed
+
+  -- or it stopped there
+  pub stopped_among : (failure : Failure) (first last : Line) (begun out : Said) → StopsAmong ((front ∷ map said (take i items)) ++ said x ∷ map said (drop (i + 1) items)) failure first last begun out → StopsAmong (front ∷ map said items) failure first last begun out
+  stopped_among failure first last begun out stops =
+      subst (λ (endpoints : List EndpointSaid). StopsAmong (front ∷ endpoints) failure first last begun out) (sym (split_at said items i x inside is)) stops

@@ -4,7 +4,6 @@ use Rattle.scan_base.specs.declared.fault.Fault.{Fault}
 use Rattle.scan_base.specs.declared.fault.Fault.TheVariants.{LimitReached, OutOfMemory, Transport}
 use Rattle.arrow_schema.specs.declared.schema.Schema.{Schema}
 use Rattle.arrow_schema.specs.Answer.{plain_schema}
-use Rattle.ipc_batch.specs.State.{State}
 use Rattle.ipc_batch.specs.Said.{Rows}
 use Rattle.table_versions.specs.Table.{same_fields}
 use Rattle.flight_proto.specs.FlightInfo.{EndpointSaid}

@@ -1,5 +1,77 @@
-use Rattle.std.proofs.Common.{Ok, Err, inl, inr, refl}
+use Rattle.std.proofs.Common.{ℕ, List, Option, Some, None, Ok, Err, inl, inr, refl}
+use Rattle.flight_proto.specs.Wanted.{Wanted, rows_of}
+use Rattle.table_versions.specs.Table.{Table}
+use Rattle.command_ends.specs.Printing.{cause_lines, said_of}
+use Rattle.command_ends.specs.declared.exit_status.ExitStatus.{ExitStatus}
+use Rattle.client_commands.specs.Commands.{Desk, EndsBy, desk_of}
+use Rattle.client_commands.specs.Handles.{Giving}
+use Rattle.client_commands.specs.Queries.{TellsWanted}
+use Rattle.client_commands.specs.Rows.{text_of}
 use Rattle.client_commands.proofs.query.query.Goals as goal
 
-pub returns-in_Err : goal.returns-in_Err
-returns-in_Err g c = ?
+-- the network gave no connection, whatever is told of rows
+unconnected : {N : Type 0} (Gives : Giving N) (Shares : N → N → N → Type 0) (streams : ℕ) (wanted : Wanted) (text : Option (Table → List ℕ)) (before behind : N) (status : ExitStatus) (old new : Desk)
+    → Gives before None behind → ((cause : List ℕ) × EndsBy (cause_lines cause) status old new) → TellsWanted Gives Shares streams wanted text before behind status old new
+unconnected Gives Shares streams wanted (Some text) before behind status old new none ends = (behind, inl (inl (none, ends)))
+unconnected Gives Shares streams wanted None before behind status old new none ends = inl (none, ends)
+
+pub returns-in-Err : goal.returns-in-Err
+returns-in-Err g c =
+    let ended = c.end_unconnected.ensures in
+    let output = said_of g.W.Output c.args.output.now in
+    let old = desk_of output (said_of g.E.Output c.args.faults.now) in
+    let new = desk_of output (said_of g.E.Output c.end_unconnected.new.faults) in
+    unconnected (λ before ends behind. g.C.Connect.connects before c.args.query.port ends behind) g.C.Connect.shares c.args.query.streams (rows_of c.args.query.sql.now) (text_of c.args.query.format) c.args.network.now c.open.new.network c.end_unconnected.result old new
+    c.in-Err.ensures (ended.lines.0, record { nothing = refl; status_is = ended.status; says = ended.lines.1 })
+
+pub returns-in-Ok-fetch_spread : goal.returns-in-Ok-fetch_spread
+returns-in-Ok-fetch_spread g c =
+    let text = rw c.in-Some.is at c.text_form.ensures in
+    let one = c.in-Ok.ensures in
+    let spread = c.in-Ok-fetch_spread.ensures in
+    rw (← text) (
+      c.open.new.network,
+      inl (inr (record {
+        ends = one.0;
+        given = one.1;
+        result = Ok c.in-Ok-fetch_spread.rows;
+        last = spread.0;
+        made = rw one.2 at spread.1;
+        tells = c.tell_rows.ensures;
+      })),
+    )
+
+pub returns-in-Err-Failed : goal.returns-in-Err-Failed
+returns-in-Err-Failed g c =
+    let text = rw c.in-Some.is at c.text_form.ensures in
+    let one = c.in-Ok.ensures in
+    let spread = rw c.in-Err-Failed.field-0-is at c.in-Err-Failed.ensures in
+    rw (← text) (
+      c.open.new.network,
+      inl (inr (record {
+        ends = one.0;
+        given = one.1;
+        result = Err c.in-Err-Failed.failure;
+        last = spread.0;
+        made = rw one.2 at spread.1;
+        tells = (refl, rw c.in-Err-Failed.field-0-is at c.end_by_failure.ensures);
+      })),
+    )
+
+pub returns-in-Err-Unconnected : goal.returns-in-Err-Unconnected
+returns-in-Err-Unconnected g c =
+    let text = rw c.in-Some.is at c.text_form.ensures in
+    let one = c.in-Ok.ensures in
+    let spread = rw c.in-Err-Unconnected.field-0-is at c.in-Err-Unconnected.ensures in
+    let ended = c.end_unconnected-in-Err-Unconnected.ensures in
+    rw (← text) (
+      c.open.new.network,
+      inr (record {
+        ends = one.0;
+        given = one.1;
+        last = spread.0;
+        unconnected = rw one.2 at spread.1;
+        cause = ended.lines.0;
+        says = record { nothing = refl; status_is = ended.status; says = ended.lines.1 };
+      }),
+    )

@@ -1,0 +1,49 @@
+use Rattle.std.proofs.Common.{Some, Err, refl, subst, ◌∙◌, ℕ}
+use Rattle.std.proofs.lemmas.Result.{err_from_is_err_and}
+use Rattle.row_stream.specs.Stream.{CountsTransport}
+use Rattle.client_calls.specs.Taking.{with_batch}
+use Rattle.client_commands.proofs.Passing.{all_passed, batch_passed, batch_stopped, fetch_failed}
+use Rattle.client_commands.proofs.streaming.pass_batches.Goals as goal
+
+pub loop-batch-init : goal.loop-batch-init
+loop-batch-init g c = record { passes = λ ticket schema own rows start begun stream none passing. (stream, passing); count = refl; reads = refl }
+
+pub loop-batch-preserved : goal.loop-batch-preserved
+loop-batch-preserved g c =
+    let i = c.loop-batch.invariant in
+    let came = rw c.in-Some.is at c.in_ok-batch.ensures.next in
+    let has = rw c.in-Some.is at c.in_ok-batch.ensures.columns in
+    record {
+      passes = λ ticket schema own rows start begun stream none passing.
+          let before = i.passes ticket schema own rows start begun stream none passing in (
+            with_batch before.0 c.next.new.self.state (Some c.in-Some.batch),
+            batch_passed ticket schema own rows start begun before.0 _ _ _ before.1 c.next.new.self.state c.next.new.self.line c.in-Some.batch (came ticket before.0 begun before.1.state before.1.fetching) c.in_ok-batch.ensures.kept has _ _ _ refl refl c.in_ok-write_batch.ensures.bytes,
+          );
+      count = c.in_ok-write_batch.ensures.counted ∙ i.count;
+      reads = c.in_ok-batch.ensures.quiet ∙ i.reads;
+    }
+
+pub returns-in_err-batch : goal.returns-in_err-batch
+returns-in_err-batch g c ticket schema own rows start begun stream none passing =
+    let i = c.loop-batch.invariant in
+    let before = i.passes ticket schema own rows start begun stream none passing in
+    let p = err_from_is_err_and c.from_residual.result c.from_residual.ensures.1 in
+    rw (p.1, p.2) (fetch_failed ticket schema own rows start begun before.0 _ _ _ before.1 _ _ _ (c.in_err-batch.ensures.next ticket before.0 begun before.1.state before.1.fetching) i.count)
+
+pub returns-in_err-write_batch : goal.returns-in_err-write_batch
+returns-in_err-write_batch g c ticket schema own rows start begun stream none passing =
+    let i = c.loop-batch.invariant in
+    let before = i.passes ticket schema own rows start begun stream none passing in
+    let came = rw c.in-Some.is at c.in_ok-batch.ensures.next in
+    let has = rw c.in-Some.is at c.in_ok-batch.ensures.columns in
+    let p = err_from_is_err_and c.from_residual-in_err-write_batch.result c.from_residual-in_err-write_batch.ensures.1 in
+    rw (p.1, p.2)
+    (batch_stopped ticket schema own rows start begun before.0 _ _ _ before.1 c.next.new.self.state c.next.new.self.line c.in-Some.batch (came ticket before.0 begun before.1.state before.1.fetching) c.in_ok-batch.ensures.kept has _ _ _ _ c.write_batch.new.self refl c.in_err-write_batch.ensures.bytes c.in_err-write_batch.ensures.cause
+    (subst (λ (n : ℕ). CountsTransport {A = Unit {0}} (Err c.in_err-write_batch.field-0.0) n (g.O.Output.failures c.write_batch.new.output)) i.count c.in_err-write_batch.ensures.counted))
+
+pub returns : goal.returns
+returns g c ticket schema own rows start begun stream none passing =
+    let i = c.loop-batch.invariant in
+    let before = i.passes ticket schema own rows start begun stream none passing in
+    let came = rw c.in_default.is at c.in_ok-batch.ensures.next in
+    all_passed ticket schema own rows start begun before.0 _ _ _ before.1 _ _ (came ticket before.0 begun before.1.state before.1.fetching) c.in_ok-batch.ensures.kept i.count
