@@ -10,7 +10,7 @@ use client_commands::expire::expire;
 use client_commands::put::{CsvPutting, Putting, put, put_csv};
 use client_commands::query::{Querying, query};
 use client_commands::tables::tables;
-use command_ends::{ExitStatus, end_by_fault};
+use command_ends::{Connect, ExitStatus, end_by_fault};
 use command_line::{PutForm, Request};
 use commands::arguments::refuse_arguments;
 use commands::pipe::pipe;
@@ -21,6 +21,7 @@ use flight_calls::{Options, Setting};
 use grpc_frame::{Counted, Input, Output};
 use hash_seed::HashSeed;
 use loopback::{Loopback, Port};
+use progress::{Meter, Watched};
 use scan_base::Fault;
 use std::fs::{File, Files};
 use std::io::ErrorKind;
@@ -76,9 +77,10 @@ where
     }
 }
 
-// Runs a command.
-fn run<R, I: Input, W: Output, E: Output>(
+// Runs a command. A client connects by this network.
+fn run<R, C: Connect + Drop + Send, I: Input, W: Output, E: Output>(
     rt: &R,
+    network: &mut C,
     request: Request<'_>,
     input: &mut I,
     output: &mut W,
@@ -87,12 +89,13 @@ fn run<R, I: Input, W: Output, E: Output>(
 where
     R: Net<Listener = TcpListener, Stream = TcpStream>,
     R: RandomSource + AllocGlobal + Threads + Wait + Clock + Sync,
+    C::Reader: Send,
+    C::Writer: Send,
     requires seats { HasSeats request }
     requires reads { CanFail (I.failures input.old) }
     requires writes { CanFail (W.failures output.old) }
     requires prints { CanFail (E.failures faults.old) }
 {
-    let mut network = Loopback::new(rt);
     match request {
         Request::Put {
             port,
@@ -105,10 +108,10 @@ where
             let putting = Putting { port, target };
             let alloc = rt.alloc();
             match form {
-                PutForm::Arrow => put(alloc, &mut network, input, output, faults, putting),
+                PutForm::Arrow => put(alloc, network, input, output, faults, putting),
                 PutForm::Csv(form) => {
                     let putting = CsvPutting { putting, form };
-                    put_csv(alloc, &mut network, input, output, faults, putting)
+                    put_csv(alloc, network, input, output, faults, putting)
                 }
             }
         }
@@ -125,14 +128,22 @@ where
                 sql,
                 format,
             };
-            query(rt, rt.alloc(), &mut network, output, faults, querying)
+            query(rt, rt.alloc(), network, output, faults, querying)
         }
-        Request::Tables { port } => tables(rt.alloc(), &mut network, output, faults, port),
+        Request::Tables { port } => tables(rt.alloc(), network, output, faults, port),
         Request::Expire { port, version } => {
             let version = u64::from(version);
-            expire(rt.alloc(), &mut network, output, faults, port, version)
+            expire(rt.alloc(), network, output, faults, port, version)
         }
         request => run_server(rt, request, input, output, faults),
+    }
+}
+
+// Whether a command tells how far it has come. Only those of a client do.
+fn tells_progress(request: &Request<'_>) -> bool {
+    match request {
+        Request::Put { progress, .. } | Request::Query { progress, .. } => *progress,
+        _ => false,
     }
 }
 
@@ -159,5 +170,15 @@ fn main(rt: HostRuntime) -> ExitCode {
         Err(status) => return ExitCode::from(status.number()),
     };
     let mut input = Counted::new(rt.stdin());
-    ExitCode::from(run(&rt, request, &mut input, &mut output, &mut faults).number())
+    let meter = tells_progress(&request).then(|| Meter::new(&rt, alloc, rt.stderr()));
+    let mut network = Watched::new(Loopback::new(&rt), alloc, meter.as_ref());
+    let status = run(
+        &rt,
+        &mut network,
+        request,
+        &mut input,
+        &mut output,
+        &mut faults,
+    );
+    ExitCode::from(status.number())
 }
