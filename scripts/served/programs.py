@@ -3,6 +3,7 @@
 from __future__ import annotations
 
 import os
+import re
 import socket
 import subprocess
 import threading
@@ -243,6 +244,27 @@ def printed_dates(run: Run) -> None:
         same("arrow", (0, b""), (status, said))
         same("put of the copy", printed("3 rows"), put(run, server, "copy", data))
         same("lines of the copy", lines, query(run, server, "SELECT * FROM copy"))
+
+
+@case("--progress: rows and bytes in lines of standard error, at most four a second, and none without")
+def told_progress(run: Run) -> str:
+    columns = (Column("k", "Int8", False), Column("n", "Int64", False))
+    text = "SELECT x.n, y.n AS m FROM t AS x JOIN t AS y ON x.k = y.k"
+    with run.serving() as server:
+        same("put", printed("1500 rows"), put(run, server, "t", stream(columns, [(1, row) for row in range(1_500)])))
+        begin = time.monotonic()
+        status, data, said = query(run, server, text, "--format", "arrow", "--progress")
+        seconds = time.monotonic() - begin
+        told = [re.fullmatch(rb"progress: (\d+) rows, (\d+) bytes", line) for line in said.splitlines()]
+        same("each line", True, status == 0 and all(told))
+        counts = [(int(line[1]), int(line[2])) for line in told]
+        same(f"{len(told)} lines in {seconds:.1f} seconds", True, len(told) <= 4 * seconds + 1)
+        same("a line behind a second", True, bool(told) or seconds < 1)
+        same("nothing falls", counts, sorted(counts))
+        same("no row more", True, all(rows <= 1_500 * 1_500 for rows, _ in counts))
+        same("the answer, without", (0, data, b""), query(run, server, text, "--format", "arrow"))
+        same("a put", printed("7 rows"), typed(run, "put", "--port", str(server.port), "--table", "a", "--mode", "create", "--progress", data=TRIPS))
+    return f"{len(told)} lines"
 
 
 # ---- versions

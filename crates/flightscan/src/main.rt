@@ -5,10 +5,12 @@
 mod running;
 
 use crate::running::{Machine, Network, Streams, run_words};
+use command_line::{Request, options};
 use commands::arguments::refuse_arguments;
 use grpc_frame::Counted;
 use hash_seed::HashSeed;
 use loopback::{Loopback, Port};
+use progress::{Meter, Watched};
 use std::alloc::Global;
 use std::fs::{File, Files};
 use std::io::ErrorKind;
@@ -26,6 +28,14 @@ const LARGEST_FREED: usize = 8 << 20;
 // Has the memory of a batch kept for the next one. Where the block is refused, nothing changes but time.
 fn keep_freed_memory(alloc: Global) {
     let _block = Vec::<u8>::with_capacity(alloc, LARGEST_FREED);
+}
+
+// Whether the words ask to be told how far a put or a query has come.
+fn tells_progress(alloc: Global, words: &[String]) -> bool {
+    match options(alloc, words) {
+        Ok(Request::Put { progress, .. } | Request::Query { progress, .. }) => progress,
+        _ => false,
+    }
 }
 
 fn main(rt: HostRuntime) -> ExitCode {
@@ -56,8 +66,9 @@ fn main(rt: HostRuntime) -> ExitCode {
         alloc,
         seed: HashSeed::new(&rt).ok(),
     };
+    let meter = tells_progress(alloc, &words).then(|| Meter::new(&rt, alloc, rt.stderr()));
     let mut network = Network {
-        connector: Loopback::new(&rt),
+        connector: Watched::new(Loopback::new(&rt), alloc, meter.as_ref()),
         listener: Port::new(&rt),
     };
     ExitCode::from(run_words(machine, &mut network, &mut streams, &words).number())
