@@ -86,6 +86,13 @@ for name in ("schema_Int64", "schema_Int64_packed", "schema_Int64_full", "schema
              "schema_of_Int8", "schema_of_Int8_full", "schema_of_Int16", "dictionary_a", "dictionary_c", "dictionary_delta_b", "indices_0",
              "indices_1_0", "indices_of_Int16", "dictionary_of_Int16"):
     message(name)
+INDICES = ("Int8", "Int16", "Int32", "Int64", "UInt8", "UInt16", "UInt32", "UInt64")
+for name in (*(f"{part}_of_{of}" for of in INDICES if of not in ("Int8", "Int16") for part in ("schema", "dictionary", "indices")),
+             "dictionary_of_Int8", "indices_of_Int8", "dictionary_x_null", "indices_0_1_null", "dictionary_x_x", "indices_0_1",
+             "dictionary_empty", "indices_null", "schema_of", "dictionary_0", "dictionary_0_b_a", "dictionary_0_none", "indices_of_default",
+             "indices_of_default_null", "schema_of_two", "dictionary_2", "indices_two", "schema_Date", "schema_Date_full", "batch_Date",
+             "schema_Int32", "batch_Int32"):
+    message(name)
 payload("no_field", b"")
 payload("cut", bytes.fromhex("12 05 00"))
 payload("descriptor", bytes.fromhex("0A 02 08 02"))
@@ -133,6 +140,33 @@ join([FRONT + DONE, "schema_of_Int8 dictionary_c indices_0" + DONE], K + '"a",;"
 join([FRONT + DONE, "schema_of_Int8 indices_0" + DONE], "F8 BadBatch, " + K + '"a",;')
 join([FRONT + DONE, "schema_of_Int8_full" + DONE], "F11 SchemaMismatch")
 join([FRONT + DONE, "schema_of_Int16" + DONE], K + '"a",;')
+
+note("dictionaries of every index type: index 0, a null, and the last one, of 256 values")
+ALL_OF = [f"schema_of_{name} dictionary_of_{name} indices_of_{name}" + DONE for name in INDICES]
+SAID = [f'"",;null,;"{"" if name == "Int8" else "z"}",;' for name in INDICES]
+for number, (name, stream, said) in enumerate(zip(INDICES, ALL_OF, SAID), 1):
+    join([stream], f"k Dictionary(DictionaryEncoding {{ id: {number}, index: {name} }}) or null; {said}")
+join(ALL_OF, K + "".join(SAID))
+join(ALL_OF[::-1], "k Dictionary(DictionaryEncoding { id: 8, index: UInt64 }) or null; " + "".join(SAID[::-1]))
+
+note("a null in the dictionary, a text that stands twice in it, and none")
+join(["schema_of_Int8 dictionary_x_null indices_0_1_null dictionary_x_x indices_0_1" + DONE], K + '"x",;null,;null,;"x",;"x",;')
+join([FRONT + " dictionary_empty indices_null indices_0" + DONE], "F8 BadBatch, " + K + '"a",;null,;null,;')
+
+note("as they are answered: right before each batch a dictionary of its own, with indices of 32 bits, in the place of the one before")
+OWN = "k Dictionary(DictionaryEncoding { id: 0, index: Int32 }) or null; "
+B_A, A_B = "dictionary_0_b_a indices_of_default", "dictionary_0 indices_of_default"
+join([f"schema_of {B_A} {A_B}" + DONE], OWN + '"a",;"b",;"b",;"a",;')
+join([f"schema_of {B_A}" + DONE, f"schema_of {A_B} dictionary_0_none indices_of_default_null" + DONE], OWN + '"a",;"b",;"b",;"a",;null,;')
+TWO_OF = 'k Dictionary(DictionaryEncoding { id: 1, index: Int8 }) or null;l Dictionary(DictionaryEncoding { id: 2, index: UInt16 }) or null; '
+join(["schema_of_two dictionary_a dictionary_2 indices_two dictionary_c dictionary_2 indices_two" + DONE],
+     TWO_OF + '"a",null,;"a","q",;"c",null,;"c","q",;')
+
+note("dates: numbers of days, and another type than numbers are")
+D = "a Date or null; "
+join(["schema_Date batch_Date" + DONE, "schema_Date" + DONE], D + "8766,;null,;-719163,;-2147483648,;2147483647,;")
+join(["schema_Date batch_Date" + DONE, "schema_Int32 batch_Int32" + DONE], "F11 SchemaMismatch")
+join(["schema_Date batch_Date" + DONE, "schema_Date_full" + DONE], "F11 SchemaMismatch")
 
 note("a payload that is refused leaves its stream as it was")
 join(["schema_Int64 bad_data_short_Int64 batch_Int64_two" + DONE], "F8 BadBatch, " + INT64 + "1,;2,;")
