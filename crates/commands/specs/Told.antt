@@ -4,7 +4,8 @@ use Rattle.scan_base.specs.declared.fault.Fault.{Fault}
 use Rattle.flight_core.specs.Headline.{Pairwise}
 use Rattle.version_log.specs.Log.{Log}
 use Rattle.flight_calls.specs.declared.setting.Options.{Options}
-use Rattle.flight_calls.specs.Laws.{entries_in_all}
+use Rattle.flight_calls.specs.Exchanges.{exchanges_of}
+use Rattle.flight_calls.specs.Laws.{entries_in}
 use Rattle.flight_calls.specs.Seats.{Moves}
 use Rattle.shared_calls.specs.Sharing.{onward}
 use Rattle.command_ends.specs.Network.{Ends}
@@ -18,7 +19,7 @@ abbrev pub told_in_turn : {L : Type 0} (accepts : L → Option Ends → L → Ty
 told_in_turn accepts moves options (Failed listener ∷ others) (suc more) (suc patience) result old new serves =
     told_in_turn accepts moves options others (suc more) patience result (worker_of listener old.seat) new serves.1
 told_in_turn accepts moves options (Took listener ends served last ∷ others) (suc more) (suc patience) result old new serves =
-    entries_in_all options serves.1.calls serves.1.replies
+    entries_in (exchanges_of options serves.1.calls serves.1.replies)
     ++ told_in_turn accepts moves options others more 100 result (worker_of listener last.seat) new serves.2
 told_in_turn accepts moves options all more patience result old new serves = []
 
@@ -35,16 +36,17 @@ told_by_all accepts options history (old ∷ workers) (new ∷ ends) parts =
     length (told_by accepts options history old new parts.0) + told_by_all accepts options history workers ends parts.1
 told_by_all accepts options history workers ends parts = 0
 
--- The seat of a worker made the entries that the calls of its connections tell of, in order, and no other.
+-- Where all versions are kept, the seat of a worker made the entries that the calls of its connections tell of, in order, and no
+-- other.
 abbrev pub WorkersMakeWhatIsTold : {L : Type 0} → (L → Option Ends → L → Type 0) → Type 0
 WorkersMakeWhatIsTold {L} accepts =
     (options : Options) (history : Log) (old : Worker L) (new : Work L) (part : IsPartOf accepts options history old new)
-    → new.worker.seat.made ≡ old.seat.made ++ told_by accepts options history old new part
+    → options.keep ≡ 0 → new.worker.seat.made ≡ old.seat.made ++ told_by accepts options history old new part
 
--- Where workers that are new serve side by side, their history has as many entries as the calls of all their connections tell
--- of: one for each put that was accepted, and one for each expiry that was done.
+-- Where workers that are new serve side by side, and all versions are kept, their history has as many entries as the calls of all
+-- their connections tell of: one for each put that was accepted, and one for each expiry that was done.
 abbrev pub HistoryIsTold : {L : Type 0} → (L → Option Ends → L → Type 0) → (L → Option L → Type 0) → Type 0
 HistoryIsTold {L} accepts shares =
     (options : Options) (most : ℕ) (heard : L) (workers : List (Worker L)) (result : Result (Unit {0}) Fault)
-    (served : ServesSideBySide accepts options most workers result) → All (IsFresh shares heard) workers
+    (served : ServesSideBySide accepts options most workers result) → All (IsFresh shares heard) workers → options.keep ≡ 0
     → length served.history ≡ told_by_all accepts options served.history workers served.ends served.served

@@ -7,7 +7,7 @@ ghost use Rattle.commands.specs.Told.{HistoryIsTold, WorkersMakeWhatIsTold};
 use command_ends::Listen;
 use flight_calls::laws::joined;
 
-/// If every endpoint of an info was fetched to its end, over any connections that workers of one history, as the workers
+/// The headline for a server: if every endpoint of an info was fetched to its end, over any connections that the workers
 /// of one `serve` took, in any order, the streams joined are the rows that were wanted, on the tables as they stood when
 /// the info was given.
 pub fn server_meets_headline<L: Listen>()
@@ -16,13 +16,14 @@ pub fn server_meets_headline<L: Listen>()
     joined();
 }
 
-/// The seat of a worker made the entries that the calls of its connections tell of, in order, and no other.
+/// Where all versions are kept, the seat of a worker made the entries that the calls of its connections tell of, in order, and no
+/// other.
 pub fn workers_make_what_is_told<L: Listen>()
     ensures { WorkersMakeWhatIsTold (AcceptsThenCloses L.accepts L.closes) }
 {}
 
-/// The history of workers that were new has as many entries as the calls of all their connections tell of: one for each put
-/// that was accepted, and one for each expiry that was done.
+/// Where all versions are kept, the history of workers that were new has as many entries as the calls of all their connections
+/// tell of: one for each put that was accepted, and one for each expiry that was done.
 pub fn history_is_told<L: Listen>()
     ensures { HistoryIsTold (AcceptsThenCloses L.accepts L.closes) L.shares }
 {}
