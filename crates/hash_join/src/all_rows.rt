@@ -111,13 +111,13 @@ impl<'a> Sieve for AllRows<'a> {
         SeenRows::new(alloc, hashing, wanted)
     }
 
-    fn compared(&self, alloc: Global) -> Result<Compared, AllocError> {
+    fn compared(&self, alloc: Global) -> Compared {
         let (batch, key) = (self.search.left.batch, self.search.left.key);
         match &self.search.rights.buckets {
             Buckets::Hashed(hashing) if any_codes(batch, key) => {
                 Compared::new(alloc, hashing, batch.rows())
             }
-            _ => Ok(Compared::none(alloc)),
+            _ => Compared::none(alloc),
         }
     }
 

@@ -37,10 +37,12 @@ pub(crate) struct PartPair {
 }
 
 // For each place the rows whose codes of long texts fell there last, as a pair. So it may forget a pair. Who asks looks whether
-// those rows have the same codes.
+// those rows have the same codes. It takes memory for the places once the first long texts are compared.
 #[derive(Drop)]
 pub(crate) struct Compared {
+    alloc: Global,
     product: Product,
+    pub(crate) places: usize,
     pub(crate) pairs: Vec<SeenPair>,
 }
 
@@ -57,27 +59,24 @@ impl Compared {
         ensures { result.pairs.items ≡ [] }
     {
         Compared {
+            alloc,
             product: Product::one(),
+            places: 0,
             pairs: Vec::new(alloc),
         }
     }
 
     // A table with a place of 16 bytes for each of so many rows, or as many places as a table has at most.
-    pub(crate) fn new(alloc: Global, hashing: &Hashing, rows: usize) -> Result<Compared, AllocError>
-        ensures { IfOk result (λ compared. All (λ (at : SeenPair). 2 ^ 32 ≤ at.left + 1) compared.pairs.items) }
+    pub(crate) fn new(alloc: Global, hashing: &Hashing, rows: usize) -> Compared
+        ensures { result.pairs.items ≡ [] }
     {
         let places = rows.min(MOST_PAIRS).next_power_of_two();
-        let none = SeenPair {
-            left: u32::MAX,
-            right: 0,
-            part: 0,
-            equal: false,
-        };
-        let pairs = vec![in alloc; none; places]?;
-        Ok(Compared {
+        Compared {
+            alloc,
             product: Product::of_hasher(hashing.begun, places - 1),
-            pairs,
-        })
+            places,
+            pairs: Vec::new(alloc),
+        }
     }
 
     // Whether a left and a right row have keys that are equal part by part.
@@ -125,6 +124,7 @@ impl Compared {
         if !are_long(left, right) {
             return are_equal(left, right);
         }
+        self.make_room();
         let Some(place) = self.place(lefts, rights, at) else {
             return are_equal(left, right);
         };
@@ -134,6 +134,20 @@ impl Compared {
         let equal = are_equal(left, right);
         self.keep(place, at, equal);
         equal
+    }
+
+    // Takes memory for the places, where none was taken. If it is refused, no pair is kept.
+    fn make_room(&mut self)
+        ensures { (lefts rights : ℕ → List Value) (left_count right_count : ℕ) → left_count < 2 ^ 32 →
+            AreCompared lefts left_count rights right_count self.old.pairs.items → AreCompared lefts left_count rights right_count self.new.pairs.items }
+    {
+        if self.places == 0 || !self.pairs.is_empty() {
+            return;
+        }
+        match no_pairs(self.alloc, self.places) {
+            Ok(pairs) => self.pairs = pairs,
+            Err(_) => self.places = 0,
+        }
     }
 
     // The place of a pair of codes; none where one of the two has none. No contract rests on it.
@@ -213,6 +227,20 @@ impl Compared {
             };
         }
     }
+}
+
+// So many places without a pair.
+fn no_pairs(alloc: Global, places: usize) -> Result<Vec<SeenPair>, AllocError>
+    ensures { IfOk result (λ pairs. All (λ (at : SeenPair). 2 ^ 32 ≤ at.left + 1) pairs.items) }
+{
+    let none = SeenPair {
+        left: u32::MAX,
+        right: 0,
+        part: 0,
+        equal: false,
+    };
+    let pairs = vec![in alloc; none; places]?;
+    Ok(pairs)
 }
 
 // Whether both values are texts that are long.

@@ -147,15 +147,15 @@ impl Rights {
     }
 
     // A table for what is compared of two rows, without a pair yet. It has places where keys are hashed, and some batch has codes.
-    pub(crate) fn compared(&self, alloc: Global) -> Result<Compared, AllocError>
+    pub(crate) fn compared(&self, alloc: Global) -> Compared
         requires { AreRights self.now }
-        ensures { IfOk result (λ compared. HaveCompared self.now compared) }
+        ensures { HaveCompared self.now result }
     {
         match &self.buckets {
             Buckets::Hashed(hashing) if any_batch_codes(&self.batches, &self.key) => {
                 Compared::new(alloc, hashing, self.places.len())
             }
-            _ => Ok(Compared::none(alloc)),
+            _ => Compared::none(alloc),
         }
     }
 

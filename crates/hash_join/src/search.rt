@@ -252,7 +252,7 @@ impl<'a> Search<'a> {
         if probe.left >= self.left.batch.rows() {
             return Ok(*probe);
         }
-        made.compared = sieve.compared(self.alloc)?;
+        made.compared = sieve.compared(self.alloc);
         let stop = self.push_row(sieve, probe, most, made)?;
         if stop < self.rights.places.len() {
             return Ok(Probe {

@@ -1,6 +1,6 @@
 //! Left rows, of which those that join nothing are mostly told by one look.
 
-ghost use Rattle.std.specs.Prelude.{◌≡◌, ◌≤◌, ◌<◌, ◌+◌, ◌&&◌, ◌^◌, ℕ, All, Bool, IfOk, None, Option, if◌then◌else◌, true};
+ghost use Rattle.std.specs.Prelude.{◌≡◌, ◌≤◌, ◌<◌, ◌+◌, ◌&&◌, ℕ, [], Bool, IfOk, None, Option, if◌then◌else◌, true};
 ghost use Rattle.arrays.specs.Integers.{AreIntegers};
 ghost use Rattle.arrays.specs.Number.{integer_at};
 ghost use Rattle.arrays.specs.Validity.{is_valid};
@@ -9,7 +9,7 @@ ghost use Rattle.hash_join.specs.declared.look.Told.TheVariants as known;
 ghost use Rattle.hash_join.specs.Seen.{AreKept};
 ghost use Rattle.hash_join.specs.Words.{passing_word};
 
-use crate::compared::{Compared, SeenPair};
+use crate::compared::Compared;
 use crate::key_element::{KeyElement, is_known, known_word, number_word};
 use crate::look::{Look, Told};
 use crate::seen::SeenRows;
@@ -56,8 +56,8 @@ pub(crate) trait Sieve {
         ensures { IfOk result (λ seen. AreKept (bucket self.now) (last self.now) (count self.now) (digest self.now) seen) };
 
     // A table for what is compared of left and right rows, without a pair yet.
-    fn compared(&self, alloc: Global) -> Result<Compared, AllocError>
-        ensures { IfOk result (λ compared. All (λ (at : SeenPair). 2 ^ 32 ≤ at.left + 1) compared.pairs.items) };
+    fn compared(&self, alloc: Global) -> Compared
+        ensures { result.pairs.items ≡ [] };
 
     // The first right row of the chain of a row that passes; the number of right rows where it has none.
     fn head(&self, row: usize, seen: &mut SeenRows) -> u32
@@ -135,8 +135,8 @@ impl<'a, E: KeyElement, L: Look> Sieve for NumberRows<'a, E, L> {
         Ok(SeenRows::none(alloc))
     }
 
-    fn compared(&self, alloc: Global) -> Result<Compared, AllocError> {
-        Ok(Compared::none(alloc))
+    fn compared(&self, alloc: Global) -> Compared {
+        Compared::none(alloc)
     }
 
     fn head(&self, row: usize, _seen: &mut SeenRows) -> u32 {

@@ -216,7 +216,7 @@ impl<'a> Walk<'a> {
         at < self.rights.places.len() && self.joins_row(at, compared)
     }
 
-    // Whether the left row joins a right row that is there. Texts are compared where they lie if the table has no place.
+    // Whether the left row joins a right row that is there. Texts are compared where they lie if the table is to have no place.
     fn joins_row(&self, at: usize, compared: &mut Compared) -> bool
         requires whole { IsWalk self.now }
         requires within { at < length (self.now).rights.now.places.items }
@@ -224,7 +224,7 @@ impl<'a> Walk<'a> {
         ensures joins { result ≡ joins_at self.now (place_at (self.now).rights.now at) }
         ensures compared { HasCompared self.now compared.new }
     {
-        if compared.pairs.is_empty() {
+        if compared.places == 0 {
             return self.left.joins(&self.rights.key_row(at));
         }
         let lefts = BatchRows { at: self.left };

@@ -14,7 +14,7 @@ loop-row-init c =
     let all : c.len-rows.result ≡ length rights.places.items = omega (arith, c.len-rows.ensures, rights.places.ok) in
     record {
       repeats = none_repeat rights c.args.links.now c.len-rows.result c.in_ok-repeats.repeats.items all c.in_ok-repeats.ensures;
-      compared = c.in_ok-compared.ensures;
+      compared = c.compared-compared.ensures;
     }
 
 pub loop-row-preserved : goal.loop-row-preserved
