@@ -9,3 +9,4 @@ pub mod Reading
 pub mod Laws
 pub mod Joining
 pub mod Answered
+pub mod Watched
