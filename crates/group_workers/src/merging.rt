@@ -4,7 +4,7 @@ ghost use Rattle.std.specs.Prelude.{◌≡◌, IfOk};
 ghost use Rattle.group_workers.specs.Merging.{AreNextGroups, CanMerge, IsNextPart};
 ghost use Rattle.scan_exec.specs.GroupWork.{work_at};
 
-use crate::parts::count_before;
+use crate::parts::{count_before, row_count};
 use grouping::Groups;
 use row_sources::Watches;
 use scan_base::Fault;
@@ -12,7 +12,8 @@ use scan_exec::{FedPart, GroupWork};
 use scan_workers::{Answers, NextAnswer, Reads, Work};
 use std::alloc::Global;
 
-// How many rows a worker looks at in a turn, as far as who watches is told.
+// How many rows a turn of a worker looks at. Where one ends or has no more to do, a turn is over too, so no more rows are told
+// than there are.
 const TURN_ROWS: usize = 1_048_576;
 
 // Parts of the batches as morsels, each answered by its groups. A worker feeds some of its batches ahead, turn by turn.
@@ -84,20 +85,23 @@ impl<'w, 't, 'p, 'l, L: Watches> Reads<Result<FedPart<'t>, Fault>> for Merging<'
         answers: &mut P,
     ) -> Result<Groups<'t>, Fault> {
         let (alloc, work) = (self.alloc, self.work);
-        let Some(first) = next_groups(alloc, work, answers, self.watch)? else {
+        let mut untold = row_count(work.shape.batches);
+        let Some(first) = next_groups(alloc, work, answers, &mut untold, self.watch)? else {
             return Ok(Groups::new(alloc, work.seed, work.shape)?);
         };
         let mut groups = first;
-        while let Some(part) = next_groups(alloc, work, answers, self.watch)? {
+        while let Some(part) = next_groups(alloc, work, answers, &mut untold, self.watch)? {
             groups.merge(alloc, part)?;
         }
         Ok(groups)
     }
 }
 
-// The part that is answered next, or none behind the last one. Behind each turn of its worker, who watches may end it.
+// The part that is answered next, or none behind the last one. Behind each turn of its worker, who watches may end it. So many
+// rows of turns are untold.
 fn next_part<'t, P: Answers<Result<FedPart<'t>, Fault>>, L: Watches>(
     answers: &mut P,
+    untold: &mut usize,
     watch: &mut L,
 ) -> Result<Option<FedPart<'t>>, Fault>
     requires ready { P.ready answers.old }
@@ -115,7 +119,9 @@ fn next_part<'t, P: Answers<Result<FedPart<'t>, Fault>>, L: Watches>(
             NextAnswer::End => return Ok(None),
             NextAnswer::Going => {}
         }
-        if !watch.goes_on(TURN_ROWS) {
+        let told = TURN_ROWS.min(*untold);
+        *untold -= told;
+        if !watch.goes_on(told) {
             return Err(Fault::OutOfMemory);
         }
         turns -= 1;
@@ -131,6 +137,7 @@ fn next_groups<'t, P: Answers<Result<FedPart<'t>, Fault>>, L: Watches>(
     alloc: Global,
     work: &GroupWork<'t, '_>,
     answers: &mut P,
+    untold: &mut usize,
     watch: &mut L,
 ) -> Result<Option<Groups<'t>>, Fault>
     requires ready { P.ready answers.old }
@@ -142,7 +149,7 @@ fn next_groups<'t, P: Answers<Result<FedPart<'t>, Fault>>, L: Watches>(
     ensures watch { L.ready watch.new }
     ensures watched { L.watched watch.old watch.new }
 {
-    match next_part(answers, watch)? {
+    match next_part(answers, untold, watch)? {
         Some(part) => Ok(Some(work.rest_of_part(alloc, part, watch)?)),
         None => Ok(None),
     }
