@@ -23,25 +23,11 @@ import wire  # noqa: E402
 from built import program  # noqa: E402
 from loopback import Connection, Server  # noqa: E402
 from random_calls.answers import Difference, PutCount, same  # noqa: E402
-from served.cases import A, fetch_of, replaced  # noqa: E402
+from served.cases import A, expire, fetch_of, replaced  # noqa: E402
 
 ROWS = 125_000  # of eight bytes: 1 MB
 FIRST = 100  # puts before memory is read
 SLACK = 4_000_000
-
-
-def expiry_of(version: int) -> bytes:
-    """The call that expires the versions below a number."""
-    action = wire.chunk(1, b"scan.expire") + wire.chunk(2, version.to_bytes(8, "big"))
-    return wire.call(b"DoAction", [action])
-
-
-def expire(connection: Connection, version: int) -> None:
-    """The floor is the version."""
-    connection.send(expiry_of(version))
-    answer = connection.answer()
-    same(f"the status of an expiry below {version}", (0, ""), (answer.code, answer.text))
-    same("the floor", [version.to_bytes(8, "big")], [wire.one_field(message, 1) for message in answer.messages])
 
 
 def look_at_versions(connection: Connection, newest: int) -> None:

@@ -122,12 +122,17 @@ class Bytes:
             demand(shift < 70, "a varint of more than ten bytes")
 
 
-def answer(source: Bytes) -> Answer:
-    """The next answer of a connection."""
-    messages = []
+def rest_of_message(source: Bytes) -> bytes:
+    """A Message behind the byte of its kind."""
+    demand(source.number(1) == 0, "a message's flag")
+    return source.take(source.number(4))
+
+
+def answer(source: Bytes, begun: list[bytes] | None = None) -> Answer:
+    """The next answer of a connection, or what is left of it behind the Messages that it began with."""
+    messages = begun or []
     while (kind := source.number(1)) == 2:
-        demand(source.number(1) == 0, "a message's flag")
-        messages.append(source.take(source.number(4)))
+        messages.append(rest_of_message(source))
     demand(kind == 4, f"a record of kind {kind}")
     code = source.number(1)
     return Answer(messages, code, source.take(source.number(2)).decode())

@@ -91,6 +91,20 @@ def fetch_of(version: int, first: int, end: int, text: str) -> bytes:
     return wire.call(b"DoGet", [wire.ticket(wire.query_handle(version, first, end, text.encode()))])
 
 
+def expiry_of(version: int) -> bytes:
+    """The call that expires the versions below a number."""
+    action = wire.chunk(1, b"scan.expire") + wire.chunk(2, version.to_bytes(8, "big"))
+    return wire.call(b"DoAction", [action])
+
+
+def expire(connection: Connection, version: int) -> None:
+    """The floor is the version."""
+    connection.send(expiry_of(version))
+    answer = connection.answer()
+    same(f"the status of an expiry below {version}", (0, ""), (answer.code, answer.text))
+    same("the floor", [version.to_bytes(8, "big")], [wire.one_field(message, 1) for message in answer.messages])
+
+
 def rows_of(columns: tuple[Column, ...], *rows: Row) -> Rows:
     return Rows(list(columns), list(rows), [None], 0)
 

@@ -13,7 +13,7 @@ from loopback import Connection, Server
 from random_calls.answers import PutCount, Refusal, Wanted, same
 from random_calls.plain_model import Column
 from random_calls.refused import INGEST
-from served.cases import (A, DONE, FETCH, FIRST_RUN, MEGABYTE, PUT, TICKET, Run, appended, ask, case, descriptor_of, fetch_of,
+from served.cases import (A, DONE, FETCH, FIRST_RUN, MEGABYTE, PUT, TICKET, Run, appended, ask, case, descriptor_of, expire, fetch_of,
                           info_of, put_of, rows_of, status_of)
 
 # ---- bytes
@@ -188,6 +188,41 @@ def nothing_read(run: Run) -> str:
         with Connection(server.port) as connection:
             ask(connection, PUT, Refusal("F10"))
     return more
+
+
+# 256 rows of a text of 65,536 bytes, of a table of 16 rows: more than a socket holds
+LONG_TEXTS = [("x" * 65_536, 1)] * 16
+LONG_FETCH = fetch_of(1, 0, 16, "SELECT x.s FROM t AS x JOIN t AS y ON x.k = y.k")
+LONG_ROWS = rows_of(TEXTS[:1], *[("x" * 65_536,)] * 256)
+
+
+def first_message(connection: Connection) -> bytes:
+    """The next Message of an answer."""
+    same("the kind of the next record", 2, connection.number(1))
+    return wire.rest_of_message(connection)
+
+
+def expire_the_first(connection: Connection) -> None:
+    """One row more makes version 2, and version 1 is expired: a fetch of it is then refused."""
+    ask(connection, appended("t", TEXTS, [("y", 2)]), PutCount(1))
+    expire(connection, 2)
+    ask(connection, LONG_FETCH, Refusal("F19"))
+
+
+@case("an expiry while an answer is read: what began goes on to its last row, and the next fetch of that version is F19")
+def expired_while_read(run: Run) -> None:
+    with run.serving() as server:
+        with Connection(server.port, room=65_536) as reader, Connection(server.port) as other:
+            ask(reader, put_of("t", TEXTS, LONG_TEXTS), PutCount(16))
+            reader.send(LONG_FETCH)
+            begun = [first_message(reader) for _ in range(2)]
+            expire_the_first(other)
+            LONG_ROWS.look(wire.answer(reader, begun))
+            ask(reader, LONG_FETCH, Refusal("F19"))
+    with run.serving() as server, Connection(server.port) as connection:
+        ask(connection, put_of("t", TEXTS, LONG_TEXTS), PutCount(16))
+        ask(connection, LONG_FETCH, LONG_ROWS)
+        expire_the_first(connection)
 
 
 @case("clients that send nothing, half a record, or read nothing: with --idle 1 each gives its seat back, and its call is not made")

@@ -22,6 +22,7 @@ use grpc_frame::{Counted, Input, Output};
 use hash_seed::HashSeed;
 use loopback::{Loopback, Port};
 use scan_base::Fault;
+use std::alloc::Global;
 use std::fs::{File, Files};
 use std::io::ErrorKind;
 use std::net::{Net, TcpListener, TcpStream};
@@ -141,10 +142,20 @@ fn null_device<R: Files>(files: &R) -> Option<R::File> {
     File::open(files, "/dev/null").ok()
 }
 
+// The C library keeps up to twice as much of freed memory as the largest block that was freed so far had. What is beyond, it
+// gives back to the system, which hands it out anew page by page: that costs a batch more than its rows do.
+const LARGEST_FREED: usize = 8 << 20;
+
+// Has the memory of a batch kept for the next one. Where the block is refused, nothing changes but time.
+fn keep_freed_memory(alloc: Global) {
+    let _block = Vec::<u8>::with_capacity(alloc, LARGEST_FREED);
+}
+
 fn main(rt: HostRuntime) -> ExitCode {
     // Where standard input, output or error is closed, one of these has its number, and no socket does.
     let _standard = (null_device(&rt), null_device(&rt), null_device(&rt));
     let alloc = rt.alloc();
+    keep_freed_memory(alloc);
     let mut output = Counted::new(rt.stdout());
     let mut faults = Counted::new(rt.stderr());
     let words = match std::env::args(&rt) {

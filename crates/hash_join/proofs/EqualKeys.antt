@@ -4,6 +4,7 @@ use Rattle.std.specs.List.{list_any}
 use Rattle.std.specs.Ordering.{int_cmp, nat_cmp, bool_cmp, is_eq}
 use Rattle.std.specs.Cmp.Lexicographic.{slice_cmp}
 use Rattle.std.specs.Cmp.{Equal-is, int_ranks}
+use Rattle.std.specs.Hash.DefaultHasher as sip
 use Rattle.std.specs.Int.Bits.{bit_and}
 use Rattle.std.specs.declared.cmp.Ordering.TheVariants.{Equal as Same}
 use Rattle.std.specs.declared.hash.DefaultHasher.{DefaultHasher}
@@ -19,7 +20,7 @@ use Rattle.scan_base.specs.Value.{is_null}
 use Rattle.hash_join.specs.Pairs.{keys_join}
 use Rattle.hash_join.specs.declared.buckets.Buckets.{Buckets}
 use Rattle.hash_join.specs.declared.buckets.Buckets.TheVariants as parted
-use Rattle.hash_join.specs.Hashes.{fed, hash_of, number_of, product_of, bucket_among, bucket_of}
+use Rattle.hash_join.specs.Hashes.{fed, fed_part, hash_of, parts_hash, value_hash, number_of, product_of, bucket_among, bucket_of}
 use Rattle.hash_join.specs.Chains.{stands}
 
 kept : (b : Bool) → keeps (truth_from b) ≡ true → b ≡ true
@@ -58,15 +59,25 @@ same_keys (a ∷ xs) (b ∷ ys) e h =
     let parts = and_parts (keeps (compared Equal a b)) (keys_join xs ys) h in
     ap (λ v. v ∷ xs) (equal_values a b parts.0) ∙ ap (λ vs. b ∷ vs) (same_keys xs ys (omega (arith, e)) parts.1)
 
+-- parts that join have a hash
+some_parts : (begun hasher : DefaultHasher) (xs ys : List Value) → length xs ≡ length ys → keys_join xs ys ≡ true →
+    (hash : ℕ) × (parts_hash begun hasher xs ≡ Some hash)
+some_parts begun hasher [] ys e h = (_, refl)
+some_parts begun hasher (a ∷ xs) [] e h = absurd (omega (arith, e))
+some_parts begun hasher (a ∷ xs) (b ∷ ys) e h =
+    let parts = and_parts (keeps (compared Equal a b)) (keys_join xs ys) h in
+    let rest = some_parts begun (fed_part begun hasher a) xs ys (omega (arith, e)) parts.1 in
+    (rest.0, rw (equal_known a b parts.0) rest.1)
+
 -- a key that joins has a hash
 some_hash : (begun : DefaultHasher) (xs ys : List Value) → length xs ≡ length ys → keys_join xs ys ≡ true →
     (hash : ℕ) × (hash_of begun xs ≡ Some hash)
 some_hash begun [] ys e h = (_, refl)
-some_hash begun (a ∷ xs) [] e h = absurd (omega (arith, e))
-some_hash begun (a ∷ xs) (b ∷ ys) e h =
-    let parts = and_parts (keeps (compared Equal a b)) (keys_join xs ys) h in
-    let rest = some_hash (fed begun a) xs ys (omega (arith, e)) parts.1 in
-    (rest.0, rw (equal_known a b parts.0) rest.1)
+some_hash begun (a ∷ []) [] e h = absurd (omega (arith, e))
+some_hash begun (a ∷ []) (b ∷ ys) e h =
+    let parts = and_parts (keeps (compared Equal a b)) (keys_join [] ys) h in
+    (sip.finish (fed begun a), ap (λ (null : Bool). if null then None else Some (sip.finish (fed begun a))) (equal_known a b parts.0))
+some_hash begun (a ∷ second ∷ xs) ys e h = some_parts begun begun (a ∷ second ∷ xs) ys e h
 
 -- no part of it is null
 none_null : (xs ys : List Value) → length xs ≡ length ys → keys_join xs ys ≡ true → list_any is_null xs ≡ false

@@ -25,10 +25,31 @@ fed hasher (Flag flag) = fold sip.write hasher (written.bool flag)
 fed hasher (Int number) = fold sip.write hasher (written.i128 number)
 fed hasher (Text text) = fold sip.write hasher (written.str text)
 
+-- the digest of a text: its own hash, which begins as that of a key
+abbrev pub text_digest : DefaultHasher → List ℕ → ℕ
+text_digest begun text = sip.finish (fold sip.write begun (written.str text))
+
+-- a hasher that was fed one of several parts: of a text its digest
+abbrev pub fed_part : DefaultHasher → DefaultHasher → Value → DefaultHasher
+fed_part begun hasher Null = hasher
+fed_part begun hasher (Flag flag) = fed hasher (Flag flag)
+fed_part begun hasher (Int number) = fed hasher (Int number)
+fed_part begun hasher (Text text) = fold sip.write hasher (written.u64 (text_digest begun text))
+
+-- the hash of the parts that follow those that a hasher was fed; none where one of them is null
+abbrev pub parts_hash : DefaultHasher → DefaultHasher → List Value → Option ℕ
+parts_hash begun hasher [] = Some (sip.finish hasher)
+parts_hash begun hasher (value ∷ values) = if is_null value then None else parts_hash begun (fed_part begun hasher value) values
+
+-- the hash of a key that is one value
+abbrev pub value_hash : DefaultHasher → Value → Option ℕ
+value_hash begun value = if is_null value then None else Some (sip.finish (fed begun value))
+
 -- the hash of a key; none where a part of it is null
 abbrev pub hash_of : DefaultHasher → List Value → Option ℕ
-hash_of hasher [] = Some (sip.finish hasher)
-hash_of hasher (value ∷ values) = if is_null value then None else hash_of (fed hasher value) values
+hash_of begun [] = parts_hash begun begun []
+hash_of begun (value ∷ []) = value_hash begun value
+hash_of begun (value ∷ second ∷ values) = parts_hash begun begun (value ∷ second ∷ values)
 
 -- the bucket of a key by its hash: the last bits of it
 abbrev pub hashed_bucket : Hashing → List Value → Option ℕ
@@ -82,6 +103,15 @@ abbrev pub bucket_of : Buckets → List Value → Option ℕ
 bucket_of (parted.Hashed hashing) key = hashed_bucket hashing key
 bucket_of (parted.Multiplied product) key = product_bucket product key
 bucket_of (parted.Ranked ranks) key = ranked_bucket ranks key
+
+-- the digest of a value that is a text, where keys are hashed
+abbrev pub digest_of : Buckets → Value → Option ℕ
+digest_of (parted.Hashed hashing) (Text text) = Some (text_digest hashing.begun text)
+digest_of (parted.Hashed hashing) Null = None
+digest_of (parted.Hashed hashing) (Flag flag) = None
+digest_of (parted.Hashed hashing) (Int number) = None
+digest_of (parted.Multiplied product) value = None
+digest_of (parted.Ranked ranks) value = None
 
 -- the last bucket
 abbrev pub last_of : Buckets → ℕ

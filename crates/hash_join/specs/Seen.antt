@@ -1,11 +1,13 @@
 -- Inside: rows that were seen, each with the bucket of its key.
 use Rattle.std.specs.Prelude.{◌≡◌, ◌≤◌, ◌<◌, ℕ, List, All, Option, Some, length}
 use Rattle.hash_join.specs.declared.chains.OpenChains.{OpenChains}
+use Rattle.hash_join.specs.declared.digests.SeenDigest.{SeenDigest}
 use Rattle.hash_join.specs.declared.rights.Rights.{Rights}
 use Rattle.hash_join.specs.declared.seen.SeenRow.{SeenRow}
+use Rattle.hash_join.specs.declared.seen.SeenRows.{SeenRows}
 use Rattle.hash_join.specs.Chains.{HasLinked}
 use Rattle.hash_join.specs.Hashes.{last_of}
-use Rattle.hash_join.specs.Rights.{bucket_at}
+use Rattle.hash_join.specs.Rights.{bucket_at, digest_at}
 
 -- the key of a row has this bucket, which is no later than the last
 pub record IsSeen (buckets : ℕ → Option ℕ) (last row bucket : ℕ) : Type 0 where
@@ -16,7 +18,16 @@ pub record IsSeen (buckets : ℕ → Option ℕ) (last row bucket : ℕ) : Type 
 abbrev pub AreSeen : (ℕ → Option ℕ) → ℕ → ℕ → List SeenRow → Type 0
 AreSeen buckets last count rows = All (λ (seen : SeenRow). seen.row < count → IsSeen buckets last seen.row seen.bucket) rows
 
--- the right rows from a row on are linked, and buckets of right rows are kept
+-- of each row that is there the digest of that part of its key was kept
+abbrev pub AreDigests : (ℕ → ℕ → Option ℕ) → ℕ → List SeenDigest → Type 0
+AreDigests digests count texts = All (λ (seen : SeenDigest). seen.row < count → digests seen.row seen.part ≡ Some seen.digest) texts
+
+-- what was kept of rows that were seen is so
+pub record AreKept (buckets : ℕ → Option ℕ) (last count : ℕ) (digests : ℕ → ℕ → Option ℕ) (seen : SeenRows) : Type 0 where
+  pub rows : AreSeen buckets last count seen.rows.items
+  pub texts : AreDigests digests count seen.digests.texts.items
+
+-- the right rows from a row on are linked, and what is kept of right rows is so
 pub record AreOpen (rights : Rights) (chains : OpenChains) (from : ℕ) : Type 0 where
   pub linked : HasLinked rights chains.heads.items chains.links.items from
-  pub seen : AreSeen (bucket_at rights) (last_of rights.buckets) (length rights.places.items) chains.seen.rows.items
+  pub seen : AreKept (bucket_at rights) (last_of rights.buckets) (length rights.places.items) (digest_at rights) chains.seen

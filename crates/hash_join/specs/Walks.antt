@@ -1,10 +1,11 @@
 -- Inside: a left row that looks for its partners along a chain.
-use Rattle.std.specs.Prelude.{◌≡◌, ◌≤◌, ◌<◌, ◌^◌, ◌++◌, ℕ, Bool, true, List, Option, length, map, drop}
+use Rattle.std.specs.Prelude.{◌≡◌, ◌≤◌, ◌<◌, ◌^◌, ◌++◌, ℕ, Bool, true, List, Option, length, map, drop, get_or}
 use Rattle.std.specs.List.{filter}
 use Rattle.hash_join.specs.declared.pair.Pair.{Pair}
 use Rattle.hash_join.specs.declared.walk.Walk.{Walk}
 use Rattle.hash_join.specs.Pairs.{keys_join}
-use Rattle.hash_join.specs.Hashes.{bucket_of}
+use Rattle.scan_base.specs.declared.value.Value.TheVariants.{Null}
+use Rattle.hash_join.specs.Hashes.{bucket_of, digest_of}
 use Rattle.hash_join.specs.KeyRows.{key_of, IsKeyRow}
 use Rattle.hash_join.specs.Rights.{key_from, place_at, bucket_at, AreRights}
 use Rattle.hash_join.specs.Chains.{stands, AreRepeats, HasLinked}
@@ -24,6 +25,10 @@ pairs_past walk from = map (pair_at walk) (filter (joins_at walk) (drop from wal
 -- the bucket of the left row
 abbrev pub bucket_left : Walk → Option ℕ
 bucket_left walk = bucket_of walk.rights.now.buckets (key_of walk.left)
+
+-- the digest of a part of the left row's key, where it is a text
+abbrev pub digest_left : Walk → ℕ → Option ℕ
+digest_left walk part = digest_of walk.rights.now.buckets (get_or (key_of walk.left) part Null)
 
 -- whether a right row stands in the left row's chain
 abbrev pub in_chain : Walk → ℕ → Bool

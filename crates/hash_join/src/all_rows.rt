@@ -5,10 +5,11 @@ ghost use Rattle.hash_join.specs.declared.look.Told.TheVariants as known;
 ghost use Rattle.hash_join.specs.Searches.{IsSearch};
 
 use crate::buckets::Buckets;
-use crate::key_codes::has_codes;
+use crate::digests::{Digests, PartRows};
+use crate::key_codes::{has_codes, most_codes};
 use crate::look::Told;
 use crate::search::Search;
-use crate::seen::{BucketRows, SeenRows};
+use crate::seen::{BucketRows, SeenRows, Wanted};
 use crate::sieve::Sieve;
 use std::alloc::{AllocError, Global};
 
@@ -22,13 +23,15 @@ pub(crate) struct AllRows<'a> {
 impl<'a> BucketRows for AllRows<'a> {
     ghost use Rattle.hash_join.specs.Hashes.{last_of};
     ghost use Rattle.hash_join.specs.Searches.{walk_at};
-    ghost use Rattle.hash_join.specs.Walks.{bucket_left};
+    ghost use Rattle.hash_join.specs.Walks.{bucket_left, digest_left};
 
     ghost count = { λ rows. rows.search.left.batch.now.rows };
 
     ghost bucket = { λ rows row. bucket_left (walk_at rows.search row) };
 
     ghost last = { λ rows. last_of rows.search.rights.now.buckets };
+
+    ghost digest = { λ rows row part. digest_left (walk_at rows.search row) part };
 
     fn count(&self) -> usize {
         self.search.left.batch.rows()
@@ -42,18 +45,46 @@ impl<'a> BucketRows for AllRows<'a> {
         self.search.left_row(row).has_code_of(other)
     }
 
-    fn bucket(&self, row: usize) -> Option<usize> {
-        self.search
-            .rights
-            .buckets
-            .bucket(&self.search.left_row(row))
+    fn bucket(&self, row: usize, digests: &mut Digests) -> Option<usize> {
+        let left = self.search.left_row(row);
+        let buckets = &self.search.rights.buckets;
+        buckets.bucket_by(self, row, &left, digests)
+    }
+}
+
+impl<'a> PartRows for AllRows<'a> {
+    ghost use Rattle.std.specs.Prelude.{length};
+    ghost use Rattle.hash_join.specs.Searches.{walk_at};
+    ghost use Rattle.hash_join.specs.Walks.{digest_left};
+
+    ghost count = { λ rows. rows.search.left.batch.now.rows };
+
+    ghost parts = { λ rows. length rows.search.left.key.now };
+
+    ghost digest = { λ rows row part. digest_left (walk_at rows.search row) part };
+
+    fn row_count(&self) -> usize {
+        self.search.left.batch.rows()
+    }
+
+    fn part_code(&self, row: usize, part: usize) -> Option<i128> {
+        self.search.left_row(row).part_code(part)
+    }
+
+    fn have_part_code(&self, row: usize, other: usize, part: usize) -> bool {
+        self.search.left_row(row).has_part_of(part, other)
+    }
+
+    fn digest(&self, row: usize, part: usize) -> Option<u64> {
+        let left = self.search.left_row(row);
+        self.search.rights.buckets.digest(left.part(part))
     }
 }
 
 impl<'a> Sieve for AllRows<'a> {
     ghost use Rattle.hash_join.specs.Hashes.{last_of};
     ghost use Rattle.hash_join.specs.Searches.{first_right, walk_at};
-    ghost use Rattle.hash_join.specs.Walks.{bucket_left};
+    ghost use Rattle.hash_join.specs.Walks.{bucket_left, digest_left};
 
     ghost count = { λ rows. rows.search.left.batch.now.rows };
 
@@ -68,6 +99,8 @@ impl<'a> Sieve for AllRows<'a> {
     ghost bucket = { λ rows row. bucket_left (walk_at rows.search row) };
 
     ghost last = { λ rows. last_of rows.search.rights.now.buckets };
+
+    ghost digest = { λ rows row part. digest_left (walk_at rows.search row) part };
 
     fn passes(&self, _row: usize) -> bool {
         true
@@ -86,13 +119,17 @@ impl<'a> Sieve for AllRows<'a> {
     }
 
     fn seen_rows(&self, alloc: Global) -> Result<SeenRows, AllocError> {
-        let batch = self.search.left.batch;
-        match &self.search.rights.buckets {
-            Buckets::Hashed(hashing) if has_codes(batch, self.search.left.key) => {
-                SeenRows::new(alloc, hashing, batch.rows())
-            }
-            _ => Ok(SeenRows::none(alloc)),
-        }
+        let Buckets::Hashed(hashing) = &self.search.rights.buckets else {
+            return Ok(SeenRows::none(alloc));
+        };
+        let (batch, key) = (self.search.left.batch, self.search.left.key);
+        let rows = batch.rows();
+        let wanted = Wanted {
+            rows: if has_codes(batch, key) { rows } else { 0 },
+            parts: key.len(),
+            codes: most_codes(batch, key).min(rows),
+        };
+        SeenRows::new(alloc, hashing, wanted)
     }
 
     fn head(&self, row: usize, seen: &mut SeenRows) -> u32 {

@@ -1,12 +1,17 @@
 //! How keys are parted into buckets.
 
-ghost use Rattle.std.specs.Prelude.{◌≡◌, ◌≤◌, IfSome};
-ghost use Rattle.hash_join.specs.Hashes.{last_of, bucket_of, hashed_bucket};
+ghost use Rattle.std.specs.Prelude.{◌≡◌, ◌≤◌, ◌<◌, ◌^◌, ℕ, IfSome, get_or, length};
+ghost use Rattle.scan_base.specs.Value.{value_of};
+ghost use Rattle.scan_base.specs.declared.value.Value.TheVariants.{Null};
+ghost use Rattle.hash_join.specs.Hashes.{last_of, bucket_of, digest_of, hashed_bucket};
 ghost use Rattle.hash_join.specs.KeyRows.{key_of, IsKeyRow};
+ghost use Rattle.hash_join.specs.Seen.{AreDigests};
 
-use crate::key_row::KeyRow;
+use crate::digests::{Digests, PartRows};
+use crate::key_row::{KeyRow, text_digest};
 use crate::product::Product;
 use crate::ranks::Ranks;
+use scan_base::ValueRef;
 use std::hash::DefaultHasher;
 
 // Buckets by the last bits, which the mask has, of a hash that begins with the hasher.
@@ -46,6 +51,45 @@ impl Buckets {
             Buckets::Hashed(hashing) => hashing.bucket(row),
             Buckets::Multiplied(product) => product.bucket(row),
             Buckets::Ranked(ranks) => ranks.bucket(row),
+        }
+    }
+
+    // The same, where digests of texts may be known. The row has this number among all rows.
+    pub(crate) fn bucket_by<R: PartRows>(
+        &self,
+        rows: &R,
+        number: usize,
+        row: &KeyRow<'_>,
+        digests: &mut Digests,
+    ) -> Option<usize>
+        requires number { number < R.count rows.now }
+        requires few { R.count rows.now < 2 ^ 32 }
+        requires row { IsKeyRow row.now }
+        requires parts { length row.now.key.now ≡ R.parts rows.now }
+        requires same { (part : ℕ) → R.digest rows.now number part ≡ digest_of self.now (get_or (key_of row.now) part Null) }
+        requires seen { AreDigests (R.digest rows.now) (R.count rows.now) digests.old.texts.items }
+        ensures bucket { result ≡ bucket_of self.now (key_of row.now) }
+        ensures within { IfSome result (λ bucket. bucket ≤ last_of self.now) }
+        ensures seen { AreDigests (R.digest rows.now) (R.count rows.now) digests.new.texts.items }
+    {
+        let Buckets::Hashed(hashing) = self else {
+            return self.bucket(row);
+        };
+        match digests.hash(hashing, rows, number, row) {
+            None => None,
+            Some(hash) => Some(hash as usize & hashing.mask),
+        }
+    }
+
+    // The digest of a value that is a text, where keys are hashed.
+    pub(crate) fn digest(&self, value: ValueRef<'_>) -> Option<u64>
+        ensures { result ≡ digest_of self.now (value_of value.entry) }
+    {
+        match (self, value) {
+            (Buckets::Hashed(hashing), ValueRef::Text(text)) => {
+                Some(text_digest(hashing.begun, text))
+            }
+            _ => None,
         }
     }
 }

@@ -106,6 +106,31 @@ pub(crate) fn has_codes(batch: &Batch, key: &[usize]) -> bool
     found
 }
 
+// How many values the largest dictionary has of those that parts of the key have; none where the key has one part.
+pub(crate) fn most_codes(batch: &Batch, key: &[usize]) -> usize
+    requires { IsTrue (list_all (λ column. nat_lt column (length batch.now.columns)) key.now) }
+{
+    let columns = batch.columns();
+    let mut most = 0;
+    for number in 0..key.len() {
+        if let Layout::Indices(cells) = columns[key[number]].layout() {
+            most = cells.dictionary().len().max(most);
+        }
+    }
+    if key.len() == 1 { 0 } else { most }
+}
+
+// The same of the largest of these batches.
+pub(crate) fn any_most_codes(batches: &[Batch], key: &[usize]) -> usize
+    requires { All (λ (batch : BatchAt). IsTrue (list_all (λ column. nat_lt column (length batch.columns)) key.now)) batches.now }
+{
+    let mut most = 0;
+    for batch in batches {
+        most = most_codes(batch, key).max(most);
+    }
+    most
+}
+
 // Whether rows of one of these batches may be told by their codes.
 pub(crate) fn any_has_codes(batches: &[Batch], key: &[usize]) -> bool
     requires { All (λ (batch : BatchAt). IsTrue (list_all (λ column. nat_lt column (length batch.columns)) key.now)) batches.now }

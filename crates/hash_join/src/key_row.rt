@@ -8,7 +8,7 @@ ghost use Rattle.scan_base.specs.Value.{value_of, is_null};
 ghost use Rattle.scan_base.specs.declared.comparison.Comparison.TheVariants.{Equal};
 ghost use Rattle.scan_base.specs.declared.value.Value.TheVariants.{Null};
 ghost use Rattle.hash_join.specs.Pairs.{keys_join};
-ghost use Rattle.hash_join.specs.Hashes.{fed, hash_of, number_of};
+ghost use Rattle.hash_join.specs.Hashes.{fed, fed_part, hash_of, number_of, text_digest, value_hash};
 ghost use Rattle.hash_join.specs.KeyRows.{key_beside, key_of, IsKeyRow};
 
 use crate::key_codes::{code_at, have_one_code, have_one_number, number_at};
@@ -29,7 +29,7 @@ pub(crate) struct KeyRow<'a> {
 
 impl<'a> KeyRow<'a> {
     // The value of a part of the key, where it lies.
-    fn part(&self, number: usize) -> ValueRef<'_>
+    pub(crate) fn part(&self, number: usize) -> ValueRef<'_>
         requires row { IsKeyRow self.now }
         requires there { number < length self.now.key.now }
         ensures { value_of result ≡ get_or (key_of self.now) number Null }
@@ -120,8 +120,17 @@ impl<'a> KeyRow<'a> {
         true
     }
 
+    // The code of a part of the key.
+    pub(crate) fn part_code(&self, part: usize) -> Option<i128>
+        requires row { IsKeyRow self.now }
+        requires there { part < length self.now.key.now }
+    {
+        let columns = self.batch.columns();
+        code_at(&columns[self.key[part]], self.row)
+    }
+
     // Whether a part of the key is surely the same in another row of the batch.
-    fn has_part_of(&self, part: usize, other: usize) -> bool
+    pub(crate) fn has_part_of(&self, part: usize, other: usize) -> bool
         requires row { IsKeyRow self.now }
         requires there { part < length self.now.key.now }
         requires other { other < self.now.batch.now.rows }
@@ -136,9 +145,12 @@ impl<'a> KeyRow<'a> {
         requires { IsKeyRow self.now }
         ensures { result ≡ hash_of begun (key_of self.now) }
     {
+        if self.key.len() == 1 {
+            return hash_value(begun, self.part(0));
+        }
         let mut hasher = begun;
         for number in 0..self.key.len() {
-            if !feed(&mut hasher, self.part(number)) {
+            if !feed_part(begun, &mut hasher, self.part(number)) {
                 return None;
             }
         }
@@ -168,6 +180,44 @@ fn is_null(value: ValueRef<'_>) -> bool
     match value {
         ValueRef::Null => true,
         _ => false,
+    }
+}
+
+// The digest of a text, whose hash begins with what a hasher has taken in.
+pub(crate) fn text_digest(begun: DefaultHasher, text: &str) -> u64
+    ensures { result ≡ text_digest begun text.now }
+{
+    let mut hasher = begun;
+    text.hash(&mut hasher);
+    hasher.finish()
+}
+
+// The hash of a key that is one value; none where it is null.
+fn hash_value(begun: DefaultHasher, value: ValueRef<'_>) -> Option<u64>
+    ensures { result ≡ value_hash begun (value_of value.entry) }
+{
+    let mut hasher = begun;
+    if !feed(&mut hasher, value) {
+        return None;
+    }
+    Some(hasher.finish())
+}
+
+// Feeds one of several parts to a hasher, and of a text its digest; false where it is null.
+pub(crate) fn feed_part(
+    begun: DefaultHasher,
+    hasher: &mut DefaultHasher,
+    value: ValueRef<'_>,
+) -> bool
+    ensures there { result ≡ not (is_null (value_of value.entry)) }
+    ensures fed { hasher.new ≡ fed_part begun hasher.old (value_of value.entry) }
+{
+    match value {
+        ValueRef::Text(text) => {
+            text_digest(begun, text).hash(hasher);
+            true
+        }
+        _ => feed(hasher, value),
     }
 }
 

@@ -5,6 +5,7 @@ mod all_rows;
 mod buckets;
 pub mod build;
 mod chains;
+mod digests;
 mod key_codes;
 mod key_element;
 mod key_row;

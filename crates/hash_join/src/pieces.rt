@@ -3,7 +3,7 @@
 ghost use Rattle.std.specs.Prelude.{◌≡◌, ◌≤◌, ◌<◌, ◌+◌, ◌-◌, ◌++◌, ◌^◌, [], All, IfOk, OnOk, length, map, take, true};
 ghost use Rattle.std.specs.List.{filter, range_with_len};
 ghost use Rattle.hash_join.specs.Searches.{ahead_of, probe_at, start_at, first_left, AreHeads, AreStarts, IsSearch, Passes};
-ghost use Rattle.hash_join.specs.Seen.{AreSeen};
+ghost use Rattle.hash_join.specs.Seen.{AreKept};
 ghost use Rattle.hash_join.specs.Words.{set_bits};
 
 use crate::build::Probe;
@@ -88,9 +88,9 @@ fn find_heads<S: Sieve>(
 ) -> Result<(), AllocError>
     requires rows { All (λ row. row < S.count sieve.now) rows.now }
     requires passes { All (λ row. S.passes sieve.now row ≡ true) rows.now }
-    requires seen { AreSeen (S.bucket sieve.now) (S.last sieve.now) (S.count sieve.now) seen.old.rows.items }
+    requires seen { AreKept (S.bucket sieve.now) (S.last sieve.now) (S.count sieve.now) (S.digest sieve.now) seen.old }
     ensures starts { OnOk result (starts.new.items ≡ map (start_at (S.head sieve.now)) rows.now) }
-    ensures seen { AreSeen (S.bucket sieve.now) (S.last sieve.now) (S.count sieve.now) seen.new.rows.items }
+    ensures seen { AreKept (S.bucket sieve.now) (S.last sieve.now) (S.count sieve.now) (S.digest sieve.now) seen.new }
 {
     starts.clear();
     for row in rows {

@@ -2,8 +2,9 @@
 
 ghost use Rattle.std.specs.Prelude.{length};
 ghost use Rattle.hash_join.specs.Hashes.{last_of};
-ghost use Rattle.hash_join.specs.Rights.{bucket_at, AreRights};
+ghost use Rattle.hash_join.specs.Rights.{bucket_at, digest_at, AreRights};
 
+use crate::digests::{Digests, PartRows};
 use crate::rights::Rights;
 use crate::seen::BucketRows;
 
@@ -21,6 +22,8 @@ impl<'a> BucketRows for RightRows<'a> {
 
     ghost last = { λ rows. last_of rows.rights.now.buckets };
 
+    ghost digest = { λ rows number part. digest_at rows.rights.now number part };
+
     fn count(&self) -> usize {
         self.rights.places.len()
     }
@@ -33,7 +36,33 @@ impl<'a> BucketRows for RightRows<'a> {
         self.rights.have_one_code(row, other)
     }
 
-    fn bucket(&self, row: usize) -> Option<usize> {
-        self.rights.bucket(row)
+    fn bucket(&self, row: usize, digests: &mut Digests) -> Option<usize> {
+        let right = self.rights.key_row(row);
+        self.rights.buckets.bucket_by(self, row, &right, digests)
+    }
+}
+
+impl<'a> PartRows for RightRows<'a> {
+    ghost count = { λ rows. length rows.rights.now.places.items };
+
+    ghost parts = { λ rows. length rows.rights.now.key.items };
+
+    ghost digest = { λ rows number part. digest_at rows.rights.now number part };
+
+    fn row_count(&self) -> usize {
+        self.rights.places.len()
+    }
+
+    fn part_code(&self, row: usize, part: usize) -> Option<i128> {
+        self.rights.key_row(row).part_code(part)
+    }
+
+    fn have_part_code(&self, row: usize, other: usize, part: usize) -> bool {
+        self.rights.have_part_code(row, other, part)
+    }
+
+    fn digest(&self, row: usize, part: usize) -> Option<u64> {
+        let right = self.rights.key_row(row);
+        self.rights.buckets.digest(right.part(part))
     }
 }

@@ -7,16 +7,17 @@ ghost use Rattle.arrays.specs.Batch.{BatchAt};
 ghost use Rattle.hash_join.specs.Pairs.{places};
 ghost use Rattle.hash_join.specs.Hashes.{last_of};
 ghost use Rattle.hash_join.specs.KeyRows.{key_beside, key_of, IsKeyRow};
-ghost use Rattle.hash_join.specs.Rights.{key_at, key_from, bucket_at, place_at, AreRights};
-ghost use Rattle.hash_join.specs.Seen.{AreSeen};
+ghost use Rattle.scan_base.specs.declared.value.Value.TheVariants.{Null};
+ghost use Rattle.hash_join.specs.Rights.{key_at, key_from, bucket_at, digest_at, place_at, AreRights};
+ghost use Rattle.hash_join.specs.Seen.{AreKept};
 
 use crate::buckets::{Buckets, Hashing};
-use crate::key_codes::any_has_codes;
+use crate::key_codes::{any_has_codes, any_most_codes};
 use crate::key_row::KeyRow;
 use crate::numbers::are_numbers;
 use crate::product::Product;
 use crate::ranks::Ranks;
-use crate::seen::SeenRows;
+use crate::seen::{SeenRows, Wanted};
 use crate::spans::Span;
 use arrays::Batch;
 use hash_seed::HashSeed;
@@ -104,18 +105,23 @@ impl Rights {
         }
     }
 
-    // A table for the buckets of rows that are seen, without a row yet. It has places where keys are hashed, and some batch has
-    // codes.
+    // Tables for the buckets and the digests of rows that are seen, without a row yet. They have places where keys are hashed, and
+    // some batch has codes.
     pub(crate) fn seen_rows(&self, alloc: Global) -> Result<SeenRows, AllocError>
         requires { AreRights self.now }
-        ensures { IfOk result (λ seen. AreSeen (bucket_at self.now) (last_of self.now.buckets) (length self.now.places.items) seen.rows.items) }
+        ensures { IfOk result (λ seen. AreKept (bucket_at self.now) (last_of self.now.buckets) (length self.now.places.items) (digest_at self.now) seen) }
     {
-        match &self.buckets {
-            Buckets::Hashed(hashing) if any_has_codes(&self.batches, &self.key) => {
-                SeenRows::new(alloc, hashing, self.places.len())
-            }
-            _ => Ok(SeenRows::none(alloc)),
-        }
+        let Buckets::Hashed(hashing) = &self.buckets else {
+            return Ok(SeenRows::none(alloc));
+        };
+        let rows = self.places.len();
+        let coded = any_has_codes(&self.batches, &self.key);
+        let wanted = Wanted {
+            rows: if coded { rows } else { 0 },
+            parts: self.key.len(),
+            codes: any_most_codes(&self.batches, &self.key).min(rows),
+        };
+        SeenRows::new(alloc, hashing, wanted)
     }
 
     // Whether another row is there and surely has the same key: the same codes of dictionaries, which takes no look at their
@@ -143,6 +149,21 @@ impl Rights {
         }
         self.key_row(number)
             .has_code_of(self.places[other].1 as usize)
+    }
+
+    // Whether two rows of one batch have the same code or number in a part of the key.
+    pub(crate) fn have_part_code(&self, number: usize, other: usize, part: usize) -> bool
+        requires whole { AreRights self.now }
+        requires within { number < length self.now.places.items }
+        requires other { other < length self.now.places.items }
+        requires part { part < length self.now.key.items }
+        ensures { result ≡ true → get_or (key_at self.now number) part Null ≡ get_or (key_at self.now other) part Null }
+    {
+        if self.places[number].0 != self.places[other].0 {
+            return false;
+        }
+        self.key_row(number)
+            .has_part_of(part, self.places[other].1 as usize)
     }
 
     // The bucket of the row of this number; none where a part of its key is null.

@@ -1,9 +1,10 @@
 //! Buckets of rows that were seen, by the codes of their keys.
 
 ghost use Rattle.std.specs.Prelude.{◌≡◌, ◌≤◌, ◌<◌, ◌+◌, ◌^◌, [], ℕ, All, IfOk, IfSome, Option, length, true};
-ghost use Rattle.hash_join.specs.Seen.{AreSeen, IsSeen};
+ghost use Rattle.hash_join.specs.Seen.{AreDigests, AreKept, AreSeen, IsSeen};
 
 use crate::buckets::Hashing;
+use crate::digests::{Digests, SeenDigest};
 use crate::product::Product;
 use std::alloc::{AllocError, Global};
 
@@ -18,11 +19,20 @@ pub(crate) struct SeenRow {
 }
 
 // For each place the row whose code fell there last. So it forgets rows, and has no place for each value of a dictionary. Who
-// asks looks whether that row has the same code.
+// asks looks whether that row has the same code. Beside it are the digests of texts that are parts of keys.
 #[derive(Drop)]
 pub(crate) struct SeenRows {
     product: Product,
     pub(crate) rows: Vec<SeenRow>,
+    pub(crate) digests: Digests,
+}
+
+// For what tables have places: for so many rows whose keys have codes, and for so many codes in each of so many parts.
+#[derive(Clone, Copy, Drop)]
+pub(crate) struct Wanted {
+    pub(crate) rows: usize,
+    pub(crate) parts: usize,
+    pub(crate) codes: usize,
 }
 
 // Rows whose keys have buckets.
@@ -32,6 +42,8 @@ pub(crate) trait BucketRows {
     ghost bucket: { Self → ℕ → Option ℕ };
 
     ghost last: { Self → ℕ };
+
+    ghost digest: { Self → ℕ → ℕ → Option ℕ };
 
     // How many rows there are.
     fn count(&self) -> usize
@@ -47,30 +59,48 @@ pub(crate) trait BucketRows {
         requires other { other < count self.now }
         ensures { result ≡ true → bucket self.now row ≡ bucket self.now other };
 
-    // The bucket of a row's key, by its values; none where a part of it is null.
-    fn bucket(&self, row: usize) -> Option<usize>
-        requires { row < count self.now }
+    // The bucket of a row's key, by its values; none where a part of it is null. A text whose digest is known is not looked at.
+    fn bucket(&self, row: usize, digests: &mut Digests) -> Option<usize>
+        requires row { row < count self.now }
+        requires few { count self.now < 2 ^ 32 }
+        requires seen { AreDigests (digest self.now) (count self.now) digests.old.texts.items }
         ensures bucket { result ≡ bucket self.now row }
-        ensures within { IfSome result (λ found. found ≤ last self.now) };
+        ensures within { IfSome result (λ found. found ≤ last self.now) }
+        ensures seen { AreDigests (digest self.now) (count self.now) digests.new.texts.items };
 }
 
 impl SeenRows {
     // A table without a place.
     pub(crate) fn none(alloc: Global) -> SeenRows
-        ensures { result.rows.items ≡ [] }
+        ensures rows { result.rows.items ≡ [] }
+        ensures texts { result.digests.texts.items ≡ [] }
     {
         SeenRows {
             product: Product::one(),
             rows: Vec::new(alloc),
+            digests: Digests::none(alloc),
         }
     }
 
-    // A table for so many rows, none of which was seen. It takes four bytes for each row, or less, and eight at least.
-    pub(crate) fn new(alloc: Global, hashing: &Hashing, rows: usize) -> Result<SeenRows, AllocError>
-        requires { rows < 2 ^ 32 }
-        ensures { IfOk result (λ seen. All (λ (at : SeenRow). 2 ^ 32 ≤ at.row + 1) seen.rows.items) }
+    // Tables that have seen no row. That of keys takes four bytes for each row, or less, and eight at least.
+    pub(crate) fn new(
+        alloc: Global,
+        hashing: &Hashing,
+        wanted: Wanted,
+    ) -> Result<SeenRows, AllocError>
+        requires { wanted.rows < 2 ^ 32 }
+        ensures rows { IfOk result (λ seen. All (λ (at : SeenRow). 2 ^ 32 ≤ at.row + 1) seen.rows.items) }
+        ensures texts { IfOk result (λ seen. All (λ (at : SeenDigest). 2 ^ 32 ≤ at.row + 1) seen.digests.texts.items) }
     {
-        let places = (rows / 4 + 1).next_power_of_two().min(MOST_PLACES);
+        let digests = Digests::new(alloc, hashing, wanted.parts, wanted.codes)?;
+        if wanted.rows == 0 {
+            return Ok(SeenRows {
+                product: Product::one(),
+                rows: Vec::new(alloc),
+                digests,
+            });
+        }
+        let places = (wanted.rows / 4 + 1).next_power_of_two().min(MOST_PLACES);
         let none = SeenRow {
             row: u32::MAX,
             bucket: 0,
@@ -79,6 +109,7 @@ impl SeenRows {
         Ok(SeenRows {
             product: Product::of_hasher(hashing.begun, places - 1),
             rows,
+            digests,
         })
     }
 
@@ -87,22 +118,22 @@ impl SeenRows {
         requires row { row < R.count rows.now }
         requires few { R.count rows.now < 2 ^ 32 }
         requires last { R.last rows.now < 2 ^ 32 }
-        requires seen { AreSeen (R.bucket rows.now) (R.last rows.now) (R.count rows.now) self.old.rows.items }
+        requires seen { AreKept (R.bucket rows.now) (R.last rows.now) (R.count rows.now) (R.digest rows.now) self.old }
         ensures bucket { result ≡ R.bucket rows.now row }
         ensures within { IfSome result (λ bucket. bucket ≤ R.last rows.now) }
-        ensures seen { AreSeen (R.bucket rows.now) (R.last rows.now) (R.count rows.now) self.new.rows.items }
+        ensures seen { AreKept (R.bucket rows.now) (R.last rows.now) (R.count rows.now) (R.digest rows.now) self.new }
     {
         if self.rows.is_empty() {
-            return rows.bucket(row);
+            return rows.bucket(row, &mut self.digests);
         }
         let Some(code) = rows.code(row) else {
-            return rows.bucket(row);
+            return rows.bucket(row, &mut self.digests);
         };
         let place = self.product.at(code);
         if let Some(bucket) = self.bucket_at(rows, place, row) {
             return Some(bucket);
         }
-        let found = rows.bucket(row);
+        let found = rows.bucket(row, &mut self.digests);
         if let Some(bucket) = found {
             self.keep(place, row, bucket);
         }
@@ -131,8 +162,9 @@ impl SeenRows {
     fn keep(&mut self, place: usize, row: usize, bucket: usize)
         requires row { row < 2 ^ 32 }
         requires bucket { bucket < 2 ^ 32 }
-        ensures { (buckets : ℕ → Option ℕ) (last count : ℕ) → IsSeen buckets last row bucket → AreSeen buckets last count self.old.rows.items →
+        ensures rows { (buckets : ℕ → Option ℕ) (last count : ℕ) → IsSeen buckets last row bucket → AreSeen buckets last count self.old.rows.items →
             AreSeen buckets last count self.new.rows.items }
+        ensures texts { self.new.digests.texts.items ≡ self.old.digests.texts.items }
     {
         if place < self.rows.len() {
             self.rows[place] = SeenRow {

@@ -6,7 +6,7 @@ ghost use Rattle.arrays.specs.Number.{integer_at};
 ghost use Rattle.arrays.specs.Validity.{is_valid};
 ghost use Rattle.hash_join.specs.declared.look.Told.{Told as ToldOf};
 ghost use Rattle.hash_join.specs.declared.look.Told.TheVariants as known;
-ghost use Rattle.hash_join.specs.Seen.{AreSeen};
+ghost use Rattle.hash_join.specs.Seen.{AreKept};
 ghost use Rattle.hash_join.specs.Words.{passing_word};
 
 use crate::key_element::{KeyElement, is_known, known_word, number_word};
@@ -32,6 +32,8 @@ pub(crate) trait Sieve {
 
     ghost last: { Self → ℕ };
 
+    ghost digest: { Self → ℕ → ℕ → Option ℕ };
+
     // Whether a row may join a right row.
     fn passes(&self, row: usize) -> bool
         requires { row < count self.now }
@@ -48,17 +50,17 @@ pub(crate) trait Sieve {
         requires { row < count self.now }
         ensures { result ≡ told self.now row };
 
-    // A table for the buckets of rows that are seen, without a row yet.
+    // Tables for the buckets and the digests of rows that are seen, without a row yet.
     fn seen_rows(&self, alloc: Global) -> Result<SeenRows, AllocError>
-        ensures { IfOk result (λ seen. AreSeen (bucket self.now) (last self.now) (count self.now) seen.rows.items) };
+        ensures { IfOk result (λ seen. AreKept (bucket self.now) (last self.now) (count self.now) (digest self.now) seen) };
 
     // The first right row of the chain of a row that passes; the number of right rows where it has none.
     fn head(&self, row: usize, seen: &mut SeenRows) -> u32
         requires row { row < count self.now }
         requires passes { passes self.now row ≡ true }
-        requires seen { AreSeen (bucket self.now) (last self.now) (count self.now) seen.old.rows.items }
+        requires seen { AreKept (bucket self.now) (last self.now) (count self.now) (digest self.now) seen.old }
         ensures head { result ≡ head self.now row }
-        ensures seen { AreSeen (bucket self.now) (last self.now) (count self.now) seen.new.rows.items };
+        ensures seen { AreKept (bucket self.now) (last self.now) (count self.now) (digest self.now) seen.new };
 
     // Whether a row that passes joins each right row of its chain.
     fn is_own(&self) -> bool
@@ -93,6 +95,8 @@ impl<'a, E: KeyElement, L: Look> Sieve for NumberRows<'a, E, L> {
     ghost bucket = { λ _ _. None };
 
     ghost last = { λ _. 0 };
+
+    ghost digest = { λ _ _ _. None };
 
     fn passes(&self, row: usize) -> bool {
         let _count = self.cells.len();

@@ -1,6 +1,6 @@
 use Rattle.std.proofs.Common.{◌≡◌, ◌≤◌, ◌<◌, ◌-◌, ◌++◌, length}
 use Rattle.hash_join.specs.Searches.{ahead_of, probe_at}
-use Rattle.hash_join.specs.Seen.{AreSeen}
+use Rattle.hash_join.specs.Seen.{AreKept}
 use Rattle.hash_join.proofs.search.Search.push_rows.Given as goal
 
 abbrev pub invariant-pieces : goal.invariant-pieces
@@ -13,7 +13,7 @@ invariant-pieces g l = record {
   few : length l.pairs.items ≤ l.most;
   some : 0 < l.next;
   room : l.next ≤ 4096;
-  seen : AreSeen (g.S.Sieve.bucket l.sieve) (g.S.Sieve.last l.sieve) (g.S.Sieve.count l.sieve) l.seen.rows.items;
+  seen : AreKept (g.S.Sieve.bucket l.sieve) (g.S.Sieve.last l.sieve) (g.S.Sieve.count l.sieve) (g.S.Sieve.digest l.sieve) l.seen;
 }
 
 abbrev pub decreases-pieces : goal.decreases-pieces

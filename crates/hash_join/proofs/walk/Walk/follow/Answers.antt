@@ -1,7 +1,7 @@
 use Rattle.std.proofs.Common.{◌<◌, ◌++◌, length, arith}
 use Rattle.std.proofs.lemmas.List.{get_or_read}
 use Rattle.hash_join.specs.Walks.{pairs_past}
-use Rattle.hash_join.proofs.Walking.{next_follows}
+use Rattle.hash_join.proofs.Walking.{next_leads, next_follows}
 use Rattle.hash_join.proofs.walk.Walk.follow.Goals as goal
 
 pub chain-preserved : goal.chain-preserved
@@ -19,3 +19,14 @@ chain-preserved c =
           within few c.chain.invariant.follows);
       told = c.joins_next-joins.ensures;
     }
+
+pub chain-smaller : goal.chain-smaller
+chain-smaller c =
+    let walk = c.args.self.now in
+    let links = walk.chains.now.links.items in
+    let at = c.chain.at in
+    let within : at < length walk.rights.now.places.items = omega (arith, c.chain-test.true, c.len.ensures, walk.rights.now.places.ok) in
+    let linked : at < length links = omega (arith, within, c.requires.whole.linked.links_count) in
+    let next = get_or_read links at c.index.result.now linked c.index.ensures 0 in
+    let lead = next_leads walk c.requires.whole at within (c.chain.invariant.follows.there within) in
+    omega (arith, next, lead.after, within)

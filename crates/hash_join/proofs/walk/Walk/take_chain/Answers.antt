@@ -1,7 +1,7 @@
 use Rattle.std.proofs.Common.{◌<◌, ◌++◌, length, arith}
 use Rattle.std.proofs.lemmas.List.{get_or_read}
 use Rattle.hash_join.specs.Walks.{pairs_past}
-use Rattle.hash_join.proofs.Walking.{next_taken}
+use Rattle.hash_join.proofs.Walking.{next_leads, next_taken}
 use Rattle.hash_join.proofs.walk.Walk.take_chain.Goals as goal
 
 pub chain-preserved : goal.chain-preserved
@@ -16,3 +16,14 @@ chain-preserved c =
     rw next
     (next_taken walk c.requires.whole at c.args.most c.chain.pairs.items c.push.new.self.items (c.args.pairs.now.items ++ pairs_past walk c.args.first) c.pair.result
     c.requires.all within few c.in_ok-push.ensures.items c.pair.ensures c.chain.invariant)
+
+pub chain-smaller : goal.chain-smaller
+chain-smaller c =
+    let walk = c.args.self.now in
+    let links = walk.chains.now.links.items in
+    let at = c.chain.at in
+    let within : at < length walk.rights.now.places.items = omega (arith, c.chain-test.true, c.len.ensures, walk.rights.now.places.ok) in
+    let linked : at < length links = omega (arith, within, c.requires.whole.linked.links_count) in
+    let next = get_or_read links at c.index.result.now linked c.index.ensures 0 in
+    let lead = next_leads walk c.requires.whole at within (c.chain.invariant.there within) in
+    omega (arith, next, lead.after, within)

@@ -1,0 +1,11 @@
+use Rattle.std.proofs.Common.{◌≡◌, drop}
+use Rattle.hash_join.specs.Hashes.{parts_hash}
+use Rattle.hash_join.specs.KeyRows.{key_of}
+use Rattle.hash_join.specs.Seen.{AreDigests}
+use Rattle.hash_join.proofs.digests.Digests.hash.Given as goal
+
+abbrev pub invariant-loop-part : goal.invariant-loop-part
+invariant-loop-part g l = record {
+  hash : parts_hash l.hashing.begun l.hasher (drop l.part (key_of l.at)) ≡ parts_hash l.hashing.begun l.hashing.begun (key_of l.at);
+  seen : AreDigests (g.R.PartRows.digest l.rows) (g.R.PartRows.count l.rows) l.self.texts.items;
+}

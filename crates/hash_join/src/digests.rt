@@ -1,0 +1,217 @@
+//! Digests of texts that are parts of keys, by the codes of the texts.
+
+ghost use Rattle.std.specs.Prelude.{◌≡◌, ◌≤◌, ◌<◌, ◌+◌, ◌^◌, ℕ, [], All, IfOk, IfSome, Option, Some, get_or, length, true};
+ghost use Rattle.scan_base.specs.declared.value.Value.TheVariants.{Null};
+ghost use Rattle.hash_join.specs.declared.buckets.Buckets.TheVariants as parted;
+ghost use Rattle.hash_join.specs.Hashes.{digest_of, hash_of};
+ghost use Rattle.hash_join.specs.KeyRows.{key_of, IsKeyRow};
+ghost use Rattle.hash_join.specs.Seen.{AreDigests};
+
+use crate::buckets::Hashing;
+use crate::key_row::{KeyRow, feed_part};
+use crate::product::Product;
+use std::alloc::{AllocError, Global};
+use std::hash::{Hash, Hasher};
+
+// No table has more places: 16 MB.
+const MOST_DIGESTS: usize = 1_048_576;
+
+// Rows whose keys have parts, some of which are texts.
+pub(crate) trait PartRows {
+    ghost count: { Self → ℕ };
+
+    ghost parts: { Self → ℕ };
+
+    ghost digest: { Self → ℕ → ℕ → Option ℕ };
+
+    // How many rows there are.
+    fn row_count(&self) -> usize
+        ensures { result ≡ count self.now };
+
+    // The code of a part of a row's key.
+    fn part_code(&self, row: usize, part: usize) -> Option<i128>
+        requires row { row < count self.now }
+        requires part { part < parts self.now };
+
+    // Whether the keys of two rows are the same in a part by its codes alone.
+    fn have_part_code(&self, row: usize, other: usize, part: usize) -> bool
+        requires row { row < count self.now }
+        requires other { other < count self.now }
+        requires part { part < parts self.now }
+        ensures { result ≡ true → digest self.now row part ≡ digest self.now other part };
+
+    // The digest of a part of a row's key; none where it is no text.
+    fn digest(&self, row: usize, part: usize) -> Option<u64>
+        requires row { row < count self.now }
+        requires part { part < parts self.now }
+        ensures { result ≡ digest self.now row part };
+}
+
+// A row that was seen, a part of its key that is a text, and the digest of the text.
+#[derive(Clone, Copy, Drop)]
+pub(crate) struct SeenDigest {
+    pub(crate) row: u32,
+    pub(crate) part: u32,
+    pub(crate) digest: u64,
+}
+
+// For each place the row whose part, of a code of a dictionary, fell there last. A code has a place of its own where there are
+// places for all. Else a product tells its place, and the table may forget a row. Who asks looks whether that row has the same
+// code.
+#[derive(Drop)]
+pub(crate) struct Digests {
+    product: Product,
+    parts: usize,
+    pub(crate) texts: Vec<SeenDigest>,
+}
+
+impl Digests {
+    // A table without a place.
+    pub(crate) fn none(alloc: Global) -> Digests
+        ensures { result.texts.items ≡ [] }
+    {
+        Digests {
+            product: Product::one(),
+            parts: 1,
+            texts: Vec::new(alloc),
+        }
+    }
+
+    // A table with a place of 16 bytes for each of so many codes in each of so many parts, or as many places as a table has at
+    // most.
+    pub(crate) fn new(
+        alloc: Global,
+        hashing: &Hashing,
+        parts: usize,
+        codes: usize,
+    ) -> Result<Digests, AllocError>
+        ensures { IfOk result (λ digests. All (λ (at : SeenDigest). 2 ^ 32 ≤ at.row + 1) digests.texts.items) }
+    {
+        if codes == 0 {
+            return Ok(Digests::none(alloc));
+        }
+        let wanted = parts.min(MOST_DIGESTS) * codes.min(MOST_DIGESTS);
+        let places = wanted.min(MOST_DIGESTS).next_power_of_two();
+        let none = SeenDigest {
+            row: u32::MAX,
+            part: 0,
+            digest: 0,
+        };
+        let texts = vec![in alloc; none; places]?;
+        Ok(Digests {
+            product: Product::of_hasher(hashing.begun, places - 1),
+            parts,
+            texts,
+        })
+    }
+
+    // The hash of a row's key; none where a part of it is null. The text of a code that was seen is not looked at.
+    pub(crate) fn hash<R: PartRows>(
+        &mut self,
+        hashing: &Hashing,
+        rows: &R,
+        row: usize,
+        at: &KeyRow<'_>,
+    ) -> Option<u64>
+        requires row { row < R.count rows.now }
+        requires few { R.count rows.now < 2 ^ 32 }
+        requires at { IsKeyRow at.now }
+        requires parts { length at.now.key.now ≡ R.parts rows.now }
+        requires same { (part : ℕ) → R.digest rows.now row part ≡ digest_of (parted.Hashed hashing.now) (get_or (key_of at.now) part Null) }
+        requires seen { AreDigests (R.digest rows.now) (R.count rows.now) self.old.texts.items }
+        ensures hash { result ≡ hash_of hashing.now.begun (key_of at.now) }
+        ensures seen { AreDigests (R.digest rows.now) (R.count rows.now) self.new.texts.items }
+    {
+        if self.texts.is_empty() || at.key.len() == 1 {
+            return at.hash_from(hashing.begun);
+        }
+        let mut hasher = hashing.begun;
+        for part in 0..at.key.len() {
+            let fed = match self.digest(rows, row, part) {
+                Some(digest) => {
+                    digest.hash(&mut hasher);
+                    true
+                }
+                None => feed_part(hashing.begun, &mut hasher, at.part(part)),
+            };
+            if !fed {
+                return None;
+            }
+        }
+        Some(hasher.finish())
+    }
+
+    // The digest of a part of a row's key, where it has a code.
+    fn digest<R: PartRows>(&mut self, rows: &R, row: usize, part: usize) -> Option<u64>
+        requires row { row < R.count rows.now }
+        requires few { R.count rows.now < 2 ^ 32 }
+        requires part { part < R.parts rows.now }
+        requires seen { AreDigests (R.digest rows.now) (R.count rows.now) self.old.texts.items }
+        ensures digest { IfSome result (λ digest. R.digest rows.now row part ≡ Some digest) }
+        ensures seen { AreDigests (R.digest rows.now) (R.count rows.now) self.new.texts.items }
+    {
+        let Some(code) = rows.part_code(row, part) else {
+            return None;
+        };
+        let place = self.place(code, part);
+        if let Some(digest) = self.digest_at(rows, place, row, part) {
+            return Some(digest);
+        }
+        let found = rows.digest(row, part);
+        if let Some(digest) = found {
+            self.keep(place, row, part, digest);
+        }
+        found
+    }
+
+    // The place of a part's code: one of its own where there are enough. No contract rests on it.
+    fn place(&self, code: i128, part: usize) -> usize {
+        let number = code
+            .wrapping_mul(self.parts as i128)
+            .wrapping_add(part as i128);
+        match usize::try_from(number) {
+            Ok(place) if place < self.texts.len() => place,
+            _ => self.product.at(number),
+        }
+    }
+
+    // The digest of a part of a row's key, where the row at a place has the same code in that part.
+    fn digest_at<R: PartRows>(&self, rows: &R, place: usize, row: usize, part: usize) -> Option<u64>
+        requires row { row < R.count rows.now }
+        requires part { part < R.parts rows.now }
+        requires seen { AreDigests (R.digest rows.now) (R.count rows.now) self.now.texts.items }
+        ensures { IfSome result (λ digest. R.digest rows.now row part ≡ Some digest) }
+    {
+        if place >= self.texts.len() {
+            return None;
+        }
+        let seen = self.texts[place];
+        let other = seen.row as usize;
+        if seen.part as usize == part
+            && other < rows.row_count()
+            && rows.have_part_code(other, row, part)
+        {
+            Some(seen.digest)
+        } else {
+            None
+        }
+    }
+
+    // Keeps the digest of a part of a row's key at a place, in the stead of what was there.
+    fn keep(&mut self, place: usize, row: usize, part: usize, digest: u64)
+        requires row { row < 2 ^ 32 }
+        ensures { (digests : ℕ → ℕ → Option ℕ) (count : ℕ) → digests row part ≡ Some digest → AreDigests digests count self.old.texts.items →
+            AreDigests digests count self.new.texts.items }
+    {
+        let Ok(number) = u32::try_from(part) else {
+            return;
+        };
+        if place < self.texts.len() {
+            self.texts[place] = SeenDigest {
+                row: row as u32,
+                part: number,
+                digest,
+            };
+        }
+    }
+}
