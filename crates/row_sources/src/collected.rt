@@ -46,12 +46,28 @@ pub fn collect_watched<W: Watches>(
         let patience = patience_of(turns);
         let mut looking = Looking { alloc, patience };
         match rows.turn(&mut looking)? {
-            Turn::Given(piece) => batches.push(piece.batch)?,
-            Turn::Working => turns -= 1,
+            Turn::Given(piece) => {
+                batches.push(piece.batch)?;
+                tell(&looking, watch)?;
+            }
+            Turn::Working => {
+                turns -= 1;
+                tell(&looking, watch)?;
+            }
             Turn::End => return Ok(batches),
         }
-        if !watch.goes_on(looking.looked()) {
-            return Err(AllocError);
-        }
+    }
+}
+
+// Tells who watches of a turn. It is an error where that ends the work.
+fn tell<W: Watches>(looking: &Looking, watch: &mut W) -> Result<(), AllocError>
+    requires ready { W.ready watch.old }
+    ensures ready { W.ready watch.new }
+    ensures watched { W.watched watch.old watch.new }
+{
+    if watch.goes_on(looking.looked()) {
+        Ok(())
+    } else {
+        Err(AllocError)
     }
 }
