@@ -55,3 +55,9 @@ goes_on (Err fault) log put next answered = ([], answered.0 ∙ sym (append-nil 
 pub goes_on_so : (result : Result ℕ Fault) (log : Log) (version : ℕ) (next : Log) → IsExpired result log version next → Begins log next
 goes_on_so (Ok floor) log version next answered = (expired version ∷ [], answered.1)
 goes_on_so (Err fault) log version next answered = ([], answered.0 ∙ sym (append-nil log))
+
+-- so it goes on from all that was seen before
+pub begun_behind : {X : Type 0} (result : Result X Fault) (seen log : Log) (put : Put) (next new : Log) → Begins seen log → IsAnswered result log put next → new ≡ next → Begins seen new
+begun_behind result seen log put next new met answered same =
+    let on = goes_on result log put next answered in
+    (met.0 ++ on.0, same ∙ (on.1 ∙ (ap (λ l. l ++ on.0) met.1 ∙ append_assoc seen met.0 on.0)))

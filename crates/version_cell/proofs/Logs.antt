@@ -1,5 +1,6 @@
 -- A log, and the same with the seat of each entry.
-use Rattle.std.proofs.Common.{◌≡◌, ◌⊎◌, inl, inr, ◌≤◌, ◌+◌, List, [], ◌∷◌, ◌++◌, length, map, refl, ap, sym, ◌∙◌, arith, append-nil, length-append}
+use Rattle.std.proofs.Common.{Bool, true, false, ◌≡◌, ◌⊎◌, inl, inr, ℕ, ◌≤◌, ◌+◌, List, [], ◌∷◌, ◌++◌, length, map, refl, ap, sym, ◌∙◌, arith, append-nil, length-append}
+use Rattle.std.specs.Prelude.{MatchBool}
 use Rattle.std.proofs.lemmas.List.{length-map, map-append}
 use Rattle.version_log.specs.Log.{Log, Begins}
 use Rattle.version_cell.specs.Signed.{Signed, MakerAt, log_of, maker_at, GoesOn, Learns}
@@ -21,6 +22,11 @@ no_rest : (log rest new : List Signed) → new ≡ log ++ rest → length rest �
 no_rest log [] new is few = is ∙ append-nil log
 no_rest log (s ∷ rest) new is few = absurd (omega (arith, few))
 
+pub either_begins_of : (b : Bool) (entries more : List Signed) → MatchBool b (GoesOn entries more) (GoesOn more entries)
+    → MatchBool b (Begins (log_of entries) (log_of more)) (Begins (log_of more) (log_of entries))
+either_begins_of true entries more on = begins_of entries more on
+either_begins_of false entries more on = begins_of more entries on
+
 -- who had seen no more than a log, and learns it, has seen that log
 pub learns_all : (old log new : List Signed) → Begins (log_of old) (log_of log) → GoesOn log new → (new ≡ old) ⊎ (new ≡ log) → new ≡ log
 learns_all old log new within (rest, is) (inr same) = same
@@ -40,3 +46,7 @@ pub caught_up : (old new : MakerAt) (log : List Signed) → Begins (log_of old.s
     → new ≡ maker_at old.seat log old.made (old.asks + 1)
 caught_up old new log within learns =
     learns.same ∙ ap (λ seen. maker_at old.seat seen old.made (old.asks + 1)) (learns_all old.seen log new.seen within learns.told learns.longer)
+
+-- a count that goes on with a log
+pub longer_by_one : (log more : List Signed) (s : Signed) (old new : ℕ) → more ≡ log ++ s ∷ [] → length log ≡ old → new ≡ old + 1 → length more ≡ new
+longer_by_one log more s old new is was next = omega (arith, ap length is, length-append log (s ∷ []), was, next)

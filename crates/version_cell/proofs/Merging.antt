@@ -34,18 +34,18 @@ merges_whole one other (entry ∷ log) (inr (rest, is, behind)) few = absurd (om
 
 -- ---- entries among others
 
-pub none_among : (log : Log) → IsAmong [] log
-none_among log = (log, merges_none log)
+pub none_among : (some all : Log) → some ≡ [] → IsAmong some all
+none_among some all none = (all, rw none (merges_none all))
 
-pub among_more : (some log more : Log) → IsAmong some log → IsAmong some (log ++ more)
-among_more some log more (rest, is) = (rest ++ more, merges_more some rest log more is)
+pub among_more : (some all more : Log) → IsAmong some all → IsAmong some (all ++ more)
+among_more some all more (rest, is) = (rest ++ more, merges_more some rest all more is)
 
-pub among_last : (some log : Log) (entry : Entry) → IsAmong some log → IsAmong (some ++ entry ∷ []) (log ++ entry ∷ [])
-among_last some log entry (rest, is) = (rest, merges_last some rest log entry is)
+pub among_last : (some all : Log) (entry : Entry) → IsAmong some all → IsAmong (some ++ entry ∷ []) (all ++ entry ∷ [])
+among_last some all entry (rest, is) = (rest, merges_last some rest all entry is)
 
-pub among_length : (some log : Log) → IsAmong some log → length some ≤ length log
-among_length some log (rest, is) = omega (arith, merges_length some rest log is)
+pub among_length : (some all : Log) → IsAmong some all → length some ≤ length all
+among_length some all (rest, is) = omega (arith, merges_length some rest all is)
 
 -- as many as there are
-pub among_whole : (some log : Log) → IsAmong some log → length some ≡ length log → some ≡ log
-among_whole some log (rest, is) same = merges_whole some rest log is (omega (arith, same, merges_length some rest log is))
+pub among_whole : (some all : Log) → IsAmong some all → length some ≡ length all → some ≡ all
+among_whole some all (rest, is) same = merges_whole some rest all is (omega (arith, same, merges_length some rest all is))

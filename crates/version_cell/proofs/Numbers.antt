@@ -68,3 +68,9 @@ are_apart (suc n) numbers sum few =
     let one : left ≡ 0 = omega (arith, sum, few, some, enough, powers_lowered numbers, length_lowered numbers, pow-suc 2 n) in
     apart_raised numbers (omega (arith, sum, some, one, powers_lowered numbers, pow-suc 2 n))
     (are_apart n low (omega (arith, some, one)) (omega (arith, few, sum, some, one, powers_lowered numbers, length_lowered numbers, pow-suc 2 n)))
+
+-- the sum of the first powers
+pub doubled : (n sum : ℕ) → sum + 1 ≡ 2 ^ n → sum + 2 ^ n + 1 ≡ 2 ^ (n + 1)
+doubled n sum is =
+    let next : n + 1 ≡ suc n = omega arith in
+    rw next (omega (arith, is, pow-suc 2 n))

@@ -1,10 +1,11 @@
 -- The entries of each seat are those that it made.
 use Rattle.std.proofs.Common.{Bool, true, false, ◌≡◌, ◌≢◌, ◌==◌, ◌⊎◌, inl, inr, ℕ, ◌+◌, ◌^◌, ◌≤◌, List, [], ◌∷◌, ◌++◌, length, map, refl, ap, sym, subst, ◌∙◌, arith, if◌then◌else◌}
-use Rattle.std.proofs.lemmas.List.{length-map}
+use Rattle.std.proofs.lemmas.List.{length-append, length-map}
 use Rattle.std.proofs.lemmas.Bool.Decides.{nat_tests}
 use Rattle.version_log.specs.Log.{Entry, Log}
 use Rattle.version_cell.specs.Merges.{Merges, MergesAll}
-use Rattle.version_cell.specs.Signed.{Signed, signed, log_of, own, GoesOn, IsAmong, Part, AreAmong, seats_of, powers, made_by_each, made_by_all}
+use Rattle.version_cell.specs.Shares.{SharesAt, shares_at}
+use Rattle.version_cell.specs.Signed.{Signed, signed, log_of, own, GoesOn, IsAmong, Part, part_at, AreAmong, seats_of, powers, made_by_each, made_by_all}
 use Rattle.version_cell.proofs.Merging.{among_length, among_more, among_last, among_whole, merges_length}
 use Rattle.version_cell.proofs.Numbers.{IsNone, AreApart, are_apart}
 
@@ -34,13 +35,13 @@ among_on seat made entries more (rest, is) among =
     let same : own seat more ≡ own seat entries ++ own seat rest = ap (own seat) is ∙ own-append seat entries rest in
     subst (λ all. IsAmong made all) (sym same) (among_more made (own seat entries) (own seat rest) among)
 
--- of a log with one entry more of this seat
-pub among_with : (seat : ℕ) (made : Log) (entries : List Signed) (entry : Entry) → IsAmong made (own seat entries)
-    → IsAmong (made ++ entry ∷ []) (own seat (entries ++ signed seat entry ∷ []))
-among_with seat made entries entry among =
-    let same : own seat (entries ++ signed seat entry ∷ []) ≡ own seat entries ++ entry ∷ [] =
-    own-append seat entries (signed seat entry ∷ []) ∙ ap (λ last. own seat entries ++ last) (own_last seat entry) in
-    subst (λ all. IsAmong (made ++ entry ∷ []) all) (sym same) (among_last made (own seat entries) entry among)
+-- of a log with one entry more, of this seat
+pub among_made : (seat : ℕ) (before made : Log) (entries more : List Signed) (entry : Entry) → IsAmong before (own seat entries) → more ≡ entries ++ signed seat entry ∷ []
+    → made ≡ before ++ entry ∷ [] → IsAmong made (own seat more)
+among_made seat before made entries more entry among is last =
+    let same : own seat more ≡ own seat entries ++ entry ∷ [] =
+    ap (own seat) is ∙ own-append seat entries (signed seat entry ∷ []) ∙ ap (λ end. own seat entries ++ end) (own_last seat entry) in
+    rw (same, last) (among_last before (own seat entries) entry among)
 
 pub are_among_on : (parts : List Part) (entries more : List Signed) → GoesOn entries more → AreAmong parts entries → AreAmong parts more
 are_among_on [] entries more on among = tt
@@ -121,3 +122,37 @@ pub all_merge : (parts : List Part) (entries log : List Signed) (n : ℕ) → Go
 all_merge parts entries log n on among many sum counted =
     let few : length (seats_of parts) ≤ n = omega (arith, many, length-map parts (λ (part : Part). part.seat)) in
     merges_all parts log (are_apart n (seats_of parts) sum few) (are_among_on parts entries log on among) counted
+
+-- one seat more, whose entries are among those that the seats have then seen
+pub one_taken : (seat : ℕ) (made : Log) (before parts : List Part) (mine seen log : List Signed) (shares other after : SharesAt)
+    → shares.seats ≡ length before → shares.entries ≡ made_by_all before → shares.numbers ≡ powers (seats_of before) → AreAmong before seen
+    → other ≡ shares_at 1 (length made) other.asks (2 ^ seat) → IsAmong made (own seat mine)
+    → GoesOn seen log → GoesOn mine log → parts ≡ part_at seat made ∷ before
+    → after ≡ shares_at (shares.seats + other.seats) (shares.entries + other.entries) (shares.asks + other.asks) (shares.numbers + other.numbers)
+    → (after.seats ≡ length parts) × (after.entries ≡ made_by_all parts) × (after.numbers ≡ powers (seats_of parts)) × AreAmong parts log
+one_taken seat made before parts mine seen log shares other after many counted numbers among share mine_among on mine_on is sum =
+    let one : other.seats ≡ 1 = ap (λ (s : SharesAt). s.seats) share in
+    let entries : other.entries ≡ length made = ap (λ (s : SharesAt). s.entries) share in
+    let number : other.numbers ≡ 2 ^ seat = ap (λ (s : SharesAt). s.numbers) share in
+    let now : after.seats ≡ shares.seats + other.seats = ap (λ (s : SharesAt). s.seats) sum in
+    let now_entries : after.entries ≡ shares.entries + other.entries = ap (λ (s : SharesAt). s.entries) sum in
+    let now_numbers : after.numbers ≡ shares.numbers + other.numbers = ap (λ (s : SharesAt). s.numbers) sum in
+    rw is (
+      omega (arith, many, one, now),
+      omega (arith, counted, entries, now_entries),
+      omega (arith, numbers, number, now_numbers),
+      (among_on seat made mine log mine_on mine_among, are_among_on before seen log on among),
+    )
+
+-- one entry more is counted
+pub one_counted : (before after : SharesAt) (made more : Log) (entry : Entry) (number : ℕ) → before ≡ shares_at 1 (length made) before.asks number
+    → after ≡ shares_at before.seats (before.entries + 1) before.asks before.numbers → more ≡ made ++ entry ∷ [] → after ≡ shares_at 1 (length more) after.asks number
+one_counted before after made more entry number is next last =
+    let seats : before.seats ≡ 1 = ap (λ (s : SharesAt). s.seats) is in
+    let numbers : before.numbers ≡ number = ap (λ (s : SharesAt). s.numbers) is in
+    let entries : before.entries + 1 ≡ length more = omega (arith, ap (λ (s : SharesAt). s.entries) is, ap length last, length-append made (entry ∷ [])) in
+    let asks : after.asks ≡ before.asks = ap (λ (s : SharesAt). s.asks) next in
+    next ∙ (ap (λ (n : ℕ). shares_at n (before.entries + 1) before.asks before.numbers) seats
+    ∙ (ap (λ (n : ℕ). shares_at 1 n before.asks before.numbers) entries
+    ∙ (ap (λ (n : ℕ). shares_at 1 (length more) n before.numbers) (sym asks)
+    ∙ ap (λ (n : ℕ). shares_at 1 (length more) after.asks n) numbers)))

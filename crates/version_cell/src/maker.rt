@@ -95,7 +95,7 @@ impl<C: CellName> Maker<C> {
     }
 
     // It made the entry that stands behind what it had seen, and that is counted.
-    #[tactic(auto, using(crate::proofs::Parts::among_with))]
+    #[tactic(auto, using(crate::proofs::Parts::among_made))]
     pub(crate) fn make(&mut self, tally: &mut Tally<C>, told: &History, entry: &Entry)
         requires book { told.now.seen.book ≡ C.book }
         requires behind { told.now.seen.log ≡ self.old.seen ++ signed self.old.seat entry.now ∷ [] }

@@ -1,6 +1,6 @@
 //! A putter that threads share under one lock.
 
-ghost use Rattle.std.specs.Prelude.{◌≡◌, ◌+◌, ◌⊎◌, [], true, length, IfOk};
+ghost use Rattle.std.specs.Prelude.{◌≡◌, ◌+◌, ◌⊎◌, [], true, length, IfOk, IfSome};
 ghost use Rattle.version_log.specs.Expiry.{IsExpired};
 ghost use Rattle.version_log.specs.Log.{puts_in, Begins, IsLog};
 ghost use Rattle.table_versions.specs.Stored.{put_of};
@@ -94,6 +94,32 @@ impl<C: CellName, R: Wait + Drop> Counting<C, R> {
         let floor = publisher.expire(alloc, maker.seat(), version)?;
         maker.make(tally, publisher.history(), &Entry::mark(version));
         Ok(floor)
+    }
+
+    // No seat yet, with the log so far.
+    fn gather(&mut self) -> Gathered<C>
+        ensures none { (result.seats ≡ 0) × (result.made ≡ 0) }
+        ensures each { result.each ≡ [] }
+    {
+        let Counting { publisher, tally } = self;
+        Gathered::new(publisher.history().again(), tally.none())
+    }
+
+    // The log, where it goes on from all that the seats of the cell had seen, which are done with.
+    fn whole(&mut self, all: &mut Gathered<C>) -> Option<Told<C>>
+        requires { all.old.seats ≡ C.parts }
+        ensures same { all.new ≡ all.old }
+        ensures begins { IfSome result (λ told. Begins all.old.log told) }
+        ensures counted { IfSome result (λ told. length told ≡ all.old.made) }
+        ensures each { IfSome result (λ told. MergesAll all.old.each told) }
+        ensures is_log { IfSome result (λ told. IsLog told) }
+    {
+        let Counting { publisher, tally } = self;
+        tally.audit(&mut all.shares);
+        if all.history.begins(publisher.history()) {
+            return Some(publisher.tell());
+        }
+        None
     }
 }
 
@@ -209,9 +235,7 @@ impl<C: CellName, R: Wait + Drop> SharedPutter<C, R> {
         ensures none { (result.seats ≡ 0) × (result.made ≡ 0) }
         ensures each { result.each ≡ [] }
     {
-        let mut counting = self.counting.lock(rt);
-        let Counting { publisher, tally } = &mut *counting;
-        Gathered::new(publisher.history().again(), tally.none())
+        self.counting.lock(rt).gather()
     }
 
     /// The whole log, where all seats of the cell are done with: it goes on from all that they had seen, and is made up of the
@@ -225,19 +249,11 @@ impl<C: CellName, R: Wait + Drop> SharedPutter<C, R> {
         ensures each { MergesAll all.each result }
         ensures is_log { IsLog result }
     {
-        let Gathered {
-            history,
-            mut shares,
-            parts: _,
-        } = all;
+        let mut all = all;
         for _ in rt.forever() {
-            let mut counting = self.counting.lock(rt);
-            let Counting { publisher, tally } = &mut *counting;
-            tally.audit(&mut shares);
-            if history.begins(publisher.history()) {
-                return publisher.tell();
+            if let Some(whole) = self.counting.lock(rt).whole(&mut all) {
+                return whole;
             }
-            drop(counting);
             thread::yield_now();
         }
         unreachable!()

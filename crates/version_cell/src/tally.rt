@@ -1,7 +1,7 @@
 //! What is counted of all seats of a cell: the entries that were made, and how often the putter was asked. Each seat has a share of
 //! each count. A third ledger keeps the numbers of seats apart.
 
-ghost use Rattle.std.specs.Prelude.{◌≡◌, ◌<◌, ◌≤◌, ◌+◌, ◌^◌};
+ghost use Rattle.std.specs.Prelude.{◌≡◌, ◌<◌, ◌+◌, ◌-◌, ◌^◌};
 ghost use Rattle.version_cell.specs.Blanks.{most_seats};
 ghost use Rattle.version_cell.specs.Shares.{cutter_at, shares_at};
 
@@ -71,7 +71,7 @@ impl<C: CellName> Shares<C> {
         requires some { 0 < self.old.seats }
         requires none { self.old ≡ shares_at self.old.seats 0 0 number }
         ensures one { result ≡ shares_at 1 0 0 number }
-        ensures rest { self.new.seats + 1 ≡ self.old.seats }
+        ensures rest { self.new ≡ shares_at (self.old.seats - 1) 0 0 0 }
     {
         Shares {
             entries: self.entries.split_off(1, 0),
@@ -153,13 +153,14 @@ impl<C: CellName> Cutter<C> {
     }
 
     // The shares of the next seat.
+    #[tactic(auto, using(crate::proofs::Numbers::doubled))]
     pub(crate) fn cut(&mut self) -> Shares<C>
         requires few { self.old.next < most_seats }
         requires some { 0 < self.old.left }
         ensures one { result ≡ shares_at 1 0 0 (2 ^ self.old.next) }
         ensures rest { (self.new.next ≡ self.old.next + 1) × (self.new.left + 1 ≡ self.old.left) }
     {
-        let number = 1u64 << self.next;
+        let number = power_of(self.next);
         self.numbers.add(&mut self.rest.numbers, number);
         self.next += 1;
         self.rest.split(number)
@@ -184,6 +185,15 @@ impl<C: CellName> Cutter<C> {
             none: rest,
         }
     }
+}
+
+// 2 to the number of a seat.
+#[tactic(auto, using(std::proofs::lemmas::Nat::pow_below))]
+fn power_of(number: u64) -> u64
+    requires { number < most_seats }
+    ensures { result ≡ 2 ^ number }
+{
+    1 << number
 }
 
 // What is counted of all seats. Contracts see it as the number of entries that were made through them. It has no bytes.
