@@ -1,17 +1,22 @@
 #!/usr/bin/env python3
 """Drives a `flightscan serve` over many connections at once, and compares each answer with plain lists.
 
-    python3 scripts/drive.py [--connections N] [--seconds S] [--workers W,..] [--large] [--rough N] [--seed S] [--parts P]
-                             [--program PATH]
+    python3 scripts/drive.py [--connections N] [--seconds S] [--workers W,..] [--large] [--rough N] [--keep K] [--seed S]
+                             [--parts P] [--program PATH]
 
-For a minute, 32 connections put, ask for infos and fetch endpoints at random, each endpoint over any connection, however
-long after its info. The Messages of puts go side by side, and their Ends one after another, so it is known which put made
-which version; infos and fetches wait for none of them. Each info has to be one of a version between the newest that its
-connection knew and the newest of all; its tickets, its schema and each fetch have to be that version's, and so have the
-joined rows. Then all connections put at once, each into a table of its own: no put is lost, and each connection sees its
-own. Last, a table is replaced again and again: what the server holds grows by the bytes put and no more, as each version
-stays, and fetches leave nothing behind. It ends with 1 at the first difference. Build the program first, as for
-bench/pipe.py.
+For a minute, 32 connections put, expire old versions, ask for infos and fetch endpoints at random, each endpoint over any
+connection, however long after its info. The Messages of puts go side by side, and their Ends one after another, so it is
+known which put made which version, and so go expiries; infos and fetches wait for none of them. Each info has to be one of a
+version between the newest that its connection knew and the newest of all; its tickets, its schema and each fetch have to be
+that version's, and so have the joined rows. A fetch is F19 exactly where its version is below the floor that its seat has
+entered. That floor is no less than what was answered before the fetch was sent, or than what the connection met before, and no
+more than what was asked for until its answer came. Then all connections put at once, each into a table of its own: no put is
+lost, and each connection sees its own. Last, a table is replaced again and again: what the server holds grows by the bytes put
+and no more, as each version stays, and fetches leave nothing behind. It ends with 1 at the first difference. Build the program
+first, as for bench/pipe.py.
+
+With --keep K the server keeps the newest K versions alone, and so does the model: each put that is accepted raises the floor,
+and what the server holds at the end is that of K versions.
 
 With --workers 1,2,4,16 all this is done for each of these numbers, on a server of its own. With --large each server is first
 given the same table of 140,000 to 280,000 rows, in two to nine batches of unequal sizes, and a small one. Some of the fetches
@@ -52,12 +57,14 @@ from random_calls.plain_model import Database, Put, Refused, Table  # noqa: E402
 from random_calls.puts import MadePut, ingest, made_put, messages_of  # noqa: E402
 from random_calls.queries import Asker  # noqa: E402
 from reader import Fault  # noqa: E402
-from served.cases import A, descriptor_of, fetch_of, replaced  # noqa: E402
+from served.cases import A, descriptor_of, expiry_of, fetch_of, replaced  # noqa: E402
 
 MOST_PUTS = 60_000  # a server takes 65,536
 OWN_PUTS = 20  # of each connection, into its own table
 LARGE_ROWS, LARGE_PUTS = 125_000, 60  # a table of 1 MB, and how often it is replaced
 LARGE_QUERIES = 12
+STEPS_BETWEEN = 5  # as many rounds of other steps for each expiry
+OLDEST = 1_000  # so far behind the newest version an expiry may be
 SLACK = 4_000_000
 
 
@@ -126,17 +133,20 @@ class Asked:
     info: Info
     version: int
     left: int
+    expired: bool = False  # one of its endpoints was
 
 
 class Drive:
     """What the connections share: the versions so far, the endpoints that wait to be fetched, and what was found."""
 
-    def __init__(self, parts: int, large_tables: LargeTables | None):
-        self.parts, self.ending = parts, threading.Lock()
+    def __init__(self, parts: int, keep: int, large_tables: LargeTables | None):
+        self.parts, self.keep, self.ending = parts, keep, threading.Lock()
+        self.floor = self.asked_floor = 0  # what was answered, and what was asked for
         self.versions = list(large_tables.versions) if large_tables else [{}]
         self.large, self.looking = large_tables.fetches if large_tables else [], threading.Lock()
         self.waiting: collections.deque[tuple[Asked, int]] = collections.deque()  # endpoints
         self.counts, self.counting = collections.Counter(), threading.Lock()
+        self.most_expired = len(self.versions) - 1 if large_tables else MOST_PUTS  # the large tables stay
         self.found: list[str] = []
 
     def count(self, what: str) -> None:
@@ -151,12 +161,33 @@ class Drive:
                 after, wanted = model.after(self.versions[-1], made.put), PutCount(len(made.put.table.rows))
             except Refused as refused:
                 after, wanted = None, Refusal(refused.fault)
+            version = len(self.versions)
+            if self.keep and after is not None:
+                self.asked_floor = max(self.floor, version + 1 - self.keep)
             connection.send(wire.END)
             wanted.look(connection.answer())
             if after is None:
                 return None
             self.versions.append(after)
-            return len(self.versions) - 1
+            self.floor = self.asked_floor
+            return version
+
+    def expire(self, connection: Connection, version: int) -> str:
+        """Expires the versions below a number, and looks at the floor. One that was never reached is refused."""
+        with self.ending:
+            reached = version < len(self.versions)
+            if reached:
+                self.asked_floor = max(self.floor, version)
+            connection.send(expiry_of(version))
+            answer = connection.answer()
+            if not reached:
+                Refusal("F18").look(answer)
+                return "refused expiries"
+            same("the status of an expiry", (0, ""), (answer.code, answer.text))
+            floors = [wire.one_field(message, 1) for message in answer.messages]
+            same("the floor", [self.asked_floor.to_bytes(8, "big")], floors)
+            self.floor = self.asked_floor
+            return "expiries"
 
     def newest(self) -> int:
         """The newest version of all that were answered so far."""
@@ -165,11 +196,11 @@ class Drive:
 
 
 class Worker(threading.Thread):
-    """One connection, and the newest version that it knows."""
+    """One connection, the newest version that it knows, and the floor that it met."""
 
     def __init__(self, drive: Drive, connection: Connection, number: int, seed: int):
         super().__init__(daemon=True)
-        self.drive, self.connection, self.number, self.known = drive, connection, number, 0
+        self.drive, self.connection, self.number, self.known, self.floor = drive, connection, number, 0, 0
         self.random, self.steps = Random(seed * 1000 + number), self.at_random
         self.questions = Questions(self.random, drive.versions, True, SmallAsker)
         self.end = 0.0
@@ -188,6 +219,7 @@ class Worker(threading.Thread):
 
     def at_random(self) -> None:
         steps = [self.put, *[self.info] * 2, *[self.fetch] * 4, *[self.large_fetch] * bool(self.drive.large)]
+        steps = [*steps * STEPS_BETWEEN, self.expire]
         while time.monotonic() < self.end and not self.drive.found:
             self.random.choice(steps)()
         while self.drive.waiting and not self.drive.found:
@@ -201,6 +233,18 @@ class Worker(threading.Thread):
         version = self.drive.end_put(self.connection, made)
         self.known = max(self.known, version or 0)
         self.drive.count("puts" if version else "refused puts")
+
+    def expire(self) -> None:
+        version = max(self.drive.newest() + 2 - self.random.randrange(OLDEST), 0)
+        self.drive.count(self.drive.expire(self.connection, min(version, self.drive.most_expired)))
+
+    def was_expired(self, answer: wire.Answer, version: int, least: int, most: int) -> bool:
+        """Whether a fetch was refused since its version is below the floor, which was no less and no more than these."""
+        if version >= least and (version >= most or answer.code == 0):
+            return False
+        Refusal("F19").look(answer)
+        self.floor = max(self.floor, version + 1)
+        return True
 
     def info(self) -> None:
         question, least = self.questions.question(), self.known
@@ -245,13 +289,18 @@ class Worker(threading.Thread):
         info = asked.info
         columns, part = info.question.columns(info.database), info.ranges[endpoint]
         wanted = Rows(columns, info.question.rows(info.database, *part), info.streams, endpoint)
-        wanted.look(self.ask(b"DoGet", wire.ticket(info.handles[endpoint])))
+        least = max(self.floor, self.drive.floor)
+        answer = self.ask(b"DoGet", wire.ticket(info.handles[endpoint]))
+        expired = self.was_expired(answer, asked.version, least, self.drive.asked_floor)
+        if not expired:
+            wanted.look(answer)
         self.known = max(self.known, asked.version)
-        self.drive.count("fetches")
+        self.drive.count("expired fetches" if expired else "fetches")
         with self.drive.counting:
             asked.left -= 1
-            last = asked.left == 0
-        if last:
+            asked.expired |= expired
+            whole = asked.left == 0 and not asked.expired
+        if whole:
             info.look_at_the_join()
             self.drive.count("joins")
 
@@ -269,6 +318,7 @@ class Worker(threading.Thread):
     def own_puts(self) -> None:
         """Replaces a table of its own, and sees each time what it put."""
         name, text = f"own{self.number}", f"SELECT a FROM own{self.number}"
+        most = MOST_PUTS if self.drive.keep else 0  # of the floor, while others put
         for turn in range(OWN_PUTS):
             rows = [(self.number,), (turn,)]
             self.connection.send(replaced(name, A, rows))
@@ -276,9 +326,11 @@ class Worker(threading.Thread):
             answer = self.ask(b"GetFlightInfo", descriptor_of(text))
             same("the status of an info", 0, answer.code)
             ends = [wire.one_field(content, 1) for number, content in wire.fields(answer.messages[0]) if number == 3]
-            streams = [None] * len(ends)
+            streams, version = [None] * len(ends), wire.handle_parts(wire.handle_of(ends[0]))[0]
             for endpoint, (first, end) in enumerate(model.split(2, self.drive.parts)):
-                Rows(list(A), rows[first:end], streams, endpoint).look(self.ask(b"DoGet", ends[endpoint]))
+                answer = self.ask(b"DoGet", ends[endpoint])
+                if not self.was_expired(answer, version, 0, most):
+                    Rows(list(A), rows[first:end], streams, endpoint).look(answer)
             self.drive.count("own puts")
 
 
@@ -346,9 +398,10 @@ def look_at_own_puts(drive: Drive, connections: list[Connection]) -> None:
     same("the number of puts", before + drive.counts["own puts"], known)
 
 
-def replace_a_table(server: Server, connections: list[Connection], before: int) -> str:
-    """Replaces a table of 1 MB, over any connection; then fetches the last of it. Tells what was held."""
+def replace_a_table(server: Server, connections: list[Connection], before: int, keep: int) -> str:
+    """Replaces a table of 1 MB, over any connection; then fetches each version of it. Tells what was held."""
     put, sent = replaced("large", A, [(row,) for row in range(LARGE_ROWS)]), 0
+    kept = min(keep or LARGE_PUTS, LARGE_PUTS)
     begin = server.held()
     for turn in range(LARGE_PUTS):
         connection = connections[turn % len(connections)]
@@ -359,10 +412,14 @@ def replace_a_table(server: Server, connections: list[Connection], before: int) 
     for turn in range(LARGE_PUTS):
         connection = connections[0]
         connection.send(fetch_of(before + 1 + turn, 0, LARGE_ROWS, "SELECT * FROM large"))
-        same("the status of a fetch", 0, connection.answer().code)
+        answer = connection.answer()
+        if turn < LARGE_PUTS - kept:
+            Refusal("F19").look(answer)
+        else:
+            same("the status of a fetch", 0, answer.code)
     grown, fetched = behind - begin, server.held() - behind
     said = f"{grown / sent:.3f} bytes held for each of {sent:,} put; {fetched:,} more behind {LARGE_PUTS} fetches"
-    same(f"memory: {said}", (True, True), (grown < 1.1 * sent + SLACK, fetched < SLACK))
+    same(f"memory: {said}", (True, True), (grown < 1.1 * kept * len(put) + SLACK, fetched < SLACK))
     return said
 
 
@@ -387,7 +444,7 @@ def carry_out(words: argparse.Namespace, drive: Drive, server: Server) -> str:
     if drive.found:
         raise Difference("\n".join(drive.found))
     look_at_own_puts(drive, connections)
-    said = replace_a_table(server, connections, len(drive.versions) - 1 + drive.counts["own puts"])
+    said = replace_a_table(server, connections, len(drive.versions) - 1 + drive.counts["own puts"], drive.keep)
     same("the server's exit status, and what it printed", (None, b""), (server.process.poll(), server.said()))
     same("the server's open files", files, files_at_rest(server, files))
     return said
@@ -404,8 +461,8 @@ def files_at_rest(server: Server, wanted: int) -> int:
 
 def driven(words: argparse.Namespace, workers: int, large_tables: LargeTables | None) -> bool:
     """Drives a server with so many workers, and tells what came."""
-    drive, seats = Drive(words.parts, large_tables), min(words.connections + words.rough, 32)
-    options = ["--parts", str(words.parts), "--seats", str(seats), "--workers", str(workers)]
+    drive, seats = Drive(words.parts, words.keep, large_tables), min(words.connections + words.rough, 32)
+    options = ["--parts", str(words.parts), "--seats", str(seats), "--workers", str(workers), "--keep", str(words.keep)]
     with Server(program(words.program), *options) as server:
         try:
             if large_tables:
@@ -430,9 +487,12 @@ def main() -> int:
     parser.add_argument("--workers", type=worker_counts, default=[1], help="the numbers of workers, as 1,2,4,16 (1)")
     parser.add_argument("--large", action="store_true", help="fetch from large tables too")
     parser.add_argument("--rough", type=int, default=0, help="how many clients go away anywhere (none)")
+    parser.add_argument("--keep", type=int, default=0, help="how many versions the server keeps (all)")
     parser.add_argument("--seed", type=int, default=1, help="of what is put and asked (1)")
     parser.add_argument("--parts", type=int, default=5, help="of an info (5)")
     words = parser.parse_args()
+    if words.keep and words.large:
+        parser.error("--keep would expire the large tables")
     large_tables = LargeTables(words.seed) if words.large else None
     return 0 if all(driven(words, workers, large_tables) for workers in words.workers) else 1
 

@@ -91,6 +91,11 @@ def fetch_of(version: int, first: int, end: int, text: str) -> bytes:
     return wire.call(b"DoGet", [wire.ticket(wire.query_handle(version, first, end, text.encode()))])
 
 
+def expiry_of(version: int) -> bytes:
+    """The call that expires the versions below a number."""
+    return wire.call(b"DoAction", [wire.chunk(1, b"scan.expire") + wire.chunk(2, version.to_bytes(8, "big"))])
+
+
 def rows_of(columns: tuple[Column, ...], *rows: Row) -> Rows:
     return Rows(list(columns), list(rows), [None], 0)
 

@@ -272,6 +272,23 @@ def expired_versions(run: Run) -> None:
         same("the put made version 4", printed("floor 4"), expire(run, server, 4))
 
 
+@case("serve --keep: behind a put a fetch of what is older than the newest two versions is F19, and what is newer is there")
+def kept_versions(run: Run) -> None:
+    text = "SELECT a FROM t"
+    with run.serving("--keep", "2") as server, Connection(server.port) as connection:
+        for last in (1, 2, 3, 4):
+            made = put(run, server, "t", stream(A, [(row,) for row in range(last)]), "replace")
+            same(f"put of version {last}", printed(f"{last} rows"), made)
+            for version in range(1, last - 1):
+                ask(connection, fetch_of(version, 0, version, text), Refusal("F19"))
+            for version in range(max(1, last - 1), last + 1):
+                ask(connection, fetch_of(version, 0, version, text), rows_of(A, *((row,) for row in range(version))))
+        same("a refused put", answered("F10 TableExists"), put(run, server, "t", stream(A, [(7,)]), "create"))
+        same("it expired nothing", printed("floor 3"), expire(run, server, 0))
+        same("expire", printed("floor 4"), expire(run, server, 4))
+        same("query", printed("a", "0", "1", "2", "3"), query(run, server, text))
+
+
 # ---- streams
 
 

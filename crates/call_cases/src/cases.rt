@@ -115,7 +115,11 @@ impl<'x, X: Executor> Cases<'x, X> {
         let setting = Setting {
             alloc,
             executor: self.executor,
-            options: Options { parts, workers },
+            options: Options {
+                parts,
+                workers,
+                keep: 0,
+            },
         };
         let status = pipe(&setting, self.seed, &mut reader, &mut writer, &mut faults).number();
         let mut inbox = Inbox::of_client(alloc);

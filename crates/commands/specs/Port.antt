@@ -20,7 +20,7 @@ most_of accept = accept
 
 -- how calls are answered
 abbrev pub options_of : Serving → Options
-options_of serving = record { parts = serving.parts; workers = serving.workers }
+options_of serving = record { parts = serving.parts; workers = serving.workers; keep = serving.keep }
 
 -- what is asked for, at the port that the network gave
 abbrev pub at_port : ℕ → Serving → Serving

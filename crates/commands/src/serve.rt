@@ -170,6 +170,7 @@ fn options_of(serving: &Serving) -> Options
     Options {
         parts: serving.parts,
         workers: serving.workers as usize,
+        keep: u64::from(serving.keep),
     }
 }
 

@@ -14,6 +14,7 @@ use std::test::Fail;
 const OPTIONS: Options = Options {
     parts: 1,
     workers: 1,
+    keep: 0,
 };
 
 const TABLE_EXISTS: &[u8] = b"\x04\x06\x00\x0fF10 TableExists";

@@ -22,6 +22,7 @@ use std::test::Fail;
 const OPTIONS: Options = Options {
     parts: 1,
     workers: 1,
+    keep: 0,
 };
 
 // Bytes that are always the same.

@@ -8,7 +8,7 @@ use Rattle.scan_base.specs.Limits.{most_request_bytes}
 use Rattle.scan_base.specs.Reading.{◌>>=◌}
 use Rattle.flight_proto.specs.Expiry.{expiry_of}
 use Rattle.flight_proto.specs.Wanted.{Wanted, wanted_in}
-use Rattle.flight_core.specs.Asked.{info, schema}
+use Rattle.flight_core.specs.Asked.{put, info, schema}
 use Rattle.flight_core.proofs.Expiring.{unread_expiry}
 use Rattle.flight_info.specs.Replies.{refusal}
 use Rattle.flight_info.specs.Infos.{only_rows, short_enough, rows_wanted, schema_wanted, InfoAt, SchemaAt}
@@ -26,6 +26,10 @@ use Rattle.flight_calls.specs.Requests.{with_messages, IsRefused}
 pub refused_now : (fault : Fault) (call : Call) → ((options : Options) (more : List Payload) → asked_by options (with_messages call more) ≡ Err fault)
     → (options : Options) → asked_by options call ≡ Err fault
 refused_now fault call refused options = rw (append-nil call.messages) at (refused options [])
+
+-- what a call of a put asks
+pub asks_put : (options : Options) (call : Call) → method_at call.path ≡ Some method.DoPut → asked_by options call ≡ Ok (put call.messages)
+asks_put options call at = rw at refl
 
 -- what a call asks, of which no message came
 pub asks_none : (options : Options) (call : Call) (one : Single) → method_at call.path ≡ Some (method.Single one) → call.messages ≡ [] → asked_by options call ≡ Err BadProto

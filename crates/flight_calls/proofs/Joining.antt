@@ -14,8 +14,18 @@ use Rattle.flight_core.proofs.Running.{begins_on, begins_same, step_grows, info_
 use Rattle.flight_calls.specs.declared.setting.Options.{Options}
 use Rattle.flight_calls.specs.Calls.{Call, asked_by, ReplyTo}
 use Rattle.flight_calls.specs.Seats.{Seat, Moves}
-use Rattle.flight_calls.specs.Reacts.{StartsAt, Answers}
+use Rattle.flight_calls.specs.Reacts.{StartsAt, Responds, Answers, expired_behind}
+use Rattle.flight_calls.proofs.Keeping.{asking_grows}
 use Rattle.flight_calls.specs.Joining.{LaterCallsSee, logs_of, Replied, FetchServed, SeatsMeetJoined}
+
+-- behind a reply a seat has seen all that it had seen, and the log that the reply left
+responds_keep : (moves : Moves) (keep : ℕ) (asked : Result Asked Fault) (old new : Seat) (reply : ReplyAt) → Responds moves keep asked old reply new → Begins old.log new.log
+responds_keep moves keep asked old new reply r =
+    begins_on old.log r.middle.log new.log r.reacts.goes.kept (asking_grows moves (expired_behind keep asked reply.fault r.reacts.after) r.middle new r.keeps)
+
+responds_learn : (moves : Moves) (keep : ℕ) (asked : Result Asked Fault) (old new : Seat) (reply : ReplyAt) (r : Responds moves keep asked old reply new) → Begins r.reacts.after new.log
+responds_learn moves keep asked old new reply r =
+    begins_on r.reacts.after r.middle.log new.log r.reacts.goes.learnt (asking_grows moves (expired_behind keep asked reply.fault r.reacts.after) r.middle new r.keeps)
 
 -- a seat only grows
 pub answers_keep : (moves : Moves) (options : Options) (old new : Seat) (calls : List Call) (replies : List ReplyAt) → Answers moves options old calls replies new → Begins old.log new.log
@@ -23,7 +33,7 @@ answers_keep moves options old new [] [] a = begins_same old.log new.log (ap (λ
 answers_keep moves options old new [] (reply ∷ replies) a = absurd a
 answers_keep moves options old new (call ∷ calls) [] a = absurd a
 answers_keep moves options old new (call ∷ calls) (reply ∷ replies) a =
-    begins_on old.log a.0.log new.log a.1.goes.kept (answers_keep moves options a.0 new calls replies a.2)
+    begins_on old.log a.0.log new.log (responds_keep moves options.keep (asked_by options call) old a.0 reply a.1) (answers_keep moves options a.0 new calls replies a.2)
 
 -- ---- later calls
 
@@ -40,8 +50,9 @@ starts_on (Err fault) first seen log b at = begins_on first seen log b at
 
 pub later_calls_see : (moves : Moves) → LaterCallsSee moves
 later_calls_see moves options one other before between behind new reply answer calls replies earlier a later =
-    starts_on other earlier.after behind.log later.log
-    (begins_on earlier.after between.log behind.log earlier.goes.learnt (answers_keep moves options between behind calls replies a)) later.goes.starts
+    starts_on other earlier.reacts.after behind.log later.reacts.log
+    (begins_on earlier.reacts.after between.log behind.log (responds_learn moves options.keep one before between reply earlier) (answers_keep moves options between behind calls replies a))
+    later.reacts.goes.starts
 
 -- ---- a reply among others
 
@@ -57,9 +68,9 @@ stepped : (moves : Moves) (options : Options) (old new : Seat) (calls : List Cal
 stepped moves options old new [] replies a place call reply log e f at = absurd cc
 stepped moves options old new (c ∷ calls) [] a place call reply log e f at = absurd cc
 stepped moves options old new (c ∷ calls) (r ∷ replies) a zero call reply log e f at = record {
-  after = a.1.after;
-  step = rw (← same_some e, ← same_some f, ← same_some at) a.1.step;
-  seen = begins_on a.1.after a.0.log new.log a.1.goes.learnt (answers_keep moves options a.0 new calls replies a.2);
+  after = a.1.reacts.after;
+  step = rw (← same_some e, ← same_some f, ← same_some at) a.1.reacts.step;
+  seen = begins_on a.1.reacts.after a.0.log new.log (responds_learn moves options.keep (asked_by options c) old a.0 r a.1) (answers_keep moves options a.0 new calls replies a.2);
 }
 stepped moves options old new (c ∷ calls) (r ∷ replies) a (suc place) call reply log e f at =
     stepped moves options a.0 new calls replies a.2 place call reply log e f at

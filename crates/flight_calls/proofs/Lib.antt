@@ -12,3 +12,5 @@ pub mod Telling
 pub mod Running
 pub mod Making
 pub mod Joining
+pub mod Keeping
+pub mod Exchanging

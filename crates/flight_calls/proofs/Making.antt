@@ -9,11 +9,12 @@ use Rattle.version_log.specs.Log.{Log}
 use Rattle.flight_core.specs.Machine.{PutStep, ExpireStep}
 use Rattle.flight_proto.specs.Expiry.{expiry_of}
 use Rattle.flight_core.specs.Puts.{put_said}
-use Rattle.flight_calls.specs.declared.setting.Options.{Options}
-use Rattle.flight_calls.specs.Calls.{Call, asked_by, ReplyTo}
+use Rattle.flight_calls.specs.Calls.{ReplyTo}
+use Rattle.flight_calls.specs.Exchanges.{Exchange}
 use Rattle.flight_calls.specs.Seats.{Seat, Moves}
-use Rattle.flight_calls.specs.Reacts.{Reacts, Answers}
-use Rattle.flight_calls.specs.Laws.{accepted_by, marked_by, entries_of, entries_in_all}
+use Rattle.flight_calls.specs.Reacts.{Reacts}
+use Rattle.flight_calls.specs.Laws.{accepted_by, marked_by, entries_of, entries_in, PutsAreMade}
+use Rattle.flight_calls.proofs.Exchanging.{Steps, exchanged}
 
 put_adds : (payloads : List Payload) (log after : Log) (answers : List Payload) (fault : Option Fault) → PutStep log payloads answers fault after → after ≡ log ++ accepted_by fault (put_said payloads)
 put_adds payloads log after answers None step = rw step.1 step.3
@@ -39,11 +40,13 @@ call_adds moves asked old new reply r =
     let same = append_cancel_left r.log made.0 (entries_of asked reply) (sym made.1 ∙ step_adds asked r.log r.after reply r.step) in
     made.2 ∙ ap (λ l. old.made ++ l) same
 
-pub puts_made : (moves : Moves) (options : Options) (old new : Seat) (calls : List Call) (replies : List ReplyAt) → Answers moves options old calls replies new → new.made ≡ old.made ++ entries_in_all options calls replies
-puts_made moves options old new [] [] a = ap (λ (s : Seat). s.made) a ∙ sym (append-nil old.made)
-puts_made moves options old new [] (reply ∷ replies) a = absurd a
-puts_made moves options old new (call ∷ calls) [] a = absurd a
-puts_made moves options old new (call ∷ calls) (reply ∷ replies) a =
-    let rest = entries_in_all options calls replies in
-    puts_made moves options a.0 new calls replies a.2 ∙ ap (λ l. l ++ rest) (call_adds moves (asked_by options call) old a.0 reply a.1)
-    ∙ append_assoc old.made (entries_of (asked_by options call) reply) rest
+steps_make : (moves : Moves) (old new : Seat) (all : List Exchange) → Steps moves old all new → new.made ≡ old.made ++ entries_in all
+steps_make moves old new [] same = ap (λ (s : Seat). s.made) same ∙ sym (append-nil old.made)
+steps_make moves old new (one ∷ more) s =
+    let rest = entries_in more in
+    steps_make moves s.0 new more s.2 ∙ ap (λ l. l ++ rest) (call_adds moves one.asked old s.0 one.reply s.1) ∙ append_assoc old.made (entries_of one.asked one.reply) rest
+
+pub puts_made : (moves : Moves) → PutsAreMade moves
+puts_made moves options old new calls replies answers =
+    let e = exchanged moves options old new calls replies answers in
+    (e.all, e.are, steps_make moves old new e.all e.steps)

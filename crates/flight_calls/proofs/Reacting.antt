@@ -1,6 +1,6 @@
 -- Steps over a backend.
 use Rattle.std.proofs.Common.{◌≡◌, ◌≢◌, ◌<◌, ℕ, List, [], ◌∷◌, ◌++◌, Some, Result, Ok, Err, refl, sym, ◌∙◌, append-nil, inl, inr, arith}
-use Rattle.std.specs.Prelude.{IfErr, IsOk}
+use Rattle.std.specs.Prelude.{IsOk}
 use Rattle.scan_base.specs.declared.fault.Fault.{Fault}
 use Rattle.scan_base.specs.declared.fault.Fault.TheVariants.{OutOfMemory}
 use Rattle.scan_base.specs.Reading.{RefusesFirst}
@@ -13,34 +13,54 @@ use Rattle.version_log.specs.Expiry.{IsExpired}
 use Rattle.version_log.specs.Log.{Log, added, expired, puts_in, database_of, Begins}
 use Rattle.flight_core.specs.Puts.{put_glance, put_said}
 use Rattle.flight_core.specs.Refusals.{RefusedFor}
-use Rattle.flight_core.specs.Machine.{PutStep}
+use Rattle.flight_info.proofs.Results.{first_for}
 use Rattle.flight_core.proofs.Expiring.{number_read, expired_reply, unread_expiry, refused_expiry}
 use Rattle.flight_core.proofs.Replies.{refused_reply, unread_reply}
-use Rattle.flight_calls.specs.declared.answer.Answer.{Answer}
-use Rattle.flight_calls.specs.declared.answer.Answer.TheVariants.{Whole, Floor, Stream}
+use Rattle.flight_calls.specs.declared.answer.Answer.TheVariants.{Whole, Floor}
 use Rattle.flight_calls.specs.declared.request.Single.{Single}
 use Rattle.flight_calls.specs.declared.setting.Options.{Options}
 use Rattle.flight_calls.specs.Calls.{ReplyTo, asked_with}
 use Rattle.flight_calls.specs.Requests.{IsRefused}
 use Rattle.flight_calls.specs.Seats.{Seat, seat_of, Moves, Expires, Learns, LooksOnce, Puts, alone}
 use Rattle.flight_calls.specs.Reacts.{StartsAt, Looks, Goes, Reacts}
-use Rattle.flight_calls.specs.Answered.{IsReplyOf, ReactsBy}
+use Rattle.flight_calls.specs.Answered.{ReactsBy}
 
 -- ---- the backend of a log that nobody shares
 
-pub puts_alone : (result : Result (Unit {0}) Fault) (old new : Log) (looks : ℕ) (made : Put) → (result ≡ Ok tt → (new ≡ old ++ added made ∷ []) × IsOk (after (database_of old) (puts_in old) made))
-    → IfErr result (λ fault. (new ≡ old) × (fault ≢ OutOfMemory → after (database_of old) (puts_in old) made ≡ Err fault))
-    → RefusesFirst result (after (database_of old) (puts_in old) made)
-    → Puts alone result (seat_of old looks) made (seat_of new looks)
-puts_alone (Ok tt) old new looks made ok err first =
-    let is = ok refl in
-    record { log = old; next = new; at = (is.1, is.0, is.0); first = first; moved = (refl, refl); kept = (added made ∷ [], is.0); learnt = ([], sym (append-nil new)); looks = refl }
-puts_alone (Err fault) old new looks made ok err first =
-    record { log = old; next = new; at = (err.0, err.0, err.1); first = first; moved = (refl, refl); kept = ([], err.0 ∙ sym (append-nil old)); learnt = ([], sym (append-nil new)); looks = refl }
+-- what is accepted has no first fault
+never_refused : {X : Type 0} (number : ℕ) (due : Result X Fault) → IsOk due → RefusesFirst (Ok number) due
+never_refused number (Ok x) ok = tt
+never_refused number (Err cause) ok = let no = ok in cc
+
+pub put_alone : (old new : Log) (looks number : ℕ) (made : Put) → new ≡ old ++ added made ∷ [] → IsOk (after (database_of old) (puts_in old) made) → number ≡ puts_in new
+    → Puts alone (Ok number) (seat_of old looks) made (seat_of new looks)
+put_alone old new looks number made is accepts count = record {
+  log = old;
+  next = new;
+  at = (accepts, is, is, count);
+  first = never_refused number (after (database_of old) (puts_in old) made) accepts;
+  moved = (refl, refl);
+  kept = (added made ∷ [], is);
+  learnt = ([], sym (append-nil new));
+  looks = refl;
+}
+
+pub refused_alone : (fault : Fault) (old new : Log) (looks : ℕ) (made : Put) → (new ≡ old) × (fault ≢ OutOfMemory → after (database_of old) (puts_in old) made ≡ Err fault)
+    → RefusesFirst {X = Unit {0}} (Err fault) (after (database_of old) (puts_in old) made) → Puts alone (Err fault) (seat_of old looks) made (seat_of new looks)
+refused_alone fault old new looks made err first = record {
+  log = old;
+  next = new;
+  at = (err.0, err.0, err.1);
+  first = first_for (Unit {0}) ℕ fault (after (database_of old) (puts_in old) made) first;
+  moved = (refl, refl);
+  kept = ([], err.0 ∙ sym (append-nil old));
+  learnt = ([], sym (append-nil new));
+  looks = refl;
+}
 
 -- ---- how a step goes
 
-begins_itself : (log : Log) → Begins log log
+pub begins_itself : (log : Log) → Begins log log
 begins_itself log = ([], sym (append-nil log))
 
 starts_begins : (asked : Result Asked Fault) (seen log : Log) → Begins seen log → StartsAt asked seen log
@@ -106,19 +126,9 @@ settled moves stays s options one message fault is =
     held moves (Ok (asked_with options one message)) s s (refusal fault)
     (reacts_unseen moves stays (Ok (asked_with options one message)) s (refusal fault) (is.0 options s.log) (is.1 options))
 
--- an answer that is written
-pub written : (moves : Moves) (asked : Result Asked Fault) (old new : Seat) (answer : Answer) (reply : ReplyAt) (r : ReactsBy moves asked old answer new)
-    → ReplyTo asked r.log reply r.after → IsReplyOf answer reply → Reacts moves asked old reply new
-written moves asked old new (Whole whole) reply r step is =
-    record { log = r.log; after = r.after; step = step; goes = r.goes; looked = rw is r.looked }
-written moves asked old new (Floor floor) reply r step is =
-    record { log = r.log; after = r.after; step = step; goes = r.goes; looked = λ other. r.looked tt }
-written moves asked old new (Stream stream) reply r step is =
-    record { log = r.log; after = r.after; step = step; goes = r.goes; looked = λ other. r.looked tt }
-
 -- ---- puts
 
-looks_not : (payloads : List Payload) → Looks (Ok (put payloads)) → ⊥
+pub looks_not : (payloads : List Payload) → Looks (Ok (put payloads)) → ⊥
 looks_not payloads looks = looks
 
 -- its payloads are refused
@@ -134,21 +144,10 @@ put_tired moves stays s payloads made said =
     reacts_unseen moves stays (Ok (put payloads)) s (refusal OutOfMemory)
     (refl, refl, refused_reply s.log payloads made OutOfMemory said (λ other. absurd (other refl))) (looks_not payloads)
 
-said_ok : (payloads : List Payload) (made : Put) → put_said payloads ≡ Ok made → IsOk (put_said payloads)
+pub said_ok : (payloads : List Payload) (made : Put) → put_said payloads ≡ Ok made → IsOk (put_said payloads)
 said_ok payloads made said = rw said refl
 
--- the backend made it
-pub put_made : (moves : Moves) (old new : Seat) (payloads : List Payload) (made : Put) (reply : ReplyAt) (p : Puts moves (Ok tt) old made new) → put_said payloads ≡ Ok made
-    → PutStep p.log payloads reply.payloads reply.fault p.next → Reacts moves (Ok (put payloads)) old reply new
-put_made moves old new payloads made reply p said step = record {
-  log = p.log;
-  after = p.next;
-  step = step;
-  goes = record { moved = p.moved; starts = inl (said_ok payloads made said); learnt = p.learnt; kept = p.kept; made = (added made ∷ [], p.at.1, p.at.2) };
-  looked = λ other looks. absurd (looks_not payloads looks);
-}
-
--- or refused it
+-- or the backend refused it
 pub put_refused : (moves : Moves) (old new : Seat) (payloads : List Payload) (made : Put) (fault : Fault) → Puts moves (Err fault) old made new → put_said payloads ≡ Ok made
     → Reacts moves (Ok (put payloads)) old (refusal fault) new
 put_refused moves old new payloads made fault p said = record {

@@ -21,7 +21,7 @@ use Rattle.flight_calls.specs.declared.setting.Options.{Options}
 use Rattle.flight_calls.specs.declared.request.Request.{Request}
 use Rattle.flight_calls.specs.Calls.{Call, call_records, asked_by}
 use Rattle.flight_calls.specs.Seats.{Seat, Moves}
-use Rattle.flight_calls.specs.Reacts.{Reacts, Answers}
+use Rattle.flight_calls.specs.Reacts.{Responds, Answers}
 use Rattle.flight_calls.specs.Owed.{calls_bytes, answer_bytes, EndsIn, EndsInside, behind_calls, IsCause, last_status, Connection, items_owed, Wrote, Why, Serves, Fails}
 use Rattle.flight_calls.specs.Ending.{RefusesBy}
 use Rattle.flight_calls.specs.Reading.{IsSoundAt, Stops, CallArrives}
@@ -72,16 +72,16 @@ served_then moves options log new came rest more replies s = record {
   sent = s.sent;
 }
 
-answers_more : (moves : Moves) (options : Options) (old mid new : Seat) (calls : List Call) (replies : List ReplyAt) (call : Call) (reply : ReplyAt) → Answers moves options old calls replies mid → Reacts moves (asked_by options call) mid reply new
+answers_more : (moves : Moves) (options : Options) (old mid new : Seat) (calls : List Call) (replies : List ReplyAt) (call : Call) (reply : ReplyAt) → Answers moves options old calls replies mid → Responds moves options.keep (asked_by options call) mid reply new
     → Answers moves options old (calls ++ call ∷ []) (replies ++ reply ∷ []) new
-answers_more moves options old mid new [] [] call reply s r = (new, subst (λ (seat : Seat). Reacts moves (asked_by options call) seat reply new) s r, refl)
+answers_more moves options old mid new [] [] call reply s r = (new, subst (λ (seat : Seat). Responds moves options.keep (asked_by options call) seat reply new) s r, refl)
 answers_more moves options old mid new [] (one ∷ replies) call reply s r = absurd s
 answers_more moves options old mid new (one ∷ calls) [] call reply s r = absurd s
 answers_more moves options old mid new (one ∷ calls) (answer ∷ replies) call reply s r = (s.0, s.1, answers_more moves options s.0 mid new calls replies call reply s.2 r)
 
 -- one call more, with its reply
 served_more : (moves : Moves) (options : Options) (log mid new : Seat) (came rest rest' : List ℕ) (replies : List ReplyAt) (call : Call) (reply : ReplyAt) → Served moves options log came rest replies mid
-    → rest ≡ flat_map spelling (call_records call) ++ rest' → All IsRecord (call_records call) → Reacts moves (asked_by options call) mid reply new → FitsMessages reply
+    → rest ≡ flat_map spelling (call_records call) ++ rest' → All IsRecord (call_records call) → Responds moves options.keep (asked_by options call) mid reply new → FitsMessages reply
     → Served moves options log came rest' (replies ++ reply ∷ []) new
 served_more moves options log mid new came rest rest' replies call reply s whole fits replied sent = record {
   calls = s.calls ++ call ∷ [];
@@ -116,7 +116,7 @@ module _ (moves : Moves) (options : Options) (old mid : Connection) (left : Rece
 
   -- a call came, and a reply to it is due
   call_replied : (new : Connection) (left' : Received) (request : Request) (reply : ReplyAt) (q : (more : List ℕ) × Consumes mid.input new.input more × CallArrives (Ok (arrival.Whole request)) left left' more)
-      → Reacts moves (asked_by options q.2.0) mid.seat reply new.seat → FitsMessages reply
+      → Responds moves options.keep (asked_by options q.2.0) mid.seat reply new.seat → FitsMessages reply
       → Served moves options old.seat (p.came ++ q.0) left'.bytes (p.replies ++ reply ∷ []) new.seat
   call_replied new left' request reply q replied sent =
       served_more moves options old.seat mid.seat new.seat (p.came ++ q.0) (left.bytes ++ q.0) left'.bytes p.replies q.2.0 reply (served_then moves options old.seat mid.seat p.came left.bytes q.0 p.replies p.served) q.2.2.whole q.2.2.fits replied sent
@@ -142,7 +142,7 @@ module _ (moves : Moves) (options : Options) (old mid : Connection) (left : Rece
 
   -- it was written
   pub call_served : (new : Connection) (left' : Received) (request : Request) (reply : ReplyAt) → (q : (more : List ℕ) × Consumes mid.input new.input more × CallArrives (Ok (arrival.Whole request)) left left' more)
-      → Reacts moves (asked_by options q.2.0) mid.seat reply new.seat → FitsMessages reply → Appends mid.output new.output (answer_bytes reply) → Progress moves options old new left'
+      → Responds moves options.keep (asked_by options q.2.0) mid.seat reply new.seat → FitsMessages reply → Appends mid.output new.output (answer_bytes reply) → Progress moves options old new left'
   call_served new left' request reply q replied sent wrote = record {
     came = p.came ++ q.0;
     consumed = Consumes-trans old.input mid.input new.input p.came q.0 p.consumed q.1;
@@ -155,7 +155,7 @@ module _ (moves : Moves) (options : Options) (old mid : Connection) (left : Rece
 
   -- or begun
   pub answer_failed : (new : Connection) (left' : Received) (request : Request) (reply : ReplyAt) → (q : (more : List ℕ) × Consumes mid.input new.input more × CallArrives (Ok (arrival.Whole request)) left left' more)
-      → Reacts moves (asked_by options q.2.0) mid.seat reply new.seat → FitsMessages reply → AppendsBeginning mid.output new.output (answer_bytes reply) → Fails 0 1 old new
+      → Responds moves options.keep (asked_by options q.2.0) mid.seat reply new.seat → FitsMessages reply → AppendsBeginning mid.output new.output (answer_bytes reply) → Fails 0 1 old new
       → Serves moves options (Err Transport) old new
   answer_failed new left' request reply q replied sent begun counted = served_so (Err Transport) new (p.came ++ q.0) left'.bytes (p.replies ++ reply ∷ []) None
       (map answer_bytes p.replies) (answer_bytes reply ∷ []) (Consumes-trans old.input mid.input new.input p.came q.0 p.consumed q.1)

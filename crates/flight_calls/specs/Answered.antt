@@ -19,7 +19,7 @@ use Rattle.flight_calls.specs.declared.answer.Answer.{Answer}
 use Rattle.flight_calls.specs.declared.answer.Answer.TheVariants.{Whole, Floor, Stream}
 use Rattle.flight_calls.specs.Calls.{ReplyTo}
 use Rattle.flight_calls.specs.Seats.{Seat, Moves}
-use Rattle.flight_calls.specs.Reacts.{Goes, HasLooked}
+use Rattle.flight_calls.specs.Reacts.{Goes, HasLooked, expired_behind, AsksItself}
 use Rattle.flight_calls.specs.Owed.{answer_bytes}
 
 -- what answers a call: its reply; or the floor behind an expiry; or the stream of a fetch, which leaves the log
@@ -48,6 +48,19 @@ pub record ReactsBy (moves : Moves) (asked : Result Asked Fault) (old : Seat) (a
   pub answered : AnsweredBy asked log answer after
   pub goes : Goes moves asked old log after new
   pub looked : IsBegun answer → HasLooked asked old log new
+
+-- the fault that an answer holds, if it holds one
+abbrev pub fault_in : Answer → Option Fault
+fault_in (Whole reply) = reply.fault
+fault_in (Floor floor) = None
+fault_in (Stream stream) = None
+
+-- The same, and behind it the expiry of the versions that are not kept. How a stream will end does not matter there: a fetch is
+-- no put.
+pub record RespondsBy (moves : Moves) (keep : ℕ) (asked : Result Asked Fault) (old : Seat) (answer : Answer) (new : Seat) : Type 0 where
+  pub middle : Seat
+  pub reacts : ReactsBy moves asked old answer middle
+  pub keeps : AsksItself moves (expired_behind keep asked (fault_in answer) reacts.after) middle new
 
 -- each payload of a reply fits a message; those of a stream do
 abbrev pub FitsMessages : Answer → Type 0

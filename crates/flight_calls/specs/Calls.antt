@@ -71,26 +71,3 @@ asked_by options call = wanted (method_at call.path) UnknownMethod >>= λ found.
 abbrev pub ReplyTo : Result Asked Fault → Log → ReplyAt → Log → Type 0
 ReplyTo (Ok asked) log reply new = StepOn log asked reply new
 ReplyTo (Err fault) log reply new = (new ≡ log) × (reply ≡ refusal fault)
-
--- ---- the calls that ask, of which the others are refused before they come to the core
-
--- what is asked, with what is asked after it
-abbrev pub with_asked : Result Asked Fault → List Asked → List Asked
-with_asked (Ok asked) more = asked ∷ more
-with_asked (Err fault) more = more
-
--- what the calls ask, in order
-abbrev pub asked_in_all : Options → List Call → List Asked
-asked_in_all options [] = []
-asked_in_all options (call ∷ calls) = with_asked (asked_by options call) (asked_in_all options calls)
-
--- the reply to what is asked, with the replies after it
-abbrev pub with_reply : Result Asked Fault → ReplyAt → List ReplyAt → List ReplyAt
-with_reply (Ok asked) reply replies = reply ∷ replies
-with_reply (Err fault) reply replies = replies
-
--- the replies to what the calls ask, in order
-abbrev pub replies_to_asked : Options → List Call → List ReplyAt → List ReplyAt
-replies_to_asked options (call ∷ calls) (reply ∷ replies) =
-    with_reply (asked_by options call) reply (replies_to_asked options calls replies)
-replies_to_asked options _ _ = []

@@ -18,7 +18,7 @@ use Rattle.version_log.specs.Log.{Log, puts_in, database_of, Begins}
 use Rattle.flight_calls.specs.declared.setting.Options.{Options}
 use Rattle.flight_calls.specs.Calls.{Call, asked_by}
 use Rattle.flight_calls.specs.Seats.{Seat, Moves}
-use Rattle.flight_calls.specs.Reacts.{StartsAt, Reacts, Answers}
+use Rattle.flight_calls.specs.Reacts.{StartsAt, Responds, Answers}
 use Rattle.flight_calls.specs.Owed.{Connection, Serves}
 
 -- What a call leaves is where every later call of the connection starts, but for a put or an expiry that was read, which goes by
@@ -26,8 +26,8 @@ use Rattle.flight_calls.specs.Owed.{Connection, Serves}
 abbrev pub LaterCallsSee : Moves → Type 0
 LaterCallsSee moves = (options : Options) (one other : Result Asked Fault) (before between behind new : Seat)
     (reply answer : ReplyAt) (calls : List Call) (replies : List ReplyAt)
-    → (earlier : Reacts moves one before reply between) → Answers moves options between calls replies behind
-    → (later : Reacts moves other behind answer new) → StartsAt other earlier.after later.log
+    → (earlier : Responds moves options.keep one before reply between) → Answers moves options between calls replies behind
+    → (later : Responds moves options.keep other behind answer new) → StartsAt other earlier.reacts.after later.reacts.log
 
 -- ---- several connections
 
@@ -35,7 +35,7 @@ LaterCallsSee moves = (options : Options) (one other : Result Asked Fault) (befo
 abbrev pub logs_of : (moves : Moves) (options : Options) (old new : Seat) (calls : List Call) (replies : List ReplyAt)
     → Answers moves options old calls replies new → List Log
 logs_of moves options old new (call ∷ calls) (reply ∷ replies) answers =
-    answers.1.log ∷ logs_of moves options answers.0 new calls replies answers.2
+    answers.1.reacts.log ∷ logs_of moves options answers.0 new calls replies answers.2
 logs_of moves options old new _ _ answers = []
 
 -- A connection gave this reply to what was asked of it, by a step from this log. Then or later its seat learnt what was

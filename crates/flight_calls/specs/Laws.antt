@@ -1,5 +1,6 @@
 -- Laws of what became of a connection.
 use Rattle.std.specs.Prelude.{◌≡◌, ◌+◌, ℕ, List, [], ◌∷◌, ◌++◌, map, Option, Some, None, Result, Ok, Err}
+use Rattle.std.specs.List.{flat_map}
 use Rattle.scan_base.specs.declared.fault.Fault.{Fault}
 use Rattle.scan_base.specs.declared.fault.Fault.TheVariants.{Transport}
 use Rattle.flight_info.specs.Replies.{ReplyAt}
@@ -11,7 +12,8 @@ use Rattle.flight_core.specs.Puts.{put_said}
 use Rattle.flight_core.specs.Machine.{Run}
 use Rattle.flight_core.specs.Headline.{Headline}
 use Rattle.flight_calls.specs.declared.setting.Options.{Options}
-use Rattle.flight_calls.specs.Calls.{Call, asked_by, asked_in_all, replies_to_asked}
+use Rattle.flight_calls.specs.Calls.{Call}
+use Rattle.flight_calls.specs.Exchanges.{Exchange, exchanges_of, WithOwn, asked_in, replies_in}
 use Rattle.flight_calls.specs.Seats.{Seat, Moves, alone}
 use Rattle.flight_calls.specs.Reacts.{Answers}
 use Rattle.flight_calls.specs.Owed.{Connection, Serves, EndsInside, behind_calls, answer_bytes, Wrote, Fails}
@@ -51,23 +53,23 @@ entries_of (Ok (fetch ticket workers)) reply = []
 entries_of (Ok (expire action)) reply = marked_by reply.fault (expiry_of action)
 entries_of (Err fault) reply = []
 
--- the entries of the accepted puts of calls, and the marks of their expiries, in order
-abbrev pub entries_in_all : Options → List Call → List ReplyAt → Log
-entries_in_all options (call ∷ calls) (reply ∷ replies) =
-    entries_of (asked_by options call) reply ++ entries_in_all options calls replies
-entries_in_all options _ _ = []
+-- the entries of exchanges, in order
+abbrev pub entries_in : List Exchange → Log
+entries_in all = flat_map (λ one. entries_of one.asked one.reply) all
 
--- A connection makes the accepted puts and the marks of its whole calls, in order, and no other entry.
+-- A connection makes the accepted puts and the marks of its whole calls, in order, and no other entry but the marks of the
+-- expiries that the server asks of itself.
 abbrev pub PutsAreMade : Moves → Type 0
 PutsAreMade moves = (options : Options) (old new : Seat) (calls : List Call) (replies : List ReplyAt)
-    → Answers moves options old calls replies new → new.made ≡ old.made ++ entries_in_all options calls replies
+    → Answers moves options old calls replies new
+    → (all : List Exchange) × WithOwn options calls replies all × (new.made ≡ old.made ++ entries_in all)
 
--- The answers of a connection that shares its log with none are a run of the core on what its calls ask: a call that is
--- refused before it comes to the core changes nothing.
+-- The answers of a connection that shares its log with none are a run of the core, on what its calls ask and on the expiries that
+-- the server asks of itself: a call that is refused before it comes to the core changes nothing.
 abbrev pub AnswersAreARun : Type 0
 AnswersAreARun = (options : Options) (old new : Seat) (calls : List Call) (replies : List ReplyAt)
     → Answers alone options old calls replies new
-    → Run old.log (asked_in_all options calls) (replies_to_asked options calls replies) new.log
+    → (all : List Exchange) × WithOwn options calls replies all × Run old.log (asked_in all) (replies_in all) new.log
 
 -- So the headline holds of each such connection whose log was empty, from the bytes that came, which are those of the calls and
 -- of a rest, to the bytes that were written, which are those of the replies: if every endpoint of an info was fetched to
@@ -75,4 +77,10 @@ AnswersAreARun = (options : Options) (old new : Seat) (calls : List Call) (repli
 abbrev pub ServedMeetsHeadline : Type 0
 ServedMeetsHeadline =
     (options : Options) (result : Result (Unit {0}) Fault) (old new : Connection) (serves : Serves alone options result old new)
-    → old.seat.log ≡ [] → Headline (asked_in_all options serves.calls) (replies_to_asked options serves.calls serves.replies)
+    → old.seat.log ≡ []
+    → (all : List Exchange) × WithOwn options serves.calls serves.replies all × Headline (asked_in all) (replies_in all)
+
+-- Where all versions are kept a server asks nothing of itself: the exchanges are those of its calls.
+abbrev pub AllKeptAsksNothing : Type 0
+AllKeptAsksNothing = (options : Options) (calls : List Call) (replies : List ReplyAt) (all : List Exchange)
+    → options.keep ≡ 0 → WithOwn options calls replies all → all ≡ exchanges_of options calls replies

@@ -6,6 +6,7 @@ pub mod Owed
 pub mod Ending
 pub mod Requests
 pub mod Reading
+pub mod Exchanges
 pub mod Laws
 pub mod Joining
 pub mod Answered

@@ -1,12 +1,12 @@
 -- What a call does over a backend.
-use Rattle.std.specs.Prelude.{◌≡◌, ◌≢◌, ◌⊎◌, ◌<◌, List, [], ◌∷◌, ◌++◌, IsOk, Some, Result, Ok, Err}
+use Rattle.std.specs.Prelude.{◌≡◌, ◌≢◌, ◌⊎◌, ◌<◌, ℕ, zero, suc, ◌+◌, ◌-◌, List, [], ◌∷◌, ◌++◌, IsOk, Option, Some, None, Result, Ok, Err}
 use Rattle.scan_base.specs.declared.fault.Fault.{Fault}
 use Rattle.scan_base.specs.declared.fault.Fault.TheVariants.{OutOfMemory}
-use Rattle.flight_proto.specs.Expiry.{expiry_of}
+use Rattle.flight_proto.specs.Expiry.{expiry_of, expiry_bytes}
 use Rattle.flight_info.specs.Infos.{handle_asked, rows_wanted, tables_wanted, schema_wanted}
 use Rattle.flight_info.specs.Replies.{ReplyAt}
 use Rattle.flight_core.specs.Asked.{Asked, put, info, tables, schema, fetch, expire}
-use Rattle.version_log.specs.Log.{Log, Begins}
+use Rattle.version_log.specs.Log.{Log, puts_in, Begins}
 use Rattle.flight_core.specs.Puts.{put_said}
 use Rattle.flight_calls.specs.declared.setting.Options.{Options}
 use Rattle.flight_calls.specs.Calls.{Call, asked_by, ReplyTo}
@@ -54,9 +54,33 @@ pub record Reacts (moves : Moves) (asked : Result Asked Fault) (old : Seat) (rep
   pub goes : Goes moves asked old log after new
   pub looked : reply.fault ≢ Some OutOfMemory → HasLooked asked old log new
 
+-- ---- versions that are kept
+
+-- the oldest version that is kept, where the newest so many are: 0, the first of all, where all are kept, as they are for 0
+abbrev pub oldest_kept : ℕ → ℕ → ℕ
+oldest_kept zero newest = 0
+oldest_kept keep newest = newest + 1 - keep
+
+-- below this number versions are expired behind a reply: below the oldest that is kept, where it accepts a put
+abbrev pub expired_behind : ℕ → Result Asked Fault → Option Fault → Log → ℕ
+expired_behind keep (Ok (put payloads)) None after = oldest_kept keep (puts_in after)
+expired_behind keep _ fault after = 0
+
+-- The server asks of itself to expire the versions below a number, as a client may, and nobody is told of the reply. Below 0
+-- there are none, and it does not ask.
+abbrev pub AsksItself : Moves → ℕ → Seat → Seat → Type 0
+AsksItself moves zero old new = new ≡ old
+AsksItself moves (suc below) old new = (untold : ReplyAt) × Reacts moves (Ok (expire (expiry_bytes (suc below)))) old untold new
+
+-- a reply, and behind it the expiry of the versions that are not kept
+pub record Responds (moves : Moves) (keep : ℕ) (asked : Result Asked Fault) (old : Seat) (reply : ReplyAt) (new : Seat) : Type 0 where
+  pub middle : Seat
+  pub reacts : Reacts moves asked old reply middle
+  pub keeps : AsksItself moves (expired_behind keep asked reply.fault reacts.after) middle new
+
 -- one reply a call, in order, each from the seat that the one before left
 abbrev pub Answers : Moves → Options → Seat → List Call → List ReplyAt → Seat → Type 0
 Answers moves options old [] [] new = new ≡ old
 Answers moves options old (call ∷ calls) (reply ∷ replies) new =
-    (middle : Seat) × Reacts moves (asked_by options call) old reply middle × Answers moves options middle calls replies new
+    (middle : Seat) × Responds moves options.keep (asked_by options call) old reply middle × Answers moves options middle calls replies new
 Answers moves options old _ _ new = ⊥

@@ -37,17 +37,17 @@ LooksOnce old new = new.looks ≡ old.looks + 1
 abbrev pub MayLook : Seat → Seat → Type 0
 MayLook old new = (new.looks ≡ old.looks) ⊎ LooksOnce old new
 
--- A put at a log: the entry of an accepted one is its last, and the last of those that the seat made. A refused one changes
--- nothing, and its fault is due, or memory was refused.
-abbrev pub PutsAt : Result (Unit {0}) Fault → Seat → Log → Put → Log → Seat → Type 0
-PutsAt (Ok done) old log put next new = IsOk (after (database_of log) (puts_in log) put)
-    × (next ≡ log ++ added put ∷ []) × (new.made ≡ old.made ++ added put ∷ [])
+-- A put at a log: the entry of an accepted one is its last, and the last of those that the seat made, and its number is how
+-- many puts there are then. A refused one changes nothing, and its fault is due, or memory was refused.
+abbrev pub PutsAt : Result ℕ Fault → Seat → Log → Put → Log → Seat → Type 0
+PutsAt (Ok number) old log put next new = IsOk (after (database_of log) (puts_in log) put)
+    × (next ≡ log ++ added put ∷ []) × (new.made ≡ old.made ++ added put ∷ []) × (number ≡ puts_in next)
 PutsAt (Err fault) old log put next new = (next ≡ log) × (new.made ≡ old.made)
     × (fault ≢ OutOfMemory → after (database_of log) (puts_in log) put ≡ Err fault)
 
 -- A put at the log that it meets, which is refused by its first fault if it has one. Behind it the seat has seen that log with
 -- the put, and all that it had seen.
-pub record Puts (moves : Moves) (result : Result (Unit {0}) Fault) (old : Seat) (put : Put) (new : Seat) : Type 0 where
+pub record Puts (moves : Moves) (result : Result ℕ Fault) (old : Seat) (put : Put) (new : Seat) : Type 0 where
   pub log : Log
   pub next : Log
   pub at : PutsAt result old log put next new

@@ -23,13 +23,13 @@ pub trait Backend {
     // Which steps, from a log to a log, it takes from a seat to a seat.
     ghost moves: { Seat → Log → Log → Seat → Type 0 };
 
-    /// Makes the next version, with this put, and learns of it.
+    /// Makes the next version, with this put, gives its number, and learns of it.
     ///
     /// # Errors
     ///
     /// The first fault for which the put is refused, and F21 (`Fault::OutOfMemory`) only for a put that none of them refuses.
     /// Nothing has changed then.
-    fn put(&mut self, alloc: Global, put: Put) -> Result<(), Fault>
+    fn put(&mut self, alloc: Global, put: Put) -> Result<u64, Fault>
         ensures { Puts moves result (seat self.old) (put_of put) (seat self.new) };
 
     /// Marks the versions below a number as expired, gives the floor behind the mark, and learns of it. It is no look.
@@ -163,8 +163,9 @@ impl Backend for Alone {
 
     ghost moves = { alone };
 
-    fn put(&mut self, alloc: Global, put: Put) -> Result<(), Fault> {
-        self.plain.put(alloc, put)
+    fn put(&mut self, alloc: Global, put: Put) -> Result<u64, Fault> {
+        self.plain.put(alloc, put)?;
+        Ok(self.plain.current().number())
     }
 
     fn expire(&mut self, _alloc: Global, version: u64) -> Result<u64, Fault> {

@@ -1,7 +1,7 @@
 //! Laws of connections. Each function here does nothing: its contract is a law.
 
 ghost use Rattle.flight_calls.specs.Joining.{LaterCallsSee, SeatsMeetJoined};
-ghost use Rattle.flight_calls.specs.Laws.{FailedReadsAnswerAll, PutsAreMade, AnswersAreARun, ServedMeetsHeadline};
+ghost use Rattle.flight_calls.specs.Laws.{FailedReadsAnswerAll, PutsAreMade, AnswersAreARun, ServedMeetsHeadline, AllKeptAsksNothing};
 
 use crate::backend::Backend;
 pub use flight_core::laws::joined;
@@ -12,14 +12,20 @@ pub fn failed_reads_answer_all<B: Backend>()
     ensures { FailedReadsAnswerAll B.moves }
 {}
 
-/// A connection makes the accepted puts and the marks of its whole calls, in order, and no other entry, over any backend.
+/// A connection makes the accepted puts and the marks of its whole calls, in order, and no other entry but the marks of expiries
+/// that the server asks of itself, over any backend.
 pub fn puts_are_made<B: Backend>()
     ensures { PutsAreMade B.moves }
 {}
 
-/// The answers of a connection that shares its log with none are a run of the core on what its calls ask.
+/// The answers of a connection that shares its log with none are a run of the core on what its calls and the server ask.
 pub fn answers_are_a_run()
     ensures { AnswersAreARun }
+{}
+
+/// Where all versions are kept the server asks nothing of itself.
+pub fn all_kept_asks_nothing()
+    ensures { AllKeptAsksNothing }
 {}
 
 /// What becomes of a connection that begins with the empty log meets the headline: so it holds of what `serve_alone`

@@ -4,7 +4,7 @@ ghost use Rattle.std.specs.Prelude.{◌≡◌, ◌++◌, ◌∷◌, [], ℕ, Lis
 ghost use Rattle.flight_info.specs.Payloads.{Payload};
 ghost use Rattle.flight_calls.specs.declared.request.Method.TheVariants as variant;
 ghost use Rattle.flight_calls.specs.Calls.{Call, method_at, asked_with, asked_by};
-ghost use Rattle.flight_calls.specs.Answered.{ReactsBy, FitsMessages};
+ghost use Rattle.flight_calls.specs.Answered.{ReactsBy, RespondsBy, FitsMessages};
 ghost use Rattle.flight_calls.specs.Requests.{IsRefused, Holds};
 
 use crate::answer::Answer;
@@ -143,14 +143,16 @@ impl Request {
     }
 
     /// What answers the call, once its End came: a step of the core over the backend, or the stream of a fetch. F4 where
-    /// another method than DoPut has no message.
+    /// another method than DoPut has no message. Behind an accepted put the versions that are not kept are expired.
     pub fn answer<B: Backend>(self, alloc: Global, backend: &mut B, options: Options) -> Answer
         ensures reply { (call : Call) → Holds self call
-            → ReactsBy B.moves (asked_by options call) (B.seat backend.old) result (B.seat backend.new) }
+            → RespondsBy B.moves options.keep (asked_by options call) (B.seat backend.old) result (B.seat backend.new) }
         ensures short { FitsMessages result }
     {
         match self {
-            Request::Put(reader) => Answer::Whole(put_on(alloc, backend, reader.into_put())),
+            Request::Put(reader) => {
+                Answer::Whole(put_on(alloc, backend, reader.into_put(), options.keep))
+            }
             Request::Awaits(_) => Answer::Whole(Reply::refusal(alloc, Fault::BadProto)),
             Request::Asks(method, message) => {
                 answer_message(alloc, backend, method, message.as_slice(), options)

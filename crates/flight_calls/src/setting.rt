@@ -9,6 +9,8 @@ pub struct Options {
     pub parts: u32,
     /// How many workers may scan for the answer to a fetch, which is the same for any number.
     pub workers: usize,
+    /// How many versions are kept behind an accepted put, the newest ones: the older ones are expired. 0 keeps all.
+    pub keep: u64,
 }
 
 /// By what a server answers: where its memory comes from, who makes the payloads of a fetch, and its options.

@@ -13,7 +13,8 @@ ghost use Rattle.flight_core.specs.Puts.{put_glance, put_said};
 ghost use Rattle.flight_core.specs.Refusals.{GivesBehind, RefusedBy};
 ghost use Rattle.flight_calls.specs.Calls.{info_asked};
 ghost use Rattle.flight_calls.specs.Seats.{Learns};
-ghost use Rattle.flight_calls.specs.Reacts.{Reacts};
+ghost use Rattle.flight_calls.specs.Keeping.{oldest_kept, KeepsFrom};
+ghost use Rattle.flight_calls.specs.Reacts.{Reacts, Responds};
 ghost use Rattle.flight_calls.specs.Answered.{ReactsBy, FitsMessages};
 
 use crate::answer::Answer;
@@ -27,11 +28,17 @@ use sql_text::MOST_BYTES;
 use std::alloc::Global;
 use table_versions::{Put, Snapshot};
 
-// Answers a put whose payloads were read, or its first fault. The growths of its answer come before the put.
-pub fn put_on<B: Backend>(alloc: Global, backend: &mut B, read: Result<Put, Fault>) -> Reply
+// Answers a put whose payloads were read, or its first fault. The growths of its answer come before the put. Behind an accepted
+// one the versions that are not kept are expired.
+pub fn put_on<B: Backend>(
+    alloc: Global,
+    backend: &mut B,
+    read: Result<Put, Fault>,
+    keep: u64,
+) -> Reply
     ensures step { (payloads : List Payload)
         → GivesBehind (put_glance payloads) put_of read (put_said payloads)
-        → Reacts B.moves (Ok (put payloads)) (B.seat backend.old) result (B.seat backend.new) }
+        → Responds B.moves keep (Ok (put payloads)) (B.seat backend.old) result (B.seat backend.new) }
     ensures fits { FitMessages result.payloads }
 {
     let put = match read {
@@ -42,9 +49,23 @@ pub fn put_on<B: Backend>(alloc: Global, backend: &mut B, read: Result<Put, Faul
         return Reply::refusal(alloc, Fault::OutOfMemory);
     };
     match backend.put(alloc, put) {
-        Ok(()) => Reply::whole(answer),
+        Ok(newest) => {
+            keep_newest(alloc, backend, keep, newest);
+            Reply::whole(answer)
+        }
         Err(fault) => Reply::refusal(alloc, fault),
     }
+}
+
+// Expires what is older than so many versions up to the newest, and nothing where all are kept. An expiry that is refused is
+// left to the next put: nobody asked for it.
+fn keep_newest<B: Backend>(alloc: Global, backend: &mut B, keep: u64, newest: u64)
+    ensures { KeepsFrom B.moves (oldest_kept keep newest) (B.seat backend.old) (B.seat backend.new) }
+{
+    if keep == 0 || newest < keep {
+        return;
+    }
+    let _ = backend.expire(alloc, newest - keep + 1);
 }
 
 // Answers an expiry. Its answer takes no memory.

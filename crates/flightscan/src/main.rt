@@ -68,7 +68,11 @@ where
             let setting = Setting {
                 alloc: rt.alloc(),
                 executor: &Workers::new(rt),
-                options: Options { parts, workers },
+                options: Options {
+                    parts,
+                    workers,
+                    keep: 0,
+                },
             };
             pipe(&setting, seed, input, output, faults)
         }

@@ -1,7 +1,7 @@
 //! Old versions that are expired, over loopback from a `serve` in another thread.
 
 use crate::WHOLE;
-use crate::asking::{Wire, add_all, connected, endpoints_of, fetched, put_into};
+use crate::asking::{Wire, add_all, add_lines, connected, endpoints_of, fetched, put_into};
 use crate::clients::add_heard;
 use crate::streams::{ONE_TO_FIVE, SIX_AND_SEVEN};
 use client_calls::Failure;
@@ -60,4 +60,24 @@ where
     }
     add_fault(alloc, told, &wire, &endpoints)?;
     add_all(alloc, told, &wire)
+}
+
+// Two connections put three times, to a server that keeps two versions: five rows by the one, and two more behind them by the
+// other and then by the one. In between each asks where the rows are, at versions 1 and 2. Behind the third put the one that did
+// not make it fetches of version 1, which is expired, and the rows of version 2, which is kept; and the other those of version 3.
+pub(crate) fn put_beyond_kept<R>(rt: &R, port: u16, told: &mut String) -> Result<(), Failure>
+where
+    R: Net<Listener = TcpListener, Stream = TcpStream> + AllocGlobal,
+{
+    let alloc = rt.alloc();
+    let one = connected(rt, port, WHOLE)?;
+    let other = connected(rt, port, WHOLE)?;
+    put_into(alloc, &one, PutMode::Create, ONE_TO_FIVE)?;
+    let first = endpoints_of(alloc, &one)?;
+    put_into(alloc, &other, PutMode::Append, SIX_AND_SEVEN)?;
+    let second = endpoints_of(alloc, &other)?;
+    put_into(alloc, &one, PutMode::Append, SIX_AND_SEVEN)?;
+    add_fault(alloc, told, &other, &first)?;
+    add_lines(alloc, told, [&other, &other], &second)?;
+    add_all(alloc, told, &one)
 }

@@ -34,6 +34,8 @@ fn main(rt: HostRuntime) -> io::Result<()> {
     println!(rt; "formats: {formats}")?;
     let expired = beside(&rt, 4, Client::Expires)?;
     println!(rt; "expired versions: {expired}")?;
+    let kept = beside(&rt, 2, Client::PutsBeyondKept)?;
+    println!(rt; "kept versions: {kept}")?;
     let port = told_port(&rt)?;
     println!(rt; "nobody listens: {port}")?;
     for case in PUTS.iter() {

@@ -5,7 +5,7 @@ ghost use Rattle.std.specs.Prelude.{◌≡◌};
 use crate::asking::connected;
 use crate::at_once::{stay_open, stay_whole};
 use crate::clients::run_commands;
-use crate::expiring::expire_old;
+use crate::expiring::{expire_old, put_beyond_kept};
 use crate::formats::run_formats;
 use crate::texts::push_text;
 use client_calls::Failure;
@@ -37,6 +37,18 @@ pub(crate) enum Client {
     Formats,
     // Old versions that are expired.
     Expires,
+    // Versions of which the server keeps the newest two.
+    PutsBeyondKept,
+}
+
+impl Client {
+    // How many versions its server keeps; 0 stands for all.
+    fn keep(self) -> u32 {
+        match self {
+            Client::PutsBeyondKept => 2,
+            _ => 0,
+        }
+    }
 }
 
 // Has a client call the server at this port, and adds what comes of it.
@@ -50,6 +62,7 @@ where
         Client::Commands => run_commands(rt, port, told),
         Client::Formats => Ok(run_formats(rt, port, told)?),
         Client::Expires => expire_old(rt, port, told),
+        Client::PutsBeyondKept => put_beyond_kept(rt, port, told),
     }
 }
 
@@ -118,8 +131,8 @@ struct Served {
     faults: MemoryOutput,
 }
 
-// Serves so many connections, two at once.
-fn serve_bound<R>(host: Host<'_, R>, mut bound: Bound<'_, R>, accept: u16) -> Served
+// Serves so many connections, two at once, and keeps so many versions.
+fn serve_bound<R>(host: Host<'_, R>, mut bound: Bound<'_, R>, accept: u16, keep: u32) -> Served
 where
     R: Net<Listener = TcpListener, Stream = TcpStream> + Threads + Wait + Clock + Sync,
 {
@@ -131,7 +144,7 @@ where
         seats: 2,
         accept,
         idle: 0,
-        keep: 0,
+        keep,
         parts: 2,
         workers: 1,
     };
@@ -180,7 +193,7 @@ where
     let bound = Bound { port, number };
     let (served, told) = thread::join(
         rt,
-        move || serve_bound(host, bound, accept),
+        move || serve_bound(host, bound, accept, client.keep()),
         || called(rt, client, number, accept),
     );
     let mut line = format!(in alloc; "server {} {}", served.status, served.names_port)?;

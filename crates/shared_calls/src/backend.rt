@@ -72,9 +72,8 @@ impl<'a, C: CellName, R: Wait + Drop, H: Wait> Backend for Shared<'a, C, R, H> {
 
     ghost moves = { onward };
 
-    fn put(&mut self, alloc: Global, put: Put) -> Result<(), Fault> {
-        self.putter.put(self.rt, alloc, &mut self.scanner, put)?;
-        Ok(())
+    fn put(&mut self, alloc: Global, put: Put) -> Result<u64, Fault> {
+        self.putter.put(self.rt, alloc, &mut self.scanner, put)
     }
 
     fn expire(&mut self, alloc: Global, version: u64) -> Result<u64, Fault> {

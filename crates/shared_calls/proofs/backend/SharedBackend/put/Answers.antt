@@ -1,12 +1,8 @@
-use Rattle.std.proofs.Common.{rules}
-use Rattle.std.proofs.lemmas.Result.{err_from_is_err_and}
-use Rattle.shared_calls.proofs.Sharing.{accepted, refused}
+use Rattle.std.proofs.Common.{refl, sym}
+use Rattle.table_versions.specs.Stored.{put_of}
+use Rattle.shared_calls.proofs.Sharing.{puts_so}
 use Rattle.shared_calls.proofs.backend.SharedBackend.put.Goals as goal
 
 pub returns : goal.returns
-returns g c = search (rules, accepted)
-
-pub returns-in_err-put : goal.returns-in_err-put
-returns-in_err-put g c =
-    let p = err_from_is_err_and c.from_residual.result c.from_residual.ensures.1 in
-    rw (p.1, p.2) (search (rules, refused))
+returns g c =
+    puts_so c.put-2.result _ _ _ _ (put_of c.args.put) c.put-2.ensures.put c.put-2.ensures.made c.put-2.ensures.number c.put-2.ensures.begins c.put-2.ensures.enters.0 (sym c.self.view_is) refl

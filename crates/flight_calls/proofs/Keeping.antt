@@ -1,0 +1,151 @@
+-- Versions that are kept behind a reply, and the expiry of the others, which the server asks of itself.
+use Rattle.std.proofs.Common.{◌≡◌, ◌≢◌, ◌<◌, ◌≤◌, ℕ, zero, suc, ◌+◌, ◌-◌, ◌^◌, ◌⊎◌, List, [], ◌∷◌, length, Option, Some, None, Result, Ok, Err, refl, sym, ap, subst, inl, inr, arith}
+use Rattle.std.specs.Prelude.{codes}
+use lib.Utf8.{encode}
+use Rattle.byteorder.specs.Endian.{big_bytes}
+use Rattle.byteorder.specs.Numbers.{big_number-reads_back}
+use Rattle.scan_base.specs.declared.fault.Fault.{Fault}
+use Rattle.scan_base.specs.declared.fault.Fault.TheVariants.{OutOfMemory}
+use Rattle.table_versions.specs.Database.{Put}
+use Rattle.flight_proto.specs.Action.{ActionSaid, action_of, action_bytes}
+use Rattle.flight_proto.specs.Expiry.{expire_name, expiry_of, expiry_bytes, floor_bytes}
+use Rattle.flight_proto.specs.Laws.{IsAction, IsText}
+use Rattle.flight_proto.specs.Wanted.{Wanted, wanted_in, rows_of, tables as list}
+use Rattle.flight_proto.proofs.ReadsBack.{action_back}
+use Rattle.flight_info.specs.Payloads.{Payload}
+use Rattle.flight_info.specs.Replies.{ReplyAt, refusal, whole}
+use Rattle.flight_core.specs.Asked.{Asked, put, expire}
+use Rattle.version_log.specs.Log.{Log, added, Begins}
+use Rattle.flight_core.specs.Puts.{put_said}
+use Rattle.flight_core.specs.Machine.{PutStep}
+use Rattle.flight_calls.specs.declared.answer.Answer.{Answer}
+use Rattle.flight_calls.specs.declared.answer.Answer.TheVariants.{Whole, Floor, Stream}
+use Rattle.flight_calls.specs.declared.request.Single.{Single}
+use Rattle.flight_calls.specs.declared.request.Single.TheVariants.{DoGet, GetFlightInfo, GetSchema, DoAction}
+use Rattle.flight_calls.specs.declared.setting.Options.{Options}
+use Rattle.flight_calls.specs.Calls.{ReplyTo, asked_with, info_asked}
+use Rattle.flight_calls.specs.Seats.{Seat, Moves, Puts, Expires}
+use Rattle.flight_calls.specs.Reacts.{Reacts, Responds, HasLooked, oldest_kept, expired_behind, AsksItself}
+use Rattle.flight_calls.specs.Answered.{AnsweredBy, IsReplyOf, fault_in, ReactsBy, RespondsBy}
+use Rattle.flight_calls.proofs.Reacting.{begins_itself, looks_not, said_ok, expiry_made, expiry_refused}
+
+-- ---- an answer that is written
+
+looked_so : (moves : Moves) (asked : Result Asked Fault) (old new : Seat) (answer : Answer) (reply : ReplyAt) (r : ReactsBy moves asked old answer new) → IsReplyOf answer reply → reply.fault ≢ Some OutOfMemory → HasLooked asked old r.log new
+looked_so moves asked old new (Whole whole) reply r is other = r.looked (rw is at other)
+looked_so moves asked old new (Floor floor) reply r is other = r.looked tt
+looked_so moves asked old new (Stream stream) reply r is other = r.looked tt
+
+abbrev reacted : (moves : Moves) (asked : Result Asked Fault) (old new : Seat) (answer : Answer) (reply : ReplyAt) (r : ReactsBy moves asked old answer new) → ReplyTo asked r.log reply r.after → IsReplyOf answer reply → Reacts moves asked old reply new
+reacted moves asked old new answer reply r step is = record { log = r.log; after = r.after; step = step; goes = r.goes; looked = looked_so moves asked old new answer reply r is }
+
+-- behind it the same versions are kept: a stream is no answer to a put
+kept_so : (keep : ℕ) (asked : Result Asked Fault) (log after : Log) (answer : Answer) (reply : ReplyAt) → AnsweredBy asked log answer after → IsReplyOf answer reply
+    → expired_behind keep asked (fault_in answer) after ≡ expired_behind keep asked reply.fault after
+kept_so keep asked log after (Whole whole) reply answered is = rw is refl
+kept_so keep asked log after (Floor floor) reply answered is = rw is refl
+kept_so keep asked log after (Stream stream) reply answered is = rw answered.3 refl
+
+pub written : (moves : Moves) (keep : ℕ) (asked : Result Asked Fault) (old new : Seat) (answer : Answer) (reply : ReplyAt) (r : RespondsBy moves keep asked old answer new)
+    → ReplyTo asked r.reacts.log reply r.reacts.after → IsReplyOf answer reply → Responds moves keep asked old reply new
+written moves keep asked old new answer reply r step is = record {
+  middle = r.middle;
+  reacts = reacted moves asked old r.middle answer reply r.reacts step is;
+  keeps = subst (λ (below : ℕ). AsksItself moves below r.middle new) (kept_so keep asked r.reacts.log r.reacts.after answer reply r.reacts.answered is) r.keeps;
+}
+
+-- ---- the expiry that a server asks of itself
+
+name_is_text : IsText expire_name
+unfolding encode
+name_is_text = ((codes "scan.expire", (refl, refl)), omega arith)
+
+-- the server reads what it asks
+own_reads : (version : ℕ) → version < 2 ^ 64 → expiry_of (expiry_bytes version) ≡ Ok version
+own_reads version small =
+    let action : ActionSaid = record { action_type = expire_name; body = big_bytes 8 version } in
+    let eight : length (big_bytes 8 version) ≡ 8 = refl in
+    let fits : IsAction action = (name_is_text, omega (arith, eight)) in
+    let reads : action_of (action_bytes action) ≡ Ok action = action_back action fits in
+    rw reads (ap Ok (big_number-reads_back 8 version [] small))
+
+own_replied : (moves : Moves) (old new : Seat) (version : ℕ) (result : Result ℕ Fault) → version < 2 ^ 64 → Expires moves result old version new
+    → (untold : ReplyAt) × Reacts moves (Ok (expire (expiry_bytes version))) old untold new
+own_replied moves old new version (Ok floor) small expires =
+    let answer = whole (floor_bytes floor ∷ []) in
+    let r = expiry_made moves old new (expiry_bytes version) version floor expires (own_reads version small) in
+    (answer, reacted moves (Ok (expire (expiry_bytes version))) old new (Floor floor) answer r r.answered refl)
+own_replied moves old new version (Err fault) small expires =
+    let r = expiry_refused moves old new (expiry_bytes version) version fault expires (own_reads version small) in
+    (refusal fault, reacted moves (Ok (expire (expiry_bytes version))) old new (Whole (refusal fault)) (refusal fault) r r.answered refl)
+
+-- all are kept
+pub all_are_kept : (keep newest : ℕ) → (keep ≡ 0) ⊎ (newest < keep) → oldest_kept keep newest ≡ 0
+all_are_kept zero newest is = refl
+all_are_kept (suc others) newest (inl none) = absurd (omega (arith, none))
+all_are_kept (suc others) newest (inr few) = let it : newest + 1 - suc others ≡ 0 = omega (arith, few) in it
+
+-- or not
+oldest_so : (keep newest : ℕ) → keep ≢ 0 → keep ≤ newest → oldest_kept keep newest ≡ suc (newest - keep)
+oldest_so zero newest some enough = absurd (some refl)
+oldest_so (suc others) newest some enough = let it : newest + 1 - suc others ≡ suc (newest - suc others) = omega (arith, enough) in it
+
+pub older_expire : (moves : Moves) (keep newest : ℕ) (old new : Seat) (version : ℕ) (result : Result ℕ Fault) → keep ≢ 0 → keep ≤ newest → newest < 2 ^ 64 → version ≡ newest - keep + 1
+    → Expires moves result old version new → AsksItself moves (oldest_kept keep newest) old new
+older_expire moves keep newest old new version result some enough small is expires =
+    let next : version ≡ suc (newest - keep) = omega (arith, is) in
+    let below : suc (newest - keep) < 2 ^ 64 = omega (arith, small, enough) in
+    rw (oldest_so keep newest some enough) (own_replied moves old new (suc (newest - keep)) result below (rw next at expires))
+
+-- ---- versions that are kept
+
+-- a seat only grows
+pub asking_grows : (moves : Moves) (below : ℕ) (old new : Seat) → AsksItself moves below old new → Begins old.log new.log
+asking_grows moves zero old new same = rw same (begins_itself old.log)
+asking_grows moves (suc below) old new asks = asks.1.goes.kept
+
+-- behind this reply none is expired
+pub all_kept : (moves : Moves) (keep : ℕ) (asked : Result Asked Fault) (old new : Seat) (answer : Answer) (r : ReactsBy moves asked old answer new)
+    → expired_behind keep asked (fault_in answer) r.after ≡ 0 → RespondsBy moves keep asked old answer new
+all_kept moves keep asked old new answer r none = record { middle = new; reacts = r; keeps = rw none refl }
+
+-- a call of one message is no put
+info_no_put : (keep parts : ℕ) (wanted : Result Wanted Fault) (payload : Payload) (fault : Option Fault) (after : Log) → expired_behind keep (Ok (info_asked wanted payload parts)) fault after ≡ 0
+info_no_put keep parts (Ok (rows_of text)) payload fault after = refl
+info_no_put keep parts (Ok list) payload fault after = refl
+info_no_put keep parts (Err cause) payload fault after = refl
+
+pub no_put : (keep : ℕ) (options : Options) (one : Single) (message : Payload) (fault : Option Fault) (after : Log) → expired_behind keep (Ok (asked_with options one message)) fault after ≡ 0
+no_put keep options DoGet message fault after = refl
+no_put keep options GetFlightInfo message fault after = info_no_put keep options.parts (wanted_in message) message fault after
+no_put keep options GetSchema message fault after = refl
+no_put keep options DoAction message fault after = refl
+
+-- a reply to a put that is held
+pub put_held : (moves : Moves) (keep : ℕ) (asked : Result Asked Fault) (old new : Seat) (reply : ReplyAt) → Responds moves keep asked old reply new → RespondsBy moves keep asked old (Whole reply) new
+put_held moves keep asked old new reply r = record {
+  middle = r.middle;
+  reacts = record { log = r.reacts.log; after = r.reacts.after; answered = r.reacts.step; goes = r.reacts.goes; looked = r.reacts.looked };
+  keeps = r.keeps;
+}
+
+-- ---- puts
+
+-- a refused one, behind which all is kept
+pub put_lost : (moves : Moves) (keep : ℕ) (old new : Seat) (payloads : List Payload) (fault : Fault) → Reacts moves (Ok (put payloads)) old (refusal fault) new → Responds moves keep (Ok (put payloads)) old (refusal fault) new
+put_lost moves keep old new payloads fault r = record { middle = new; reacts = r; keeps = refl }
+
+-- the backend made it, and so many versions are kept behind it
+pub put_made : (moves : Moves) (keep number : ℕ) (old middle new : Seat) (payloads : List Payload) (made : Put) (answers : List Payload) (p : Puts moves (Ok number) old made middle) → put_said payloads ≡ Ok made
+    → PutStep p.log payloads answers None p.next → AsksItself moves (oldest_kept keep number) middle new → Responds moves keep (Ok (put payloads)) old (whole answers) new
+put_made moves keep number old middle new payloads made answers p said step asks = record {
+  middle = middle;
+  reacts = record {
+    log = p.log;
+    after = p.next;
+    step = step;
+    goes = record { moved = p.moved; starts = inl (said_ok payloads made said); learnt = p.learnt; kept = p.kept; made = (added made ∷ [], p.at.1, p.at.2) };
+    looked = λ other looks. absurd (looks_not payloads looks);
+  };
+  keeps = subst (λ (newest : ℕ). AsksItself moves (oldest_kept keep newest) middle new) p.at.3 asks;
+}
