@@ -14,7 +14,7 @@ ghost use Rattle.flight_core.specs.Refusals.{GivesBehind, RefusedBy};
 ghost use Rattle.flight_calls.specs.Calls.{info_asked};
 ghost use Rattle.flight_calls.specs.Seats.{Learns};
 ghost use Rattle.flight_calls.specs.Keeping.{oldest_kept, KeepsFrom};
-ghost use Rattle.flight_calls.specs.Reacts.{Reacts, Responds};
+ghost use Rattle.flight_calls.specs.Reacts.{IsBeyond, Reacts, Responds};
 ghost use Rattle.flight_calls.specs.Answered.{ReactsBy, FitsMessages};
 
 use crate::answer::Answer;
@@ -122,6 +122,8 @@ pub fn schema_on<B: Backend>(alloc: Global, backend: &mut B, payload: &[u8]) -> 
 fn version_on<B: Backend>(backend: &mut B, number: u64) -> Result<Snapshot, Fault>
     ensures learns { Learns B.moves (B.seat backend.old) (B.seat backend.new) }
     ensures looked { result ≢ Err OutOfMemory → (B.seat backend.old).looks < (B.seat backend.new).looks }
+    ensures asks { result ≢ Err OutOfMemory → puts_in (B.seat backend.new).log < number
+        → (B.seat backend.old).asks < (B.seat backend.new).asks }
     ensures ok { IfOk result (λ snapshot. (number ≤ puts_in (B.seat backend.new).log)
         × (tables_of snapshot.catalog ≡ version (B.seat backend.new).log number)) }
     ensures kept { IfOk result (λ _. floor_of (B.seat backend.new).log ≤ number) }
@@ -149,6 +151,8 @@ fn open_on<B: Backend>(
     ensures learns { Learns B.moves (B.seat backend.old) (B.seat backend.new) }
     ensures looked { IsOk (handle_asked ticket.now) → result ≢ Err OutOfMemory
         → (B.seat backend.old).looks < (B.seat backend.new).looks }
+    ensures asks { result ≢ Err OutOfMemory → IsBeyond (handle_asked ticket.now) (B.seat backend.new).log
+        → (B.seat backend.old).asks < (B.seat backend.new).asks }
     ensures opens { OpensIn (B.seat backend.new).log ticket.now result }
 {
     let handle = read_ticket(ticket)?;
