@@ -1,5 +1,5 @@
 -- Versions that are kept behind a reply, and the expiry of the others, which the server asks of itself.
-use Rattle.std.proofs.Common.{◌≡◌, ◌≢◌, ◌<◌, ◌≤◌, ℕ, zero, suc, ◌+◌, ◌-◌, ◌^◌, ◌⊎◌, List, [], ◌∷◌, length, Option, Some, None, Result, Ok, Err, refl, sym, ap, subst, inl, inr, arith}
+use Rattle.std.proofs.Common.{◌≡◌, ◌≢◌, ◌<◌, ◌≤◌, ℕ, zero, suc, ◌+◌, ◌-◌, ◌^◌, List, [], ◌∷◌, length, Option, Some, None, Result, Ok, Err, refl, ap, subst, inl, arith}
 use Rattle.std.specs.Prelude.{codes}
 use lib.Utf8.{encode}
 use Rattle.byteorder.specs.Endian.{big_bytes}
@@ -84,23 +84,18 @@ own_replied moves old new version (Err fault) small expires =
     let r = expiry_refused moves old new (expiry_bytes version) version fault expires (own_reads version small) in
     (refusal fault, reacted moves (Ok (expire (expiry_bytes version))) old new (Whole (refusal fault)) (refusal fault) r r.answered refl)
 
--- all are kept
-pub all_are_kept : (keep newest : ℕ) → (keep ≡ 0) ⊎ (newest < keep) → oldest_kept keep newest ≡ 0
-all_are_kept zero newest is = refl
-all_are_kept (suc others) newest (inl none) = absurd (omega (arith, none))
-all_are_kept (suc others) newest (inr few) = let it : newest + 1 - suc others ≡ 0 = omega (arith, few) in it
-
--- or not
+-- where versions are left out
 oldest_so : (keep newest : ℕ) → keep ≢ 0 → keep ≤ newest → oldest_kept keep newest ≡ suc (newest - keep)
 oldest_so zero newest some enough = absurd (some refl)
 oldest_so (suc others) newest some enough = let it : newest + 1 - suc others ≡ suc (newest - suc others) = omega (arith, enough) in it
 
-pub older_expire : (moves : Moves) (keep newest : ℕ) (old new : Seat) (version : ℕ) (result : Result ℕ Fault) → keep ≢ 0 → keep ≤ newest → newest < 2 ^ 64 → version ≡ newest - keep + 1
-    → Expires moves result old version new → AsksItself moves (oldest_kept keep newest) old new
-older_expire moves keep newest old new version result some enough small is expires =
-    let next : version ≡ suc (newest - keep) = omega (arith, is) in
-    let below : suc (newest - keep) < 2 ^ 64 = omega (arith, small, enough) in
-    rw (oldest_so keep newest some enough) (own_replied moves old new (suc (newest - keep)) result below (rw next at expires))
+pub older_expire : (moves : Moves) (keep newest : ℕ) (old new : Seat) (result : Result ℕ Fault) → keep ≢ 0 → keep ≤ newest → newest < 2 ^ 64 → Expires moves result old (newest - keep + 1) new
+    → AsksItself moves (oldest_kept keep newest) old new
+older_expire moves zero newest old new result some enough small expires = absurd (some refl)
+older_expire moves (suc others) newest old new result some enough small expires =
+    let next : newest - suc others + 1 ≡ suc (newest - suc others) = omega arith in
+    let below : suc (newest - suc others) < 2 ^ 64 = omega (arith, small, enough) in
+    rw (oldest_so (suc others) newest some enough) (own_replied moves old new (suc (newest - suc others)) result below (rw next at expires))
 
 -- ---- versions that are kept
 

@@ -9,7 +9,7 @@ use Rattle.flight_proto.specs.Expiry.{expiry_of, floor_bytes}
 use Rattle.flight_info.specs.Payloads.{Payload}
 use Rattle.endpoint_split.specs.Handle.{HandleAt}
 use Rattle.flight_info.specs.Infos.{handle_asked}
-use Rattle.flight_info.specs.Replies.{ReplyAt, refusal, whole}
+use Rattle.flight_info.specs.Replies.{ReplyAt, refusal}
 use Rattle.flight_core.specs.Asked.{Asked, put, info, tables, schema, fetch, expire}
 use Rattle.version_log.specs.Expiry.{IsExpired}
 use Rattle.version_log.specs.Log.{Log, added, expired, puts_in, database_of, Begins}

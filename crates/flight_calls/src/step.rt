@@ -13,8 +13,7 @@ ghost use Rattle.flight_core.specs.Puts.{put_glance, put_said};
 ghost use Rattle.flight_core.specs.Refusals.{GivesBehind, RefusedBy};
 ghost use Rattle.flight_calls.specs.Calls.{info_asked};
 ghost use Rattle.flight_calls.specs.Seats.{Learns};
-ghost use Rattle.flight_calls.specs.Keeping.{oldest_kept, KeepsFrom};
-ghost use Rattle.flight_calls.specs.Reacts.{IsBeyond, Reacts, Responds};
+ghost use Rattle.flight_calls.specs.Reacts.{AsksItself, IsBeyond, Reacts, Responds, oldest_kept};
 ghost use Rattle.flight_calls.specs.Answered.{ReactsBy, FitsMessages};
 
 use crate::answer::Answer;
@@ -60,7 +59,7 @@ pub fn put_on<B: Backend>(
 // Expires what is older than so many versions up to the newest, and nothing where all are kept. An expiry that is refused is
 // left to the next put: nobody asked for it.
 fn keep_newest<B: Backend>(alloc: Global, backend: &mut B, keep: u64, newest: u64)
-    ensures { KeepsFrom B.moves (oldest_kept keep newest) (B.seat backend.old) (B.seat backend.new) }
+    ensures { AsksItself B.moves (oldest_kept keep newest) (B.seat backend.old) (B.seat backend.new) }
 {
     if keep == 0 || newest < keep {
         return;

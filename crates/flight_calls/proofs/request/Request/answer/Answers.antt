@@ -25,7 +25,8 @@ pub returns-in-Asks-clause-reply : goal.returns-in-Asks-clause-reply
 returns-in-Asks-clause-reply g c call holds =
     let has = rw c.in-Asks.is at holds in
     let asked = asks_one c.args.options call c.in-Asks.method c.in-Asks.message has.0 has.1 in
-    rw asked (all_kept g.B.Backend.moves c.args.options.keep (Ok (asked_with c.args.options c.in-Asks.method c.in-Asks.message)) _ _ _ c.answer_message.ensures.reply
+    let reply = rw c.as_slice.ensures at c.answer_message.ensures.reply in
+    rw asked (all_kept g.B.Backend.moves c.args.options.keep (Ok (asked_with c.args.options c.in-Asks.method c.in-Asks.message)) _ _ _ reply
     (no_put c.args.options.keep c.args.options c.in-Asks.method c.in-Asks.message _ _))
 
 pub returns-in-Settled-clause-reply : goal.returns-in-Settled-clause-reply
