@@ -42,11 +42,11 @@ impl Model for Blank {
     ghost Value = { BlankAt };
 
     ghost view = { λ b. record {
-        book = b.opened.seen.book;
-        ledger = b.ledgers.entries.name;
-        asks = b.ledgers.asks.name;
-        numbers = b.ledgers.numbers.name;
-        seats = b.seats
+      book = b.opened.seen.book;
+      ledger = b.ledgers.entries.name;
+      asks = b.ledgers.asks.name;
+      numbers = b.ledgers.numbers.name;
+      seats = b.seats;
     } };
 
     ghost invariant = { λ b. (0 < b.seats) × (b.seats ≤ most_seats) × (b.ledgers.entries.parts ≡ b.seats)

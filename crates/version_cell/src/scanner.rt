@@ -37,11 +37,11 @@ impl<C: CellName> Model for Scanner<C> {
     ghost Value = { Seat };
 
     ghost view = { λ s. record {
-        log = log_of s.maker.seen;
-        entered = log_of (read_or [] (λ reader. reader.place.me.0.client.log) s.reader);
-        enters = read_or 0 (λ reader. reader.place.me.0.client.enters) s.reader;
-        made = s.maker.made;
-        asks = s.maker.asks
+      log = log_of s.maker.seen;
+      entered = log_of (read_or [] (λ reader. reader.place.me.0.client.log) s.reader);
+      enters = read_or 0 (λ reader. reader.place.me.0.client.enters) s.reader;
+      made = s.maker.made;
+      asks = s.maker.asks;
     } };
 
     ghost invariant = { λ s. IsSome s.reader };
