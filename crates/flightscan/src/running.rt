@@ -117,7 +117,7 @@ where
 }
 
 // Serves one connection: from the input to the output.
-fn run_pipe<T: Threads, I: Input, W: Output, E: Output>(
+fn run_pipe<T: Threads + Wait + Sync, I: Input, W: Output, E: Output>(
     machine: Machine<'_, T>,
     streams: &mut Streams<I, W, E>,
     parts: u32,
