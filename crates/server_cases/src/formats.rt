@@ -25,7 +25,7 @@ where
 }
 
 // A put, its rows as CSV, its rows copied by an Arrow IPC stream, and groups of the copy in lines and as a table for people. Two
-// connections are made for all rows, and else one.
+// connections are made for the rows as CSV, and else one.
 pub(crate) fn run_formats<R>(rt: &R, port: u16, told: &mut String) -> Result<(), AllocError>
 where
     R: Net<Listener = TcpListener, Stream = TcpStream> + AllocGlobal + Threads + Sync,

@@ -30,7 +30,7 @@ fn main(rt: HostRuntime) -> io::Result<()> {
     println!(rt; "cut connection: {cut}")?;
     let commands = beside(&rt, 6, Client::Commands)?;
     println!(rt; "five commands: {commands}")?;
-    let formats = beside(&rt, 8, Client::Formats)?;
+    let formats = beside(&rt, 7, Client::Formats)?;
     println!(rt; "formats: {formats}")?;
     let expired = beside(&rt, 4, Client::Expires)?;
     println!(rt; "expired versions: {expired}")?;
