@@ -53,6 +53,7 @@ def main() -> int:
     parser.add_argument("--program", help="the built program (that of the repository)")
     words = parser.parse_args()
     path, running = program(words.program), []
+    (ROOT / NAMED).parent.mkdir(exist_ok=True)  # a page may keep files beside the program
     commands = session(pathlib.Path(words.page).read_text())
     try:
         for command, printed in commands:
