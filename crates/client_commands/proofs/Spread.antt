@@ -1,8 +1,8 @@
 -- Streams that are fetched side by side.
 use Rattle.std.proofs.Common.{◌≡◌, ℕ, ◌+◌, ◌<◌, arith, length, List, [], ◌∷◌, ◌++◌, map, Option, None, Result, Ok, Err, refl, subst, sym, ap, ◌∙◌, inl, inr}
 use Rattle.std.specs.List.{flat_map}
-use Rattle.std.proofs.lemmas.List.{map-append, append-nil, append_assoc, length-append}
-use Rattle.std.proofs.lemmas.List.Elements.{All-append, All-from_recursion}
+use Rattle.std.proofs.lemmas.List.{map-append, append-nil, append_assoc, length-append, length-map}
+use Rattle.std.proofs.lemmas.List.Elements.{All-append, All-from_recursion, All-weaker}
 use Rattle.std.proofs.lemmas.Grind.{flat_map-append}
 use Rattle.flight_proto.specs.FlightInfo.{EndpointSaid}
 use Rattle.flight_proto.specs.Wanted.{Wanted, wanted_bytes}
@@ -20,7 +20,8 @@ use Rattle.client_commands.specs.declared.apart.Refused.{Refused}
 use Rattle.client_commands.specs.declared.lost.Lost.{Lost}
 use Rattle.client_commands.specs.declared.lost.Lost.TheVariants.{Failed, Unconnected}
 use Rattle.client_commands.specs.inside.Parts.{Apart, BothGive, FetchesAlone, FetchesPart, FetchesParts, JoinsLast, Settles, SpreadsOrNot, TriesAgain}
-use Rattle.client_commands.specs.Spread.{Run, IsRun, EachGives, FailsBy, FetchesBy, FetchesOver, GivesAtLast, Giving, IsAsked, RefusesTwice, SharesEach, StopsOver, UnconnectedBy}
+use Rattle.client_commands.proofs.Even.{IsCut, front_part, last_part, only_part}
+use Rattle.client_commands.specs.Spread.{Run, IsRun, IsEvenPart, EachGives, FailsBy, FetchesBy, FetchesOver, GivesAtLast, Giving, IsAsked, RefusesTwice, SharesEach, StopsOver, UnconnectedBy}
 
 abbrev run_of : List EndpointSaid → List StreamAt → Line → Line → Run
 run_of endpoints streams old new = record { endpoints = endpoints; streams = streams; old = old; new = new }
@@ -34,6 +35,10 @@ asked run = run.endpoints
 abbrev gave : Run → List StreamAt
 gave run = run.streams
 
+-- a run has an even part of so many endpoints, over so many connections
+abbrev IsEven : ℕ → ℕ → Run → Type 0
+IsEven whole many run = IsEvenPart whole many (length run.endpoints)
+
 -- ---- over one connection
 
 pub one_fetched : (line last : Line) (endpoints : List EndpointSaid) (streams : List StreamAt) → FetchesEach endpoints streams line last
@@ -43,6 +48,7 @@ one_fetched line last endpoints streams fetched = record {
   fetched = All-from_recursion IsRun (run_of endpoints streams line last ∷ []) (fetched, tt);
   over = refl;
   all = append-nil endpoints;
+  even = All-from_recursion (IsEven (length endpoints) 1) (run_of endpoints streams line last ∷ []) (only_part (length endpoints), tt);
   in_order = append-nil streams;
 }
 
@@ -63,15 +69,29 @@ one_stops line last endpoints failure stops = record {
 -- ---- over one connection more
 
 module _ (lines : List Line) (line last : Line) (front back : List EndpointSaid) where
+  -- each has an even part
+  both_even : (before behind : List StreamAt) (over : FetchesOver lines front before) → IsCut (length front) (length back) (length lines)
+      → All (IsEven (length (front ++ back)) (length (lines ++ line ∷ []))) (over.runs ++ run_of back behind line last ∷ [])
+  both_even before behind over cut =
+      let run = run_of back behind line last in
+      let whole = length front + length back in
+      let many = length lines + 1 in
+      let each = All-append (IsEven whole many) over.runs (run ∷ [])
+      (All-weaker (IsEven (length front) (length lines)) (IsEven whole many)
+      (λ (one : Run) even. front_part (length front) (length back) (length lines) (length one.endpoints) cut even) over.runs over.even)
+      (All-from_recursion (IsEven whole many) (run ∷ []) (last_part (length front) (length back) (length lines) cut, tt)) in
+      rw (length-append front back, length-append lines (line ∷ [])) each
+
   pub both_fetched : (before behind : List StreamAt) → FetchesOver lines front before → FetchesEach back behind line last
-      → FetchesOver (lines ++ line ∷ []) (front ++ back) (before ++ behind)
-  both_fetched before behind over fetched =
+      → IsCut (length front) (length back) (length lines) → FetchesOver (lines ++ line ∷ []) (front ++ back) (before ++ behind)
+  both_fetched before behind over fetched cut =
       let run = run_of back behind line last in record {
         runs = over.runs ++ run ∷ [];
         fetched = All-append IsRun over.runs (run ∷ []) over.fetched (All-from_recursion IsRun (run ∷ []) (fetched, tt));
         over = map-append began over.runs (run ∷ []) ∙ ap (λ (l : List Line). l ++ line ∷ []) over.over;
         all = flat_map-append asked over.runs (run ∷ [])
             ∙ (ap (λ (l : List EndpointSaid). l ++ (back ++ [])) over.all ∙ ap (λ (l : List EndpointSaid). front ++ l) (append-nil back));
+        even = both_even before behind over cut;
         in_order = flat_map-append gave over.runs (run ∷ [])
             ∙ (ap (λ (l : List StreamAt). l ++ (behind ++ [])) over.in_order ∙ ap (λ (l : List StreamAt). before ++ l) (append-nil behind));
       }
@@ -144,6 +164,13 @@ module _ {N : Type 0} (Gives : N → Option Ends → N → Type 0) where
   gives_more (h ∷ hs) handle [] ends given one = absurd given
   gives_more (h ∷ hs) handle (m ∷ ms) ends given one = (given.0, gives_more hs handle ms ends given.1 one)
 
+  -- as many connections as handles
+  many_given : (handles : List N) (made : List Ends) → EachGives Gives handles made → length made ≡ length handles
+  many_given [] [] given = refl
+  many_given [] (m ∷ ms) given = absurd given
+  many_given (h ∷ hs) [] given = absurd given
+  many_given (h ∷ hs) (m ∷ ms) given = ap (λ (n : ℕ). n + 1) (many_given hs ms given.1)
+
   -- the lines of one connection more
   lines_more : (first : Line) (made : List Ends) (ends : Ends)
       → (first ∷ map opened_line made) ++ opened_line ends ∷ [] ≡ first ∷ map opened_line (made ++ ends ∷ [])
@@ -167,14 +194,19 @@ module _ {N : Type 0} (Gives : N → Option Ends → N → Type 0) where
 
   -- ---- over the first connections and that of the last handle
 
-  module _ (first : Line) (last : N) (handles init : List N) (endpoints front back : List EndpointSaid) (handles_are : handles ≡ init ++ last ∷ []) (parts_are : endpoints ≡ front ++ back) where
+  module _ (first : Line) (last : N) (handles init : List N) (endpoints front back : List EndpointSaid) (handles_are : handles ≡ init ++ last ∷ []) (parts_are : endpoints ≡ front ++ back) (cut : IsCut (length front) (length back) (length init + 1)) where
     all_by : (ends : Ends) (new : Line) (before behind : List StreamAt) → FetchesBy Gives first init front before → GivesAtLast Gives last ends
         → FetchesEach back behind (opened_line ends) new → FetchesBy Gives first handles endpoints (before ++ behind)
-    all_by ends new before behind by given fetched = rw (handles_are, parts_are) (record {
-      made = by.made ++ ends ∷ [];
-      given = gives_more init last by.made ends by.given given;
-      over = rw (lines_more first by.made ends) at (both_fetched (first ∷ map opened_line by.made) (opened_line ends) new front back before behind by.over fetched);
-    })
+    all_by ends new before behind by given fetched =
+        let lines : length (first ∷ map opened_line by.made) ≡ length init + 1
+        = ap (λ (n : ℕ). n + 1) (length-map by.made opened_line ∙ many_given init by.made by.given) in
+        let parts : IsCut (length front) (length back) (length (first ∷ map opened_line by.made))
+        = subst (λ (n : ℕ). IsCut (length front) (length back) n) (sym lines) cut in
+        rw (handles_are, parts_are) (record {
+          made = by.made ++ ends ∷ [];
+          given = gives_more init last by.made ends by.given given;
+          over = rw (lines_more first by.made ends) at (both_fetched (first ∷ map opened_line by.made) (opened_line ends) new front back before behind by.over fetched parts);
+        })
 
     last_fails : (ends : Ends) (new : Line) (before : List StreamAt) (failure : Failure) → FetchesBy Gives first init front before → GivesAtLast Gives last ends
         → FetchStops back failure (opened_line ends) new → FailsBy Gives first handles endpoints failure

@@ -1,5 +1,5 @@
 -- How rows are fetched side by side: over several connections, each with endpoints of its own.
-use Rattle.std.specs.Prelude.{◌≡◌, ◌≢◌, ◌⊎◌, ◌-◌, ℕ, List, [], ◌∷◌, ◌++◌, All, map, min, length, Result, Ok, Err}
+use Rattle.std.specs.Prelude.{◌≡◌, ◌≢◌, ◌⊎◌, ◌<◌, ◌+◌, ◌*◌, ◌-◌, ℕ, List, [], ◌∷◌, ◌++◌, All, map, min, length, Result, Ok, Err}
 use Rattle.std.specs.List.{flat_map}
 use Rattle.scan_base.specs.declared.fault.Fault.{Fault}
 use Rattle.scan_base.specs.declared.fault.Fault.TheVariants.{OutOfMemory}
@@ -28,13 +28,18 @@ pub record Run : Type 0 where
 abbrev pub IsRun : Run → Type 0
 IsRun run = FetchesEach run.endpoints run.streams run.old run.new
 
--- Each connection fetches the endpoints that follow those of the connection before it. These are the streams, in the
--- order of the endpoints.
+-- a part of a whole that is cut into so many: the quotient, rounded down or up
+abbrev pub IsEvenPart : (whole many part : ℕ) → Type 0
+IsEvenPart whole many part = (whole < (part + 1) * many) × (part * many < whole + many)
+
+-- Each connection fetches the endpoints that follow those of the connection before it, as many as every other or one more.
+-- These are the streams, in the order of the endpoints.
 pub record FetchesOver (lines : List Line) (endpoints : List EndpointSaid) (streams : List StreamAt) : Type 0 where
   pub runs : List Run
   pub fetched : All IsRun runs
   pub over : map (λ (run : Run). run.old) runs ≡ lines
   pub all : flat_map (λ (run : Run). run.endpoints) runs ≡ endpoints
+  pub even : All (λ (run : Run). IsEvenPart (length endpoints) (length lines) (length run.endpoints)) runs
   pub in_order : flat_map (λ (run : Run). run.streams) runs ≡ streams
 
 -- the first connections fetched all of their endpoints; and the last of these connections stopped with this failure

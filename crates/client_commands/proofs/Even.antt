@@ -1,0 +1,76 @@
+-- Parts of a whole that are as even as whole numbers are.
+use native.Mathlib.Omega.{arith}
+use Rattle.std.proofs.Common.{◌≡◌, ◌∙◌, ◌<◌, ◌≤◌, ◌⊎◌, inl, inr, ℕ, zero, suc, ◌+◌, ◌-◌, ◌*◌, ◌/◌, List, length, map, take, drop, ap}
+use Rattle.std.proofs.lemmas.List.{length-take-le, length-drop, length-map}
+use Rattle.std.proofs.Math.Nat.{add-mul, mul-add, mul-le-mul_right, div-mul-le_self, lt-div-mul-add, div-le_self}
+use Rattle.client_commands.specs.Spread.{IsEvenPart}
+
+-- behind a front that has so many parts stands one part more: the quotient, rounded down
+abbrev pub IsCut : (front part many : ℕ) → Type 0
+IsCut front part many = (part * (many + 1) ≤ front + part) × (front + part < (part + 1) * (many + 1))
+
+pub cut_off : (whole many part front : ℕ) → part ≡ whole / (many + 1) → front ≡ whole - part → IsCut front part many
+cut_off whole many part front quotient rest =
+    let some : 0 < many + 1 = omega arith in
+    let all : front + part ≡ whole = omega (arith, div-le_self whole (many + 1), quotient, rest) in
+    rw (all, quotient) (div-mul-le_self whole (many + 1), omega (arith, lt-div-mul-add {a = whole} {b = many + 1} some, add-mul (whole / (many + 1)) 1 (many + 1)))
+
+-- a list that is cut in front of that part, each item seen by `view`
+pub cut_at : {A B : Type 0} (view : A → B) (all front back : List A) (many kept : ℕ) → kept ≡ length all - length all / (many + 1)
+    → front ≡ take kept all → back ≡ drop kept all → IsCut (length (map view front)) (length (map view back)) many
+cut_at {A} {B} view all front back many kept is in_front behind =
+    let quotient : length all / (many + 1) ≤ length all = div-le_self (length all) (many + 1) in
+    let fits : kept ≤ length all = omega (arith, is, quotient) in
+    let first : length (map view front) ≡ kept = length-map front view ∙ (ap length in_front ∙ length-take-le kept all fits) in
+    let last : length (map view back) ≡ length all - kept = length-map back view ∙ (ap length behind ∙ length-drop kept all) in
+    cut_off (length all) many (length (map view back)) (length (map view front)) (omega (arith, last, is, quotient)) (omega (arith, first, last, is, quotient))
+
+less_or : (a b : ℕ) → (a < b) ⊎ (b ≤ a)
+less_or a zero = inr (omega arith)
+less_or zero (suc b) = inl (omega arith)
+less_or (suc a) (suc b) = further (less_or a b)
+  where
+    further : (a < b) ⊎ (b ≤ a) → (suc a < suc b) ⊎ (suc b ≤ suc a)
+    further (inl less) = inl (omega (arith, less))
+    further (inr more) = inr (omega (arith, more))
+
+-- a part of the front is no less than the part behind it
+no_fewer : (front part many other : ℕ) → part * many ≤ front → front < (other + 1) * many → part ≤ other
+no_fewer front part many other low high = by (less_or other part)
+  where
+    by : (other < part) ⊎ (part ≤ other) → part ≤ other
+    by (inr fine) = fine
+    by (inl less) =
+        let more : other + 1 ≤ part = omega (arith, less) in
+        absurd (omega (arith, mul-le-mul_right many more, low, high))
+
+-- and has at most one more
+no_more : (front part many other : ℕ) → front ≤ (part + 1) * many → other * many < front + many → other ≤ part + 1
+no_more front part many other high low = by (less_or (part + 1) other)
+  where
+    by : (part + 1 < other) ⊎ (other ≤ part + 1) → other ≤ part + 1
+    by (inr fine) = fine
+    by (inl less) =
+        let more : part + 1 + 1 ≤ other = omega (arith, less) in
+        absurd (omega (arith, mul-le-mul_right many more, add-mul (part + 1) 1 many, high, low))
+
+-- a part of the front is one of the whole
+pub front_part : (front part many other : ℕ) → IsCut front part many → IsEvenPart front many other → IsEvenPart (front + part) (many + 1) other
+front_part front part many other cut even =
+    let l : part * many ≤ front = omega (arith, mul-add part many 1, cut.0) in
+    let h : front ≤ (part + 1) * many = omega (arith, mul-add (part + 1) many 1, cut.1) in
+    let a : part ≤ other = no_fewer front part many other l even.0 in
+    let b : other ≤ part + 1 = no_more front part many other h even.1 in
+    (omega (arith, mul-add (other + 1) many 1, even.0, a), by (less_or part other) b)
+  where
+    by : (part < other) ⊎ (other ≤ part) → other ≤ part + 1 → other * (many + 1) < front + part + (many + 1)
+    by (inr same) b = omega (arith, mul-add other many 1, even.1, same)
+    by (inl less) b = omega (arith, mul-add other many 1, mul-add part many 1, even.1, less, b, cut.0)
+
+-- and the part behind it is one
+pub last_part : (front part many : ℕ) → IsCut front part many → IsEvenPart (front + part) (many + 1) part
+last_part front part many cut = (cut.1, omega (arith, cut.0))
+
+-- a whole is its own only part
+pub only_part : (whole : ℕ) → IsEvenPart whole 1 whole
+only_part whole = (omega arith, omega arith)

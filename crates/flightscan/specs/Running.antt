@@ -1,0 +1,129 @@
+-- What the program does for a request, over the network and the standard streams.
+use Rattle.std.specs.Prelude.{◌≡◌, ℕ, [], Option, Some, None}
+use Rattle.std.specs.Borrow.{Bor}
+use Rattle.clap.specs.Words.{Text}
+use Rattle.scan_base.specs.declared.fault.Fault.TheVariants.{Transport}
+use Rattle.scan_base.specs.declared.put_options.PutMode.{PutMode}
+use Rattle.grpc_frame.specs.declared.ends.Input.{Ghosts as InputMembers}
+use Rattle.grpc_frame.specs.declared.ends.Output.{Ghosts as OutputMembers}
+use Rattle.csv_input.specs.Input.{form_of}
+use Rattle.flight_calls.specs.declared.setting.Options.{Options}
+use Rattle.flight_calls.specs.Owed.{Connection, connection_of}
+use Rattle.flight_calls.specs.Seats.{Seat, seat_of}
+use Rattle.shared_calls.specs.Sharing.{onward}
+use Rattle.command_line.specs.declared.request.PutForm.{PutForm}
+use Rattle.command_line.specs.declared.request.PutForm.TheVariants.{Arrow, Csv}
+use Rattle.command_line.specs.declared.request.Serving.{Serving}
+use Rattle.command_line.specs.declared.request.Request.{Request}
+use Rattle.command_line.specs.declared.request.Request.TheVariants.{Pipe, Serve, Put, Query, Tables, Expire}
+use Rattle.command_ends.specs.Network.{Ends}
+use Rattle.command_ends.specs.Printing.{Said, Prints, fault_line, said_of}
+use Rattle.command_ends.specs.Whole.{Source, source_of}
+use Rattle.command_ends.specs.declared.exit_status.ExitStatus.{ExitStatus}
+use Rattle.command_ends.specs.declared.exit_status.ExitStatus.TheVariants.{FaultAtThisEnd}
+use Rattle.client_calls.specs.declared.putting.Target.{Target}
+use Rattle.client_commands.specs.Commands.{Desk, Expires, ListsTables, Puts, PutsCsv, desk_of}
+use Rattle.client_commands.specs.Queries.{Queries}
+use Rattle.commands.specs.Pipe.{Pipes}
+use Rattle.commands.specs.Port.{Listens}
+use Rattle.commands.specs.Serve.{Pays}
+use Rattle.flightscan.specs.declared.running.Streams.{Streams}
+
+-- ---- the standard streams
+
+-- the standard streams, before or behind a command
+pub record Standard : Type 0 where
+  pub input : Source
+  pub out : Said
+  pub faults : Said
+
+-- all three, whose traits' ghost members these are
+abbrev pub standard_of : {I W E : Type 0} → InputMembers I → OutputMembers W → OutputMembers E → Streams I W E → Standard
+standard_of inputs outputs faults streams =
+    record { input = source_of inputs streams.input; out = said_of outputs streams.output; faults = said_of faults streams.faults }
+
+-- what a command prints on
+abbrev pub desk_in : Standard → Desk
+desk_in standard = desk_of standard.out standard.faults
+
+-- the input and the output as a connection, with the seat of its backend
+abbrev pub connection_in : Standard → Seat → Connection
+connection_in standard seat = connection_of standard.input.left standard.out.bytes standard.input.failed standard.out.failures seat
+
+-- ---- requests of clients
+
+-- which connections a network gives at a port
+abbrev pub Connecting : Type 0 → Type 1
+Connecting N = N → ℕ → Option Ends → N → Type 0
+
+-- where the rows of a put go
+abbrev pub target_of : Bor Text → PutMode → Target
+target_of table mode = record { table = table; mode = mode }
+
+-- the rows that the input says in a form are put
+abbrev pub PutsForm : PutForm → Type 0 → (Option Ends → Type 0) → Target → ExitStatus → Standard → Standard → Type 0
+PutsForm Arrow untouched Gives target status old new =
+    Puts old.input new.input untouched Gives target status (desk_in old) (desk_in new)
+PutsForm (Csv form) untouched Gives target status old new =
+    PutsCsv (form_of form) old.input new.input untouched Gives target status (desk_in old) (desk_in new)
+
+-- What a client does for a request, by a network that connects and is shared so. Only a put reads the input. A request for a
+-- server leaves the network as it was.
+abbrev pub CallsServer : {N : Type 0} → Connecting N → (N → N → N → Type 0) → Request → ExitStatus → N → N → Standard → Standard → Type 0
+CallsServer connects shares (Put port table mode form progress) status before behind old new =
+    PutsForm form (behind ≡ before) (λ ends. connects before port ends behind) (target_of table mode) status old new
+CallsServer connects shares (Query port format streams sql progress) status before behind old new =
+    Queries (λ one ends other. connects one port ends other) shares streams sql.now format before behind status (desk_in old) (desk_in new)
+    × (new.input ≡ old.input)
+CallsServer connects shares (Tables port) status before behind old new =
+    ListsTables (λ ends. connects before port ends behind) status (desk_in old) (desk_in new) × (new.input ≡ old.input)
+CallsServer connects shares (Expire port version) status before behind old new =
+    Expires (λ ends. connects before port ends behind) version status (desk_in old) (desk_in new) × (new.input ≡ old.input)
+CallsServer connects shares (Serve serving) status before behind old new = behind ≡ before
+CallsServer connects shares (Pipe parts workers) status before behind old new = behind ≡ before
+
+-- ---- requests for a server
+
+-- which port a listener gives, where it is asked for one, and for connections that end behind so many seconds of silence
+abbrev pub Hearing : Type 0 → Type 1
+Hearing L = L → ℕ → ℕ → Option ℕ → L → Type 0
+
+-- a server was asked for, and the system gave no random bytes: F22 is printed, and nothing else is done
+abbrev pub LacksSeed : ExitStatus → Standard → Standard → Type 0
+LacksSeed status old new =
+    (status ≡ FaultAtThisEnd) × Prints (fault_line Transport) old.faults new.faults × (new.out ≡ old.out) × (new.input ≡ old.input)
+
+-- how a fetch of `pipe` is answered
+abbrev pub piped_by : (parts workers : ℕ) → Options
+piped_by parts workers = record { parts = parts; workers = workers; keep = 0 }
+
+-- with a seed, the input is served as one connection, to the output
+abbrev pub PipesWith : {S : Type 0} → Option S → Options → ExitStatus → Standard → Standard → Type 0
+PipesWith (Some seed) options status old new =
+    (seat : Seat) × Pipes options status (connection_in old (seat_of [] 0)) (connection_in new seat) old.faults new.faults
+PipesWith None options status old new = LacksSeed status old new
+
+-- with a seed, connections are served, by a listener that hears, accepts and is shared so
+abbrev pub ServesWith : {S L : Type 0} → Option S → Hearing L → (L → Option Ends → L → Type 0) → (L → Option L → Type 0)
+    → Serving → ExitStatus → L → L → Standard → Standard → Type 0
+ServesWith (Some seed) hears accepts shares serving status before behind old new =
+    Listens accepts shares (hears before serving.port serving.idle) serving status behind old.out new.out old.faults new.faults
+    × (new.input ≡ old.input)
+ServesWith None hears accepts shares serving status before behind old new = LacksSeed status old new × (behind ≡ before)
+
+-- What a server does for a request, with the seed of its hashes, if there is one. A request of a client leaves the listener as it
+-- was.
+abbrev pub ServesClients : {S L : Type 0} → Option S → Hearing L → (L → Option Ends → L → Type 0) → (L → Option L → Type 0)
+    → Request → ExitStatus → L → L → Standard → Standard → Type 0
+ServesClients seed hears accepts shares (Serve serving) status before behind old new =
+    ServesWith seed hears accepts shares serving status before behind old new
+ServesClients seed hears accepts shares (Pipe parts workers) status before behind old new =
+    PipesWith seed (piped_by parts workers) status old new × (behind ≡ before)
+ServesClients seed hears accepts shares (Put port table mode form progress) status before behind old new = behind ≡ before
+ServesClients seed hears accepts shares (Query port format streams sql progress) status before behind old new = behind ≡ before
+ServesClients seed hears accepts shares (Tables port) status before behind old new = behind ≡ before
+ServesClients seed hears accepts shares (Expire port version) status before behind old new = behind ≡ before
+
+-- whatever a network is owed for a connection, serving it is that, however calls are answered
+abbrev pub AlwaysPays : (Ends → Ends → Type 0) → Type 0
+AlwaysPays owed = (options : Options) → Pays onward options owed
