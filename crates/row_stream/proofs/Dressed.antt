@@ -1,5 +1,5 @@
 -- Batches behind the dictionaries of their texts, as messages of a stream.
-use Rattle.std.proofs.Common.{◌≡◌, ◌≤◌, ◌<◌, ◌^◌, inl, inr, ℕ, zero, suc, ◌+◌, List, [], ◌∷◌, ◌++◌, length, map, get_or, refl, sym, ap, subst, ◌∙◌, append-nil, arith}
+use Rattle.std.proofs.Common.{◌≡◌, ◌≤◌, ◌<◌, ◌^◌, inl, inr, ℕ, ◌+◌, List, [], ◌∷◌, ◌++◌, length, map, Option, Some, None, Result, Ok, Err, IfOk, IfSome, refl, sym, ap, subst, ◌∙◌, append-nil, arith}
 use Rattle.std.specs.Prelude.{All}
 use Rattle.std.specs.List.{flat_map, AllZip}
 use Rattle.std.proofs.lemmas.Grind.{flat_map-append}
@@ -96,6 +96,17 @@ say_dressed schema batch made room messages low is behind =
       short = subst (All (HasBodyWithin room)) (sym behind.are)
           (All-append (HasBodyWithin room) dictionaries (last ∷ []) within (All-cons (HasBodyWithin room) last [] (omega (arith, behind.short)) (All-nil (HasBodyWithin room))));
     }
+
+-- how long the bodies are of dictionaries and of the batch behind them
+pub short_behind : (messages : List WrittenMessage) (last : IpcMessage) (room left : ℕ) → bodies_length (map written_seen messages) + left ≡ room → length last.body ≤ left
+    → bodies_length (map sent_in (map as_message messages)) + length last.body ≤ room
+short_behind messages last room left sum short = omega (arith, ap bodies_length (seen_again messages), sum, short)
+
+pub found_dressed : {E : Type 0} (result : Result (Option (List IpcMessage)) E) (schema : Schema) (batch : BatchAt) (made : DressedBatch) (room : ℕ) → room < 2 ^ 31 → IsDressedBatch schema batch made
+    → IfOk result (λ found. IfSome found (AreBehind (map as_message made.dictionaries.items) made.batch room)) → IfOk result (λ found. IfSome found (SayBatch (HasBodyWithin room) schema batch))
+found_dressed (Ok (Some messages)) schema batch made room low is behind = say_dressed schema batch made room messages low is behind
+found_dressed (Ok None) schema batch made room low is behind = tt
+found_dressed (Err error) schema batch made room low is behind = tt
 
 -- with bodies that are not too long they may stand in a stream
 pub say_short : (schema : Schema) (batch : BatchAt) (messages : List IpcMessage) → SayBatch (HasBodyWithin most_body_bytes) schema batch messages → SayBatch (HasShortBody schema) schema batch messages

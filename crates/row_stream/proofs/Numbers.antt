@@ -1,6 +1,7 @@
 -- The columns of a stream, whose dictionaries have the numbers of their columns.
-use Rattle.std.proofs.Common.{◌≡◌, ◌≤◌, ◌<◌, ℕ, ◌+◌, suc, List, [], ◌∷◌, ◌++◌, length, map, refl, ap, rules, ◌∙◌, arith}
+use Rattle.std.proofs.Common.{◌≡◌, ◌≤◌, ◌<◌, ℕ, ◌+◌, suc, List, [], ◌∷◌, ◌++◌, length, map, take, get_or, refl, sym, ap, ◌∙◌, arith}
 use Rattle.std.specs.Prelude.{All}
+use Rattle.std.proofs.lemmas.List.{length-take, take_more}
 use Rattle.std.proofs.lemmas.List.Elements.{All-nil, All-cons, All-head, All-tail}
 use Rattle.scan_base.specs.Limits.{most_columns}
 use Rattle.arrow_schema.specs.declared.data_type.DataType.{DataType}
@@ -24,6 +25,16 @@ numbered_more number [] field = let same : number + 0 ≡ number = omega arith i
 numbered_more number (one ∷ fields) field =
     let same : number + suc (length fields) ≡ number + 1 + length fields = omega arith in
     rw same (ap (λ (l : List Field). answered_field number one ∷ l) (numbered_more (number + 1) fields field))
+
+-- the next column
+pub numbered_next : (fields : List Field) (index number : ℕ) (item field : Field) (made next : List Field) → index < length fields → item ≡ get_or fields index item → number ≡ index
+    → field ≡ answered_field number item → made ≡ numbered_from 0 (take index fields) → next ≡ made ++ field ∷ [] → next ≡ numbered_from 0 (take (index + 1) fields)
+numbered_next fields index number item field made next inside is same answered so pushed =
+    let front = take index fields in
+    let more : take (index + 1) fields ≡ front ++ item ∷ [] = take_more fields index item inside ∙ ap (λ (f : Field). front ++ f ∷ []) (sym is) in
+    let long : 0 + length front ≡ number = omega (arith, length-take index fields, inside, same) in
+    pushed ∙ ap (λ (l : List Field). l ++ field ∷ []) so ∙ ap (λ (f : Field). numbered_from 0 front ++ f ∷ []) (answered ∙ ap (λ (n : ℕ). answered_field n item) (sym long))
+    ∙ sym (ap (numbered_from 0) more ∙ numbered_more 0 front item)
 
 -- there are as many
 numbered_many : (number : ℕ) (fields : List Field) → length (numbered_from number fields) ≡ length fields

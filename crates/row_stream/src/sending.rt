@@ -116,11 +116,7 @@ fn send_dictionaries<W: Output>(
 }
 
 // Sends the messages of a batch: its dictionaries, and then its rows.
-fn send_parcel<W: Output>(
-    writer: &mut W,
-    outbox: &mut Outbox,
-    parcel: &Parcel,
-) -> Result<(), Fault>
+fn send_parcel<W: Output>(writer: &mut W, outbox: &mut Outbox, parcel: &Parcel) -> Result<(), Fault>
     requires failures { CanFail (W.failures writer.old) }
     requires fit { All IsMessage parcel.now }
     ensures bytes { Sends result (W.contents writer.old) (W.contents writer.new)
