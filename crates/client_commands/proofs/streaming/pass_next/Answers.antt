@@ -34,7 +34,7 @@ pass_batches-requires-clause-fits g c =
     let own = c.schema.result.now in
     let is = sym (c.schema.ensures.value it.known it.has_schema) in
     let same : same_fields schema.fields own.fields ≡ true = search rules in
-    let written : c.passing.inside.writer.schema ≡ numbered_schema schema = rw c.passing.view_is at c.requires.written in
+    let written : c.passing.inside.writer.schema ≡ numbered_schema schema = rw (← c.passing.view_is) at c.requires.written in
     fits_written _ it.known schema own _ it.has_schema is same written
 
 pub returns-in_err-pass_batches : goal.returns-in_err-pass_batches
