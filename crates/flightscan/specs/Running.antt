@@ -1,5 +1,5 @@
 -- What the program does for a request, over the network and the standard streams.
-use Rattle.std.specs.Prelude.{◌≡◌, ℕ, [], Option, Some, None}
+use Rattle.std.specs.Prelude.{◌≡◌, ℕ, List, [], Option, Some, None}
 use Rattle.std.specs.Borrow.{Bor}
 use Rattle.clap.specs.Words.{Text}
 use Rattle.scan_base.specs.declared.fault.Fault.TheVariants.{Transport}
@@ -11,6 +11,7 @@ use Rattle.flight_calls.specs.declared.setting.Options.{Options}
 use Rattle.flight_calls.specs.Owed.{Connection, connection_of}
 use Rattle.flight_calls.specs.Seats.{Seat, seat_of}
 use Rattle.shared_calls.specs.Sharing.{onward}
+use Rattle.command_line.specs.declared.request.Format.{Format}
 use Rattle.command_line.specs.declared.request.PutForm.{PutForm}
 use Rattle.command_line.specs.declared.request.PutForm.TheVariants.{Arrow, Csv}
 use Rattle.command_line.specs.declared.request.Serving.{Serving}
@@ -67,31 +68,37 @@ PutsForm Arrow untouched Gives target status old new =
 PutsForm (Csv form) untouched Gives target status old new =
     PutsCsv (form_of form) old.input new.input untouched Gives target status (desk_in old) (desk_in new)
 
--- What a client does for a request, by a network that connects and is shared so. Only a put reads the input. A request for a
--- server leaves the network as it was.
-abbrev pub CallsServer : {N : Type 0} → Connecting N → (N → N → N → Type 0) → Request → ExitStatus → N → N → Standard → Standard → Type 0
-CallsServer connects shares (Put port table mode form progress) status before behind old new =
+-- hashes begin with a seed, and the system gave no random bytes for one: F22 is printed, and nothing else is done
+abbrev pub LacksSeed : ExitStatus → Standard → Standard → Type 0
+LacksSeed status old new =
+    (status ≡ FaultAtThisEnd) × Prints (fault_line Transport) old.faults new.faults × (new.out ≡ old.out) × (new.input ≡ old.input)
+
+-- with a seed, the rows that a query answers are printed in a form
+abbrev pub QueriesWith : {S N : Type 0} → Option S → (N → Option Ends → N → Type 0) → (N → N → N → Type 0)
+    → ℕ → List ℕ → Format → ExitStatus → N → N → Standard → Standard → Type 0
+QueriesWith (Some seed) connects shares streams sql format status before behind old new =
+    Queries connects shares streams sql format before behind status (desk_in old) (desk_in new) × (new.input ≡ old.input)
+QueriesWith None connects shares streams sql format status before behind old new = LacksSeed status old new × (behind ≡ before)
+
+-- What a client does for a request, with the seed of its hashes, if there is one, by a network that connects and is shared so. Only
+-- a put reads the input. A request for a server leaves the network as it was.
+abbrev pub CallsServer : {S N : Type 0} → Option S → Connecting N → (N → N → N → Type 0) → Request → ExitStatus → N → N → Standard → Standard → Type 0
+CallsServer seed connects shares (Put port table mode form progress) status before behind old new =
     PutsForm form (behind ≡ before) (λ ends. connects before port ends behind) (target_of table mode) status old new
-CallsServer connects shares (Query port format streams sql progress) status before behind old new =
-    Queries (λ one ends other. connects one port ends other) shares streams sql.now format before behind status (desk_in old) (desk_in new)
-    × (new.input ≡ old.input)
-CallsServer connects shares (Tables port) status before behind old new =
+CallsServer seed connects shares (Query port format streams sql progress) status before behind old new =
+    QueriesWith seed (λ one ends other. connects one port ends other) shares streams sql.now format status before behind old new
+CallsServer seed connects shares (Tables port) status before behind old new =
     ListsTables (λ ends. connects before port ends behind) status (desk_in old) (desk_in new) × (new.input ≡ old.input)
-CallsServer connects shares (Expire port version) status before behind old new =
+CallsServer seed connects shares (Expire port version) status before behind old new =
     Expires (λ ends. connects before port ends behind) version status (desk_in old) (desk_in new) × (new.input ≡ old.input)
-CallsServer connects shares (Serve serving) status before behind old new = behind ≡ before
-CallsServer connects shares (Pipe parts workers) status before behind old new = behind ≡ before
+CallsServer seed connects shares (Serve serving) status before behind old new = behind ≡ before
+CallsServer seed connects shares (Pipe parts workers) status before behind old new = behind ≡ before
 
 -- ---- requests for a server
 
 -- which port a listener gives, where it is asked for one, and for connections that end behind so many seconds of silence
 abbrev pub Hearing : Type 0 → Type 1
 Hearing L = L → ℕ → ℕ → Option ℕ → L → Type 0
-
--- a server was asked for, and the system gave no random bytes: F22 is printed, and nothing else is done
-abbrev pub LacksSeed : ExitStatus → Standard → Standard → Type 0
-LacksSeed status old new =
-    (status ≡ FaultAtThisEnd) × Prints (fault_line Transport) old.faults new.faults × (new.out ≡ old.out) × (new.input ≡ old.input)
 
 -- how a fetch of `pipe` is answered
 abbrev pub piped_by : (parts workers : ℕ) → Options

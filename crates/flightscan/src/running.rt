@@ -2,12 +2,9 @@
 
 ghost use Rattle.std.specs.Prelude.{◌≡◌};
 ghost use Rattle.grpc_frame.specs.Ends.{CanFail};
-ghost use Rattle.command_ends.specs.Printing.{said_of};
-ghost use Rattle.client_commands.specs.Commands.{desk_of};
-ghost use Rattle.client_commands.specs.Queries.{Queries};
 ghost use Rattle.commands.specs.Serve.{AcceptsThenCloses};
 ghost use Rattle.commands.specs.Words.{HasSeats};
-ghost use Rattle.flightscan.specs.Running.{AlwaysPays, CallsServer, PipesWith, PutsForm, ServesClients, ServesWith, piped_by, standard_of};
+ghost use Rattle.flightscan.specs.Running.{AlwaysPays, CallsServer, PipesWith, PutsForm, QueriesWith, ServesClients, ServesWith, piped_by, standard_of};
 
 use client_calls::Target;
 use client_commands::expire::expire;
@@ -15,7 +12,7 @@ use client_commands::put::{CsvPutting, Putting, put, put_csv};
 use client_commands::query::{Querying, query};
 use client_commands::tables::tables;
 use command_ends::{Connect, ExitStatus, Listen, end_by_fault};
-use command_line::{PutForm, Request, Serving};
+use command_line::{Format, PutForm, Request, Serving};
 use commands::pipe::pipe;
 use commands::serve::{Host, serve};
 use fetch_workers::Workers;
@@ -148,12 +145,21 @@ fn run_pipe<T: Threads + Wait + Sync, I: Input, W: Output, E: Output>(
     )
 }
 
+// A query as the words ask for it: the server's port, the most connections, the text, and the form.
+#[derive(Clone, Copy)]
+struct Asked<'a> {
+    port: u16,
+    streams: u32,
+    sql: &'a str,
+    format: Format,
+}
+
 // Prints the rows that a query answers.
-fn run_query<T, C, I, W: Output, E: Output>(
+fn run_query<T, C, I: Input, W: Output, E: Output>(
     machine: Machine<'_, T>,
     connector: &mut C,
     streams: &mut Streams<I, W, E>,
-    querying: Querying<'_>,
+    asked: Asked<'_>,
 ) -> ExitStatus
 where
     T: Threads,
@@ -162,12 +168,20 @@ where
     C::Writer: Send,
     requires writes { CanFail (W.failures streams.old.output) }
     requires prints { CanFail (E.failures streams.old.faults) }
-    ensures rows { Queries (λ one ends other. C.connects one querying.entry.port ends other) C.shares querying.entry.streams
-        querying.entry.sql.now querying.entry.format connector.old connector.new result
-        (desk_of (said_of W.Output streams.old.output) (said_of E.Output streams.old.faults))
-        (desk_of (said_of W.Output streams.new.output) (said_of E.Output streams.new.faults)) }
-    ensures input { streams.new.input ≡ streams.old.input }
+    ensures { QueriesWith machine.entry.seed (λ one ends other. C.connects one asked.entry.port ends other) C.shares
+        asked.entry.streams asked.entry.sql.now asked.entry.format result connector.old connector.new
+        (standard_of I.Input W.Output E.Output streams.old) (standard_of I.Input W.Output E.Output streams.new) }
 {
+    let Some(seed) = machine.seed else {
+        return end_by_fault(&mut streams.faults, Fault::Transport);
+    };
+    let querying = Querying {
+        port: asked.port,
+        streams: asked.streams,
+        sql: asked.sql,
+        format: asked.format,
+        seed,
+    };
     query(
         machine.rt,
         machine.alloc,
@@ -178,7 +192,7 @@ where
     )
 }
 
-/// Does what a request asks for. A server without a seed prints F22.
+/// Does what a request asks for. Where there is no seed, a server and a query print F22.
 pub fn run<T, C, L, I: Input, W: Output, E: Output>(
     machine: Machine<'_, T>,
     network: &mut Network<C, L>,
@@ -204,7 +218,7 @@ where
     requires owed { AlwaysPays L.owed }
 
     // A client's request is asked of a server, and a server's is served.
-    ensures asks { CallsServer C.connects C.shares request.entry result network.old.connector network.new.connector
+    ensures asks { CallsServer machine.entry.seed C.connects C.shares request.entry result network.old.connector network.new.connector
         (standard_of I.Input W.Output E.Output streams.old) (standard_of I.Input W.Output E.Output streams.new) }
     ensures serves { ServesClients machine.entry.seed L.listens (AcceptsThenCloses L.accepts L.closes) L.shares
         request.entry result network.old.listener network.new.listener
@@ -230,13 +244,13 @@ where
             sql,
             ..
         } => {
-            let querying = Querying {
+            let asked = Asked {
                 port,
                 streams: most,
                 sql,
                 format,
             };
-            run_query(machine, connector, streams, querying)
+            run_query(machine, connector, streams, asked)
         }
         Request::Tables { port } => {
             let (output, faults) = (&mut streams.output, &mut streams.faults);

@@ -17,6 +17,12 @@ use std::hash::{Hash, Hasher};
 // No table has more places: 16 MB.
 const MOST_DIGESTS: usize = 1_048_576;
 
+// A table begins with no more places, 16 KB, and grows as texts are met. So who looks at few rows pays for few.
+const FIRST_DIGESTS: usize = 1_024;
+
+// A table that grows has so many times the places that it had.
+const GROWTH: usize = 8;
+
 // A row that was seen, a part of its key that is a text, and the digest of the text.
 #[derive(Clone, Copy, Drop)]
 pub(crate) struct SeenDigest {
@@ -30,9 +36,24 @@ pub(crate) struct SeenDigest {
 // code.
 #[derive(Drop)]
 pub(crate) struct Digests {
+    alloc: Global,
     product: Product,
     parts: usize,
+    most: usize,
+    taken: usize,
     pub(crate) texts: Vec<SeenDigest>,
+}
+
+// Places that know no digest.
+fn free_places(alloc: Global, count: usize) -> Result<Vec<SeenDigest>, AllocError>
+    ensures { IfOk result (λ texts. All (λ (at : SeenDigest). 2 ^ 32 ≤ at.row + 1) texts.items) }
+{
+    let none = SeenDigest {
+        row: u32::MAX,
+        part: 0,
+        digest: 0,
+    };
+    Ok(vec![in alloc; none; count]?)
 }
 
 impl Digests {
@@ -41,14 +62,17 @@ impl Digests {
         ensures { result.texts.items ≡ [] }
     {
         Digests {
+            alloc,
             product: Product::one(),
             parts: 1,
+            most: 0,
+            taken: 0,
             texts: Vec::new(alloc),
         }
     }
 
-    // A table with a place of 16 bytes for each of so many codes in each of so many parts, or as many places as a table has at
-    // most.
+    // A table that grows to a place of 16 bytes for each of so many codes in each of so many parts, or to as many places as a table
+    // has at most.
     pub(crate) fn new(
         alloc: Global,
         hashing: &Hashing,
@@ -61,18 +85,34 @@ impl Digests {
             return Ok(Digests::none(alloc));
         }
         let wanted = parts.min(MOST_DIGESTS) * codes.min(MOST_DIGESTS);
-        let places = wanted.min(MOST_DIGESTS).next_power_of_two();
-        let none = SeenDigest {
-            row: u32::MAX,
-            part: 0,
-            digest: 0,
-        };
-        let texts = vec![in alloc; none; places]?;
+        let most = wanted.min(MOST_DIGESTS).next_power_of_two();
+        let places = most.min(FIRST_DIGESTS);
         Ok(Digests {
+            alloc,
             product: Product::of_hasher(hashing.begun, places - 1),
             parts,
-            texts,
+            most,
+            taken: 0,
+            texts: free_places(alloc, places)?,
         })
+    }
+
+    // Makes more places where half of them were taken. They know nothing yet. Where memory is refused, there are none from then on.
+    fn make_room(&mut self, hashing: &Hashing)
+        ensures { (digests : ℕ → ℕ → Option ℕ) (count : ℕ) → count < 2 ^ 32 → AreDigests digests count self.old.texts.items →
+            AreDigests digests count self.new.texts.items }
+    {
+        let places = self.texts.len();
+        if places == 0 || places >= self.most || self.taken <= places / 2 {
+            return;
+        }
+        let more = self.most.min(GROWTH * places);
+        self.taken = 0;
+        self.texts = Vec::new(self.alloc);
+        if let Ok(texts) = free_places(self.alloc, more) {
+            self.product = Product::of_hasher(hashing.begun, more - 1);
+            self.texts = texts;
+        }
     }
 
     // The hash of a row's key; none where a part of it is null. The text of a code that was seen is not looked at.
@@ -135,7 +175,8 @@ impl Digests {
         }
         let found = hashing.digest(rows.part(row, part));
         if let Some(digest) = found {
-            self.keep(place, row, part, digest);
+            self.make_room(hashing);
+            self.keep(self.place(code, part), row, part, digest);
         }
         found
     }
@@ -183,6 +224,7 @@ impl Digests {
             return;
         };
         if place < self.texts.len() {
+            self.taken = self.taken.saturating_add(1);
             self.texts[place] = SeenDigest {
                 row: row as u32,
                 part: number,

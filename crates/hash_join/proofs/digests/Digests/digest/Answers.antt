@@ -10,5 +10,7 @@ pub returns-in-Some-found-clause-seen : goal.returns-in-Some-found-clause-seen
 returns-in-Some-found-clause-seen g c =
     let rows = c.args.rows.now in
     let buckets = parted.Hashed c.args.hashing.now in
-    c.keep.ensures (key_digest buckets (g.R.PartRows.key rows)) (g.R.PartRows.count rows)
-    (ap (digest_of buckets) (sym c.part.ensures) ∙ sym c.in-Some-found.ensures) c.requires.seen
+    let digests = key_digest buckets (g.R.PartRows.key rows) in
+    let count = g.R.PartRows.count rows in
+    c.keep.ensures digests count (ap (digest_of buckets) (sym c.part.ensures) ∙ sym c.in-Some-found.ensures)
+    (c.make_room.ensures digests count c.requires.few c.requires.seen)
