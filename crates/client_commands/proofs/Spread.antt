@@ -1,5 +1,5 @@
 -- Streams that are fetched side by side.
-use Rattle.std.proofs.Common.{◌≡◌, ℕ, ◌+◌, ◌<◌, arith, length, List, [], ◌∷◌, ◌++◌, map, Option, None, Result, Ok, Err, refl, subst, sym, ap, ◌∙◌, inl, inr}
+use Rattle.std.proofs.Common.{◌≡◌, ℕ, suc, ◌+◌, ◌<◌, arith, length, All, List, [], ◌∷◌, ◌++◌, map, Option, None, Result, Ok, Err, refl, subst, sym, ap, ◌∙◌, inl, inr}
 use Rattle.std.specs.List.{flat_map}
 use Rattle.std.proofs.lemmas.List.{map-append, append-nil, append_assoc, length-append, length-map}
 use Rattle.std.proofs.lemmas.List.Elements.{All-append, All-from_recursion, All-weaker}
@@ -169,7 +169,7 @@ module _ {N : Type 0} (Gives : N → Option Ends → N → Type 0) where
   many_given [] [] given = refl
   many_given [] (m ∷ ms) given = absurd given
   many_given (h ∷ hs) [] given = absurd given
-  many_given (h ∷ hs) (m ∷ ms) given = ap (λ (n : ℕ). n + 1) (many_given hs ms given.1)
+  many_given (h ∷ hs) (m ∷ ms) given = ap suc (many_given hs ms given.1)
 
   -- the lines of one connection more
   lines_more : (first : Line) (made : List Ends) (ends : Ends)
@@ -199,7 +199,7 @@ module _ {N : Type 0} (Gives : N → Option Ends → N → Type 0) where
         → FetchesEach back behind (opened_line ends) new → FetchesBy Gives first handles endpoints (before ++ behind)
     all_by ends new before behind by given fetched =
         let lines : length (first ∷ map opened_line by.made) ≡ length init + 1
-        = ap (λ (n : ℕ). n + 1) (length-map by.made opened_line ∙ many_given init by.made by.given) in
+        = omega (arith, length-map by.made opened_line, many_given init by.made by.given) in
         let parts : IsCut (length front) (length back) (length (first ∷ map opened_line by.made))
         = subst (λ (n : ℕ). IsCut (length front) (length back) n) (sym lines) cut in
         rw (handles_are, parts_are) (record {
