@@ -2,6 +2,6 @@ mod Begun
 mod Placed
 mod Transposed
 mod Joined
-mod Faulty
+mod Wrong
 mod Columnar
-mod Sent
+pub mod Taken
