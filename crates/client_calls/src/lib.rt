@@ -1,7 +1,8 @@
 //! The calls of a client: what is written for each, and what its answer says.
 //!
 //! `specs/Calls.antt` and `specs/Commands.antt` say what is written, `specs/Answers.antt` what an answer is, and
-//! `specs/Outcome.antt` what became of a call. `specs/Taking.antt` says how a fetch is taken payload by payload.
+//! `specs/Outcome.antt` what became of a call. `specs/Taking.antt` says how a fetch is taken payload by payload,
+//! and `specs/Sending.antt` how a put is sent message by message.
 #![tactic(auto)]
 
 mod answer;
@@ -12,6 +13,7 @@ mod expiring;
 mod failure;
 mod fetching;
 mod putting;
+mod sending;
 mod streaming;
 mod taken;
 
@@ -22,4 +24,5 @@ pub use crate::expiring::expire;
 pub use crate::failure::Failure;
 pub use crate::fetching::fetch;
 pub use crate::putting::{Target, put};
+pub use crate::sending::Putting;
 pub use crate::streaming::Fetching;
