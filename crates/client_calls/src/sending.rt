@@ -1,6 +1,6 @@
 //! Putting a stream message by message.
 
-ghost use Rattle.std.specs.Prelude.{◌∷◌, [], ◌++◌, List, MatchResult};
+ghost use Rattle.std.specs.Prelude.{◌≡◌, ◌∷◌, [], ◌++◌, List, OnOk, MatchResult};
 ghost use Rattle.grpc_frame.specs.Ends.{CanFail};
 ghost use Rattle.flight_info.specs.Payloads.{Payload as Bytes};
 ghost use Rattle.client_calls.specs.declared.call.Method.TheVariants.{DoPut};
@@ -75,8 +75,9 @@ impl<R: Input + Drop, W: Output + Drop> Putting<R, W> {
     /// Those of `begin`. The put is cut short, and its End is never sent: each further call gives the same fault.
     pub fn send(&mut self, alloc: Global, message: &IpcMessage) -> Result<(), Failure>
         requires { CanFail (self.old.line.outgoing.failed) }
-        ensures { (messages : List Bytes) (begun : Line) → IsPutting messages begun self.old →
+        ensures sent { (messages : List Bytes) (begun : Line) → IsPutting messages begun self.old →
             SendsPut result (messages ++ later_payload message.now ∷ []) begun self.new }
+        ensures quiet { OnOk result (self.new.line.outgoing.failed ≡ self.old.line.outgoing.failed) }
     {
         self.connection.check()?;
         match later_message(alloc, message) {

@@ -4,3 +4,4 @@ pub mod Passing
 pub mod Spread
 pub mod Listing
 pub mod Listed
+pub mod RowsSent

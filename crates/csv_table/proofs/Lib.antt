@@ -2,6 +2,6 @@ mod Begun
 mod Placed
 mod Transposed
 mod Joined
-mod Wrong
+mod Faulty
 mod Columnar
 pub mod Taken

@@ -2,7 +2,7 @@ use Rattle.std.proofs.Common.{not, ap, get_or, [], ◌∙◌}
 use Rattle.csv.specs.Records.{fields_of}
 use Rattle.csv_values.specs.Said.{cell_in}
 use Rattle.csv_table.proofs.Columnar.{judged}
-use Rattle.csv_table.proofs.Wrong.{first_more}
+use Rattle.csv_table.proofs.Faulty.{first_more}
 use Rattle.csv_table.proofs.finding.wrong_cell.Goals as goal
 
 pub loop-number-preserved : goal.loop-number-preserved

@@ -1,5 +1,5 @@
 use Rattle.csv.specs.Records.{fields_of}
-use Rattle.csv_table.proofs.Wrong.{SayFirst}
+use Rattle.csv_table.proofs.Faulty.{SayFirst}
 use Rattle.csv_table.proofs.finding.wrong_cell.Given as goal
 
 abbrev pub invariant-loop-number : goal.invariant-loop-number
