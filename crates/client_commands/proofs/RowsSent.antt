@@ -1,5 +1,6 @@
 -- The rows of a text that are sent, batch by batch.
 use Rattle.std.proofs.Common.{◌≡◌, ◌⊎◌, ℕ, ◌+◌, List, [], ◌∷◌, ◌++◌, map, None, Some, Result, Ok, Err, inl, inr, refl, sym, ap, subst, ◌∙◌, append_assoc, append-nil}
+use Rattle.std.specs.Prelude.{MatchResult}
 use Rattle.std.proofs.KnownBytes.{Appends-nil}
 use Rattle.std.proofs.lemmas.List.{map-append}
 use Rattle.scan_base.specs.declared.fault.Fault.{Fault}
@@ -16,7 +17,7 @@ use Rattle.client_calls.specs.declared.putting.Target.{Target}
 use Rattle.client_calls.specs.Answers.{AnswersOne, Incoming}
 use Rattle.client_calls.specs.Commands.{carried_in, put_descriptor, put_payloads, ReadsCount}
 use Rattle.client_calls.specs.Outcome.{Calls, Line, stopped_by}
-use Rattle.client_calls.specs.Sending.{FailsPut, IsPutting, PutAt, later_payload, unended_bytes}
+use Rattle.client_calls.specs.Sending.{BeginsPut, FailsPut, IsPutting, PutAt, later_payload, unended_bytes}
 use Rattle.client_commands.specs.RowsPut.{FailsRows, PutsRows}
 use Rattle.client_commands.specs.inside.RowsSent.{HaveSent}
 
@@ -37,6 +38,11 @@ module _ (target : Target) (text : TextAt) (begun : Line) where
     fails.1,
     record { some = []; others = text.records; splits = refl; messages = first ∷ []; says = inr says; cut = fails.3; why = inl fails.2 },
   )
+
+  pub columns_begun : {A : Type 0} (view : A → PutAt) (result : Result A Failure) (first : IpcMessage) → SaysRecords text.schema [] (first ∷ []) → BeginsPut view target first result begun
+      → MatchResult result (λ p. HaveSent target text [] begun (view p)) (λ failure. (last : Line) × FailsRows target text failure begun last)
+  columns_begun view (Ok p) first says putting = columns_sent first (view p) says putting
+  columns_begun view (Err failure) first says fails = (fails.0, columns_unsent first failure fails.0 says fails.1)
 
   -- it was not made
   pub columns_unmade : (fault : Fault) → (last : Line) × FailsRows target text (Found fault) begun last
