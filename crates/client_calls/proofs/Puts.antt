@@ -58,14 +58,14 @@ has_stopped a x stopped left out line fault is is_open =
 
 -- its connection is open
 pub is_open : (messages : List Payload) (begun : Line) (now : PutAt) → IsPutting messages begun now → IsOpen now.line
-is_open messages begun now putting = (putting.left, ap (λ (i : Incoming). i.left) putting.unread ∙ putting.open)
+is_open messages begun now putting = (putting.left, ap (λ (i : Incoming). i.left) putting.unread ∙ putting.is_open)
 
 pub was_open : (messages : List Payload) (begun : Line) (now : PutAt) → IsPutting messages begun now → IsOpen begun
-was_open messages begun now putting = (putting.left, putting.open)
+was_open messages begun now putting = (putting.left, putting.is_open)
 
 pub not_stopped : (messages : List Payload) (begun : Line) (now : PutAt) (fault : Fault) → IsPutting messages begun now → HasStopped fault now.line → ⊥
 not_stopped messages begun now fault putting (at, is) =
-    let e : Ok putting.left ≡ stopped_at fault at = sym putting.open ∙ ap (λ (i : Incoming). i.left) (sym putting.unread) ∙ is in absurd cc
+    let e : Ok putting.left ≡ stopped_at fault at = sym putting.is_open ∙ ap (λ (i : Incoming). i.left) (sym putting.unread) ∙ is in absurd cc
 
 -- one message more
 more_bytes : (messages : List Payload) (message : Payload) → unended_bytes (messages ++ message ∷ []) ≡ unended_bytes messages ++ spelling (Message message)
@@ -87,21 +87,24 @@ unfit_more messages message unfit fit =
     unfit (All-cons Short message [] short (All-nil Short))
 
 module _ (messages : List Payload) (begun : Line) (now : PutAt) (putting : IsPutting messages begun now) (message : Payload) (new : Line) (waiting : List ℕ) where
-  pub sent_more : length message ≤ 16777216 → SendsPart (Ok tt) (spelling (Message message)) now.line new now.waiting waiting
+  pub sent_more : (made : Payload) → made ≡ message → length made ≤ 16777216 → SendsPart (Ok tt) (spelling (Message made)) now.line new now.waiting waiting
       → IsPutting (messages ++ message ∷ []) begun (put_at new waiting)
-  sent_more short sent = record {
-    left = putting.left;
-    open = putting.open;
-    fit = fits_more messages message putting.fit short;
-    sent = subst (Sent begun.outgoing.output new.outgoing.output [] waiting) (sym (more_bytes messages message))
-        (both_sent _ _ _ [] now.waiting waiting (unended_bytes messages) (spelling (Message message)) putting.sent sent.0);
-    quiet = sent.1 ∙ putting.quiet;
-    unread = sent.2 ∙ putting.unread;
-  }
+  sent_more made is short sends =
+      let sent = subst (λ (m : Payload). SendsPart (Ok tt) (spelling (Message m)) now.line new now.waiting waiting) is sends in
+      record {
+        left = putting.left;
+        is_open = putting.is_open;
+        fit = fits_more messages message putting.fit (subst (λ (m : Payload). length m ≤ 16777216) is short);
+        sent = subst (Sent begun.outgoing.output new.outgoing.output [] waiting) (sym (more_bytes messages message))
+            (both_sent _ _ _ [] now.waiting waiting (unended_bytes messages) (spelling (Message message)) putting.sent sent.0);
+        quiet = sent.1 ∙ putting.quiet;
+        unread = sent.2 ∙ putting.unread;
+      }
 
-  pub not_sent_more : (fault : Fault) → SendsPart (Err fault) (spelling (Message message)) now.line new now.waiting waiting
+  pub not_sent_more : (made : Payload) → made ≡ message → (fault : Fault) → SendsPart (Err fault) (spelling (Message made)) now.line new now.waiting waiting
       → FailsPut (Found fault) (messages ++ message ∷ []) begun new
-  not_sent_more fault failed = (
+  not_sent_more made is fault fails =
+      let failed = subst (λ (m : Payload). SendsPart (Err fault) (spelling (Message m)) now.line new now.waiting waiting) is fails in (
     fault,
     refl,
     inl (failed.0, failed.2 ∙ ap (λ (n : ℕ). n + 1) putting.quiet),
@@ -145,11 +148,11 @@ module _ (old new : Line) (first : Payload) (messages : List Payload) (one : fir
   first_bytes = ap (λ l. spelling (Open (path_of DoPut)) ++ l) (sym (append-nil (spelling (Message first)))) ∙ ap unended_bytes one
 
   pub begun_first : (before waiting : List ℕ) → before ≡ [] → IsOpen old → length first ≤ 16777216 → SendsPart (Ok tt) opening old new before waiting → IsPutting messages old (put_at new waiting)
-  begun_first before waiting none (left, open) short sent =
+  begun_first before waiting none (left, opened) short sent =
       let Short : Payload → Type 0 = λ m. length m ≤ most_message_bytes in
       record {
         left = left;
-        open = open;
+        is_open = opened;
         fit = subst Fit one (All-cons Short first [] short (All-nil Short));
         sent = subst (λ (l : List ℕ). Sent old.outgoing.output new.outgoing.output l waiting (unended_bytes messages)) none
             (subst (Sent old.outgoing.output new.outgoing.output before waiting) first_bytes sent.0);
@@ -201,14 +204,13 @@ stopped_first old messages fault (at, is) = (
 
 -- ---- its end
 
+pub start : (messages : List Payload) (begun : Line) (a : Option (List ℕ)) (x : ℕ) (left : Received) (b : Option (List ℕ)) (y : ℕ) (before : List ℕ) (line : Line) (stopped : Option Fault)
+    → IsPutting messages begun (put_at line before) → line_of a x stopped left (outgoing_of b y) ≡ line → Sent begun.outgoing.output b [] before (unended_bytes messages)
+start messages begun a x left b y before line stopped putting is =
+    subst (λ (l : Line). Sent begun.outgoing.output l.outgoing.output [] before (unended_bytes messages)) (sym is) putting.sent
+
 module _ (messages : List Payload) (begun : Line) (a : Option (List ℕ)) (x : ℕ) (left : Received) (b c : Option (List ℕ)) (y z : ℕ) (before : List ℕ) (line : Line)
     (putting : IsPutting messages begun (put_at line before)) (stopped : Option Fault) (is : line_of a x stopped left (outgoing_of b y) ≡ line) where
-  written : Sent begun.outgoing.output b [] before (unended_bytes messages)
-  written = subst (λ (l : Line). Sent begun.outgoing.output l.outgoing.output [] before (unended_bytes messages)) (sym is) putting.sent
-
-  pub start : Sent begun.outgoing.output b [] before (unended_bytes messages)
-  start = written
-
   pub ended : Writes {A = Unit {0}} {E = Fault} (Ok tt) begun.outgoing.output c (unended_bytes messages ++ spelling End) → z ≡ y
       → SendsCall (Ok tt) DoPut messages begun (line_of a x stopped left (outgoing_of c z))
   ended wrote same = (

@@ -38,7 +38,7 @@ unended_bytes messages = flat_map spelling (Open (path_of DoPut) ∷ map Message
 -- a put of these messages was sent, without its End: it is written, but for what waits, and nothing was read
 pub record IsPutting (messages : List Payload) (old : Line) (now : PutAt) : Type 0 where
   pub left : Received
-  pub open : old.incoming.left ≡ Ok left
+  pub is_open : old.incoming.left ≡ Ok left
   pub fit : Fit messages
   pub sent : Sent old.outgoing.output now.line.outgoing.output [] now.waiting (unended_bytes messages)
   pub quiet : now.line.outgoing.failed ≡ old.outgoing.failed

@@ -11,7 +11,7 @@ loop-fields-init c = record {
   taken = [];
   splits = refl;
   holds = none_held _ _ c.new-chunk.ensures;
-  wide = ap (λ (k : ChunkAt). k.width) c.new-chunk.ensures ∙ c.len.ensures;
+  wide = ap (λ (k : ChunkAt). k.width) c.new-chunk.ensures;
   room = omega (arith, ap (λ (k : ChunkAt). k.rows) c.new-chunk.ensures);
 }
 
@@ -63,4 +63,4 @@ pub returns : goal.returns
 returns c =
     let inv = c.loop-fields.invariant in
     let none : c.loop-fields.records ≡ [] = rw c.if-branch.false at c.in_ok-next.ensures in
-    all_taken c.args.columns.now _ _ inv.taken _ _ inv.splits none (c.new-records.ensures ∙ none_in) inv.holds inv.wide
+    all_taken c.args.columns.now _ _ inv.taken _ _ inv.splits none (c.new.ensures ∙ none_in) inv.holds inv.wide

@@ -7,10 +7,10 @@ end_call-requires g c = few_writes _ _ _ _ _ _ _ c.self.view_is c.requires.write
 
 pub returns-in-Ok : goal.returns-in-Ok
 returns-in-Ok g c messages begun putting =
-    let front = start messages begun _ _ _ _ _ _ _ _ _ putting _ c.self.view_is in
+    let front = start messages begun _ _ _ _ _ _ _ _ putting c.self.view_is in
     ended messages begun _ _ _ _ _ _ _ _ _ putting _ c.self.view_is (c.in-Ok.ensures.bytes _ _ front) c.in-Ok.ensures.counted
 
 pub returns-in-Err : goal.returns-in-Err
 returns-in-Err g c messages begun putting =
-    let front = start messages begun _ _ _ _ _ _ _ _ _ putting _ c.self.view_is in
+    let front = start messages begun _ _ _ _ _ _ _ _ putting c.self.view_is in
     not_ended messages begun _ _ _ _ _ _ _ _ _ putting _ c.self.view_is c.in-Err.fault (c.in-Err.ensures.bytes _ _ front) c.in-Err.ensures.counted c.in-Err.ensures.kind
