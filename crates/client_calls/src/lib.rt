@@ -11,9 +11,10 @@ mod call;
 mod connection;
 mod expiring;
 mod failure;
+mod feeding;
 mod fetching;
 mod putting;
-mod sending;
+
 mod streaming;
 mod taken;
 
@@ -24,5 +25,5 @@ pub use crate::expiring::expire;
 pub use crate::failure::Failure;
 pub use crate::fetching::fetch;
 pub use crate::putting::{Target, put};
-pub use crate::sending::Putting;
+pub use crate::feeding::Putting;
 pub use crate::streaming::Fetching;

@@ -58,6 +58,15 @@ pub right_all : (columns : List Field) (all read left : List (List (List ℕ))) 
 right_all columns all read left splits none right =
     subst (AreRight columns) (sym (splits ∙ ap (λ (l : List (List (List ℕ))). read ++ l) none ∙ append-nil read)) right
 
+-- those that are left are right
+pub right_rest : (columns : List Field) (all read left : List (List (List ℕ))) → all ≡ read ++ left → AreRight columns all → AreRight columns left
+right_rest columns all read left splits right = λ k d low.
+    let inside : length read + k < length all = omega (arith, low, ap length splits, length-append read left) in
+    subst (IsRight columns) (ap (λ (l : List (List (List ℕ))). get_or l (length read + k) d) splits ∙ get_or-append-add read left k d) (right (length read + k) d inside)
+
+pub right_none : (columns : List Field) (left : List (List (List ℕ))) → left ≡ [] → AreRight columns left
+right_none columns left none = λ k d low. absurd (omega (arith, low, ap length none))
+
 -- it is the first that is wrong where those before it are right
 pub wrong_first : (columns : List Field) (all read : List (List (List ℕ))) (fields : List (List ℕ)) (left rest : List (List (List ℕ))) (before : ℕ) (wrong : Wrong) → all ≡ read ++ left → left ≡ fields ∷ rest →
     before ≡ length read → AreRight columns read → IsWrong columns fields wrong → IsFirstWrong columns all (record { before = before; wrong = wrong })

@@ -24,7 +24,8 @@ fn next_batch(
 ) -> Result<Option<Batch>, Fault>
     requires plain { All (λ column. encoding_of column.data_type ≡ None) columns.now }
     requires right { AreRight columns.now records.old }
-    ensures { IfOk result (λ found. TakesBatch columns.now found records.old records.new) }
+    ensures taken { IfOk result (λ found. TakesBatch columns.now found records.old records.new) }
+    ensures right { AreRight columns.now records.new }
 {
     let chunk = next_chunk(alloc, columns, records)?;
     if chunk.rows() == 0 {
@@ -51,7 +52,8 @@ pub fn next_message(
     requires schema { IsSchema schema.now }
     requires plain { All (λ column. encoding_of column.data_type ≡ None) schema.now.fields }
     requires right { AreRight schema.now.fields records.old }
-    ensures { IfOk result (λ found. TakesMessage schema.now found records.old records.new) }
+    ensures taken { IfOk result (λ found. TakesMessage schema.now found records.old records.new) }
+    ensures right { AreRight schema.now.fields records.new }
 {
     match next_batch(alloc, schema.fields.as_slice(), records)? {
         Some(batch) => Ok(Some(batch_message(alloc, &batch)?)),

@@ -55,7 +55,8 @@ pub(crate) fn next_chunk(
     records: &mut Records<'_>,
 ) -> Result<Chunk, AllocError>
     requires { AreRight columns.now records.old }
-    ensures { IfOk result (λ chunk. HasTaken columns.now chunk records.old records.new) }
+    ensures taken { IfOk result (λ chunk. HasTaken columns.now chunk records.old records.new) }
+    ensures right { AreRight columns.now records.new }
 {
     let mut chunk = Chunk::new(alloc, columns.len());
     let mut fields = ByteRecord::new(alloc);

@@ -9,10 +9,10 @@ pub unreachable-requires : goal.unreachable-requires
 unreachable-requires c =
     let columns = c.args.columns.now in
     let wrong : HasWrongColumn c.in_ok-chunk.chunk columns = rw c.in-None.is at c.in_ok-batch.ensures in
-    none_wrong columns c.in_ok-chunk.chunk _ _ (record { name = []; nullable = false; data_type = type.Bool }) c.in_ok-chunk.ensures c.requires.right wrong
+    none_wrong columns c.in_ok-chunk.chunk _ _ (record { name = []; nullable = false; data_type = type.Bool }) c.in_ok-chunk.ensures.taken c.requires.right wrong
 
-pub returns : goal.returns
-returns c =
+pub returns-clause-taken : goal.returns-clause-taken
+returns-clause-taken c =
     let columns = c.args.columns.now in
     let is : IsBatchOf c.in_ok-chunk.chunk columns c.in-Some.batch = rw c.in-Some.is at c.in_ok-batch.ensures in
-    batch_taken columns c.in_ok-chunk.chunk c.in-Some.batch _ _ c.in_ok-chunk.ensures (λ none. omega (arith, none, c.rows.ensures, c.if-rows-eq0.false)) is
+    batch_taken columns c.in_ok-chunk.chunk c.in-Some.batch _ _ c.in_ok-chunk.ensures.taken (λ none. omega (arith, none, c.rows.ensures, c.if-rows-eq0.false)) is

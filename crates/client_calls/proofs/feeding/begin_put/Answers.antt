@@ -1,6 +1,6 @@
 use Rattle.std.proofs.lemmas.Result.{err_from_is_err_and}
 use Rattle.client_calls.proofs.Puts.{begun_first, not_begun_first, stopped_first, unmade_first}
-use Rattle.client_calls.proofs.sending.begin_put.Goals as goal
+use Rattle.client_calls.proofs.feeding.begin_put.Goals as goal
 
 pub returns-in_err-check : goal.returns-in_err-check
 returns-in_err-check g c =

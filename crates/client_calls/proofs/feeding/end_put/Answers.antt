@@ -2,7 +2,7 @@ use Rattle.std.proofs.lemmas.Result.{err_from_is_err_and}
 use Rattle.client_calls.specs.Commands.{ReadsCount}
 use Rattle.client_calls.proofs.Calling.{called, not_called, call_reads, call_does_not_read, call_gives_none}
 use Rattle.client_calls.proofs.Puts.{not_stopped, was_open}
-use Rattle.client_calls.proofs.sending.end_put.Goals as goal
+use Rattle.client_calls.proofs.feeding.end_put.Goals as goal
 
 pub returns-in_err-check : goal.returns-in_err-check
 returns-in_err-check g c messages begun putting = absurd (not_stopped messages begun _ _ putting c.in_err-check.ensures)

@@ -2,7 +2,7 @@ use Rattle.std.proofs.Common.{sym, subst}
 use Rattle.std.proofs.lemmas.Result.{err_from_is_err_and}
 use Rattle.client_calls.specs.Sending.{IsPutting, PutAt}
 use Rattle.client_calls.proofs.Puts.{not_made_more, not_sent_more, not_stopped, sent_more}
-use Rattle.client_calls.proofs.sending.Putting.send.Goals as goal
+use Rattle.client_calls.proofs.feeding.Putting.send.Goals as goal
 
 pub returns-in_err-check-clause-sent : goal.returns-in_err-check-clause-sent
 returns-in_err-check-clause-sent g c messages begun putting =
