@@ -6,7 +6,7 @@ ghost use Rattle.scan_base.specs.declared.fault.Fault.TheVariants.{Transport};
 ghost use Rattle.grpc_frame.specs.declared.place.Place.TheVariants.{InAnswer};
 ghost use Rattle.grpc_frame.specs.declared.record.Record.TheVariants.{Open, Message};
 ghost use Rattle.grpc_frame.specs.Records.{spelling};
-ghost use Rattle.flight_info.specs.Payloads.{Payload as Bytes};
+ghost use Rattle.flight_info.specs.Payloads.{Payload as PayloadBytes};
 ghost use Rattle.client_calls.specs.declared.call.Method.TheVariants.{DoGet, DoPut};
 ghost use Rattle.client_calls.specs.Answers.{AnswersOne, AnswersStream};
 ghost use Rattle.client_calls.specs.Calls.{path_of};
@@ -214,7 +214,7 @@ impl<R: Input, W: Output> Connection<R, W> {
     pub(crate) fn end_call(&mut self, outbox: &mut Outbox) -> Result<(), Fault>
         requires writes { CanFail (self.old.outgoing.failed) }
         requires is_open { IsOpen self.old }
-        ensures { (messages : List Bytes) (begun : Line) → IsPutting messages begun (put_at self.old outbox.old) →
+        ensures { (messages : List PayloadBytes) (begun : Line) → IsPutting messages begun (put_at self.old outbox.old) →
             SendsCall result DoPut messages begun self.new }
     {
         match end_call(outbox, &mut self.writer) {

@@ -12,6 +12,7 @@ use crate::reading::{columns_of, wrong_record};
 use crate::saying::wrong_line;
 use crate::text::CsvText;
 use arrow_schema::{Field, Schema};
+use bytes::Bytes;
 use command_ends::{ExitStatus, end_by_cause, end_by_fault, read_whole};
 use command_line::CsvForm;
 use csv_columns::columns_text;
@@ -122,23 +123,23 @@ fn check_rows<E: Output>(
 // Reads a text.
 fn read_text<E: Output>(
     alloc: Global,
-    text: Vec<u8>,
+    text: Bytes,
     faults: &mut E,
     form: CsvForm<'_>,
 ) -> Result<CsvText, ExitStatus>
     requires { CanFail (E.failures faults.old) }
-    ensures reads { ReadsText (form_of form.entry) (records_in text.items) (λ text. text) result
+    ensures reads { ReadsText (form_of form.entry) (records_in text) (λ text. text) result
         (said_of E.Output faults.old) (said_of E.Output faults.new) }
     ensures quiet { OnOk result (E.failures faults.new ≡ E.failures faults.old) }
 {
-    let schema = match columns_of(alloc, &text, form) {
+    let schema = match columns_of(alloc, text.as_slice(), form) {
         Ok(schema) => schema,
         Err(fault) => return Err(end_by_fault(faults, fault)),
     };
     if tell_columns(alloc, faults, schema.fields.as_slice(), form).is_err() {
         return Err(ExitStatus::FaultAtThisEnd);
     }
-    check_rows(alloc, &text, faults, &schema, form.header)?;
+    check_rows(alloc, text.as_slice(), faults, &schema, form.header)?;
     Ok(CsvText {
         text,
         schema,

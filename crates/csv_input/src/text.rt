@@ -5,6 +5,7 @@ ghost use Rattle.csv_table.specs.Rows.{SaysRecords, TakesMessage};
 
 use crate::reading::records_behind;
 use arrow_schema::Schema;
+use bytes::Bytes;
 use csv_records::Records;
 use csv_table::{next_message, schema_message};
 use ipc_stream::IpcMessage;
@@ -15,7 +16,7 @@ use std::marker::Model;
 /// A whole text of CSV, of which each record says a row of its columns. A contract sees a `TextAt`.
 #[derive(Drop)]
 pub struct CsvText {
-    pub(crate) text: Vec<u8>,
+    pub(crate) text: Bytes,
     pub(crate) schema: Schema,
     pub(crate) header: bool,
 }
@@ -31,10 +32,10 @@ impl Model for CsvText {
 
     ghost Value = { TextAt };
 
-    ghost view = { λ text. record { schema = text.schema; records = rows_behind text.header (records_in text.text.items) } };
+    ghost view = { λ text. record { schema = text.schema; records = rows_behind text.header (records_in text.text) } };
 
     ghost invariant = { λ text. IsSchema text.schema × All (λ column. encoding_of column.data_type ≡ None) text.schema.fields
-        × AreRight text.schema.fields (rows_behind text.header (records_in text.text.items)) };
+        × AreRight text.schema.fields (rows_behind text.header (records_in text.text)) };
 }
 
 impl CsvText {
@@ -57,7 +58,7 @@ impl CsvText {
     pub fn rows(&self, alloc: Global) -> Result<CsvRows<'_>, AllocError>
         ensures { IfOk result (λ rows. rows ≡ self.now) }
     {
-        let records = records_behind(alloc, &self.text, self.header)?;
+        let records = records_behind(alloc, self.text.as_slice(), self.header)?;
         Ok(CsvRows {
             schema: &self.schema,
             records,
