@@ -1,5 +1,5 @@
 -- A put that is sent message by message.
-use Rattle.std.proofs.Common.{◌≡◌, ℕ, ◌+◌, ◌<◌, ◌≤◌, List, [], ◌∷◌, ◌++◌, length, get_or, Option, Some, None, Ok, Err, inl, inr, arith, refl, sym, ap, subst, ◌∙◌, append_assoc, append-nil}
+use Rattle.std.proofs.Common.{◌≡◌, ◌⊎◌, ℕ, ◌+◌, ◌<◌, ◌≤◌, List, [], ◌∷◌, ◌++◌, length, get_or, Option, Some, None, Ok, Err, inl, inr, arith, refl, sym, ap, subst, ◌∙◌, append_assoc, append-nil}
 use Rattle.std.specs.Prelude.{Result}
 use Rattle.std.specs.Io.KnownBytes.{Appends}
 use Rattle.std.proofs.KnownBytes.{Appends-nil}
@@ -105,16 +105,16 @@ module _ (messages : List Payload) (begun : Line) (now : PutAt) (putting : IsPut
       → FailsPut (Found fault) (messages ++ message ∷ []) begun new
   not_sent_more made is fault fails =
       let failed = subst (λ (m : Payload). SendsPart (Err fault) (spelling (Message m)) now.line new now.waiting waiting) is fails in (
-    fault,
-    refl,
-    inl (failed.0, failed.2 ∙ ap (λ (n : ℕ). n + 1) putting.quiet),
-    record {
-      wrote = subst (AppendsBeginning begun.outgoing.output new.outgoing.output) (sym (more_bytes messages message))
-          (begun_alone _ _ [] waiting _ refl (second_not_sent _ _ _ [] now.waiting waiting (unended_bytes messages) (spelling (Message message)) putting.sent failed.1));
-      stopped = failed.3 ∙ ap (λ (i : Incoming). record i { left = stopped_by Transport i.left }) putting.unread
-          ∙ ap (λ (f : Fault). record begun.incoming { left = stopped_by f begun.incoming.left }) (sym failed.0);
-    },
-  )
+        fault,
+        refl,
+        inl (failed.0, failed.2 ∙ ap (λ (n : ℕ). n + 1) putting.quiet),
+        record {
+          wrote = subst (AppendsBeginning begun.outgoing.output new.outgoing.output) (sym (more_bytes messages message))
+              (begun_alone _ _ [] waiting _ refl (second_not_sent _ _ _ [] now.waiting waiting (unended_bytes messages) (spelling (Message message)) putting.sent failed.1));
+          stopped = failed.3 ∙ ap (λ (i : Incoming). record i { left = stopped_by Transport i.left }) putting.unread
+              ∙ ap (λ (f : Fault). record begun.incoming { left = stopped_by f begun.incoming.left }) (sym failed.0);
+        },
+      )
 
   pub not_made_more : (fault : Fault) → IsUnmade fault (message ∷ []) → StopsAt fault now.line new → FailsPut (Found fault) (messages ++ message ∷ []) begun new
   not_made_more fault why stops = (
@@ -141,7 +141,7 @@ module _ (messages : List Payload) (begun : Line) (now : PutAt) (putting : IsPut
 -- ---- its beginning
 
 module _ (old new : Line) (first : Payload) (messages : List Payload) (one : first ∷ [] ≡ messages) where
-  opening : List ℕ
+  abbrev pub opening : List ℕ
   opening = spelling (Open (path_of DoPut)) ++ spelling (Message first)
 
   first_bytes : opening ≡ unended_bytes messages

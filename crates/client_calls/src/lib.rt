@@ -14,7 +14,6 @@ mod failure;
 mod feeding;
 mod fetching;
 mod putting;
-
 mod streaming;
 mod taken;
 
@@ -23,7 +22,7 @@ pub use crate::call::Method;
 pub use crate::connection::Connection;
 pub use crate::expiring::expire;
 pub use crate::failure::Failure;
+pub use crate::feeding::Putting;
 pub use crate::fetching::fetch;
 pub use crate::putting::{Target, put};
-pub use crate::feeding::Putting;
 pub use crate::streaming::Fetching;
