@@ -1,6 +1,6 @@
 //! A client's connection.
 
-ghost use Rattle.std.specs.Prelude.{◌≡◌, ◌≢◌, ◌≤◌, ◌++◌, [], List, Some, None, Ok, MatchResult, length};
+ghost use Rattle.std.specs.Prelude.{◌≡◌, ◌≢◌, ◌≤◌, ◌++◌, [], List, Some, None, Ok, OnOk, MatchResult, length};
 ghost use Rattle.grpc_frame.specs.Ends.{CanFail};
 ghost use Rattle.scan_base.specs.declared.fault.Fault.TheVariants.{Transport};
 ghost use Rattle.grpc_frame.specs.declared.place.Place.TheVariants.{InAnswer};
@@ -214,8 +214,9 @@ impl<R: Input, W: Output> Connection<R, W> {
     pub(crate) fn end_call(&mut self, outbox: &mut Outbox) -> Result<(), Fault>
         requires writes { CanFail (self.old.outgoing.failed) }
         requires is_open { IsOpen self.old }
-        ensures { (messages : List PayloadBytes) (begun : Line) → IsPutting messages begun (put_at self.old outbox.old) →
+        ensures ended { (messages : List PayloadBytes) (begun : Line) → IsPutting messages begun (put_at self.old outbox.old) →
             SendsCall result DoPut messages begun self.new }
+        ensures unread { OnOk result (self.new.incoming ≡ self.old.incoming) }
     {
         match end_call(outbox, &mut self.writer) {
             Ok(()) => Ok(()),

@@ -80,13 +80,15 @@ impl<R: Input + Drop, W: Output + Drop> Putting<R, W> {
         ensures quiet { OnOk result (self.new.line.outgoing.failed ≡ self.old.line.outgoing.failed) }
     {
         self.connection.check()?;
-        match later_message(alloc, message) {
-            Ok(payload) => Ok(self.connection.send_message(&mut self.outbox, &payload)?),
+        let payload = match later_message(alloc, message) {
+            Ok(payload) => payload,
             Err(fault) => {
                 self.connection.stop(fault);
-                Err(Failure::Found(fault))
+                return Err(Failure::Found(fault));
             }
-        }
+        };
+        self.connection.send_message(&mut self.outbox, &payload)?;
+        Ok(())
     }
 
     /// Ends the put: the connection, for the next call, and how many rows were put.

@@ -8,16 +8,16 @@ pub returns-in_err-check-clause-sent : goal.returns-in_err-check-clause-sent
 returns-in_err-check-clause-sent g c messages begun putting =
     absurd (not_stopped messages begun _ _ (subst {A = PutAt} (λ (p : PutAt). IsPutting messages begun p) (sym c.self.view_is) putting) c.in_err-check.ensures)
 
-pub returns-in_err-send_message-in-Ok-clause-sent : goal.returns-in_err-send_message-in-Ok-clause-sent
-returns-in_err-send_message-in-Ok-clause-sent g c messages begun putting =
-    let p = err_from_is_err_and c.from_residual-in_err-send_message-in-Ok.result c.from_residual-in_err-send_message-in-Ok.ensures.1 in
+pub returns-in_err-send_message-clause-sent : goal.returns-in_err-send_message-clause-sent
+returns-in_err-send_message-clause-sent g c messages begun putting =
+    let p = err_from_is_err_and c.from_residual-in_err-send_message.result c.from_residual-in_err-send_message.ensures.1 in
     let now = subst {A = PutAt} (λ (p : PutAt). IsPutting messages begun p) (sym c.self.view_is) putting in
-    rw (p.1, p.2) (not_sent_more messages begun _ now _ _ _ _ c.in-Ok.ensures.0 _ c.in_err-send_message-in-Ok.ensures)
+    rw (p.1, p.2) (not_sent_more messages begun _ now _ _ _ _ c.in-Ok.ensures.0 _ c.in_err-send_message.ensures)
 
-pub returns-in_ok-send_message-in-Ok-clause-sent : goal.returns-in_ok-send_message-in-Ok-clause-sent
-returns-in_ok-send_message-in-Ok-clause-sent g c messages begun putting =
+pub returns-clause-sent : goal.returns-clause-sent
+returns-clause-sent g c messages begun putting =
     let now = subst {A = PutAt} (λ (p : PutAt). IsPutting messages begun p) (sym c.self.view_is) putting in
-    sent_more messages begun _ now _ _ _ _ c.in-Ok.ensures.0 c.in-Ok.ensures.1 c.in_ok-send_message-in-Ok.ensures
+    sent_more messages begun _ now _ _ _ _ c.in-Ok.ensures.0 c.in-Ok.ensures.1 c.in_ok-send_message.ensures
 
 pub returns-in-Err-clause-sent : goal.returns-in-Err-clause-sent
 returns-in-Err-clause-sent g c messages begun putting =
