@@ -37,7 +37,11 @@ pub(crate) fn columns_of(alloc: Global, text: &[u8], form: CsvForm<'_>) -> Resul
 }
 
 /// The records that say rows.
-pub(crate) fn records_behind(alloc: Global, text: &[u8], header: bool) -> Result<Records<'_>, AllocError>
+pub(crate) fn records_behind(
+    alloc: Global,
+    text: &[u8],
+    header: bool,
+) -> Result<Records<'_>, AllocError>
     ensures { IfOk result (λ records. records ≡ rows_behind header (records_in text.now)) }
 {
     let mut records = Records::new(alloc, text);
