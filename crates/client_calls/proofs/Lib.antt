@@ -4,4 +4,5 @@ pub mod Streams
 pub mod Sending
 pub mod Calling
 pub mod Payloads
+pub mod Puts
 pub mod Next

@@ -42,14 +42,14 @@ messages_bytes messages = flat_map spelling (map Message messages)
 abbrev pub front_bytes : Method → List Payload → List ℕ
 front_bytes method messages = spelling (Open (path_of method)) ++ messages_bytes messages
 
-bytes_more : (messages : List Payload) (message : Payload) → messages_bytes (messages ++ message ∷ []) ≡ messages_bytes messages ++ spelling (Message message)
+pub bytes_more : (messages : List Payload) (message : Payload) → messages_bytes (messages ++ message ∷ []) ≡ messages_bytes messages ++ spelling (Message message)
 bytes_more messages message =
     ap (flat_map spelling) (map-append Message messages (message ∷ []))
     ∙ flat_map-append spelling (map Message messages) (Message message ∷ [])
     ∙ ap (λ l. messages_bytes messages ++ l) (append-nil (spelling (Message message)))
 
 -- a call is what stands before its End, and that
-end_last : (method : Method) (messages : List Payload) → call_bytes method messages ≡ front_bytes method messages ++ spelling End
+pub end_last : (method : Method) (messages : List Payload) → call_bytes method messages ≡ front_bytes method messages ++ spelling End
 end_last method messages =
     let opening = spelling (Open (path_of method)) in
     ap (λ l. opening ++ l) (flat_map-append spelling (map Message messages) (End ∷ []) ∙ ap (λ l. messages_bytes messages ++ l) (append-nil (spelling End)))

@@ -3,4 +3,5 @@ pub mod Commands
 pub mod Answers
 pub mod Taking
 pub mod Outcome
+pub mod Sending
 pub mod inside

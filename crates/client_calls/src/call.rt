@@ -1,11 +1,11 @@
 //! Writing a call.
 
-ghost use Rattle.std.specs.Prelude.{◌≡◌, ◌<◌, ◌≤◌, length, true, false, Result};
+ghost use Rattle.std.specs.Prelude.{◌≡◌, ◌<◌, ◌≤◌, ◌++◌, [], ℕ, List, Option, length, true, false, Result};
 ghost use Rattle.scan_base.specs.Limits.{most_path_bytes};
-ghost use Rattle.grpc_frame.specs.declared.record.Record.TheVariants.{Open, Message};
+ghost use Rattle.grpc_frame.specs.declared.record.Record.TheVariants.{Open, Message, End};
 ghost use Rattle.grpc_frame.specs.Records.{spelling};
-ghost use Rattle.grpc_frame.specs.Ends.{CanFail, CountsFailure, FailsByTransport};
-ghost use Rattle.grpc_frame.specs.Sending.{Sends};
+ghost use Rattle.grpc_frame.specs.Ends.{CanFail, CountsFailure, FailsByTransport, Writes};
+ghost use Rattle.grpc_frame.specs.Sending.{Sends, Sent};
 ghost use Rattle.client_calls.specs.Calls.{path_of, call_bytes, Fit};
 ghost use Rattle.client_calls.specs.inside.Parts.{WritesCall, outgoing_of};
 
@@ -73,7 +73,7 @@ impl Model for Payload {
 
 impl Payload {
     // It fits a record.
-    fn is_short(&self) -> bool
+    pub(crate) fn is_short(&self) -> bool
         ensures yes { result ≡ true → length self.now ≤ 16777216 }
         ensures no { result ≡ false → 16777216 < length self.now }
     {
@@ -116,8 +116,8 @@ fn send_open<W: Output>(outbox: &mut Outbox, writer: &mut W, method: Method) -> 
     outbox.send_parts(writer, &[OPEN, high, low], path)
 }
 
-// Sends a Message.
-fn send_payload<W: Output>(
+/// Sends a Message.
+pub(crate) fn send_payload<W: Output>(
     outbox: &mut Outbox,
     writer: &mut W,
     message: &Payload,
@@ -152,6 +152,36 @@ fn send_call<W: Output>(
         send_payload(outbox, writer, message)?;
     }
     outbox.send_part(writer, &[END])
+}
+
+/// Sends the Open of a call and its first message.
+pub(crate) fn begin_call<W: Output>(
+    outbox: &mut Outbox,
+    writer: &mut W,
+    method: Method,
+    message: &Payload,
+) -> Result<(), Fault>
+    requires failures { CanFail (W.failures writer.old) }
+    requires short { length message.now ≤ 16777216 }
+    ensures bytes { Sends result (W.contents writer.old) (W.contents writer.new)
+        outbox.old outbox.new (spelling (Open (path_of method)) ++ spelling (Message message.now)) }
+    ensures counted { CountsFailure result (W.failures writer.old) (W.failures writer.new) }
+    ensures kind { FailsByTransport result }
+{
+    send_open(outbox, writer, method)?;
+    send_payload(outbox, writer, message)
+}
+
+/// Sends the End of a call, and writes what waits.
+pub(crate) fn end_call<W: Output>(outbox: &mut Outbox, writer: &mut W) -> Result<(), Fault>
+    requires { CanFail (W.failures writer.old) }
+    ensures bytes { (start : Option (List ℕ)) (bytes : List ℕ) → Sent start (W.contents writer.old) [] outbox.old bytes →
+        Writes result start (W.contents writer.new) (bytes ++ spelling End) }
+    ensures counted { CountsFailure result (W.failures writer.old) (W.failures writer.new) }
+    ensures kind { FailsByTransport result }
+{
+    outbox.send_part(writer, &[END])?;
+    outbox.flush(writer)
 }
 
 /// Writes a call of a method with these messages. Where it is small it is one write.

@@ -1,20 +1,25 @@
 //! A client's connection.
 
-ghost use Rattle.std.specs.Prelude.{◌≡◌, ◌≢◌, [], Some, None, Ok, MatchResult};
+ghost use Rattle.std.specs.Prelude.{◌≡◌, ◌≢◌, ◌≤◌, ◌++◌, [], List, Some, None, Ok, OnOk, MatchResult, length};
 ghost use Rattle.grpc_frame.specs.Ends.{CanFail};
 ghost use Rattle.scan_base.specs.declared.fault.Fault.TheVariants.{Transport};
 ghost use Rattle.grpc_frame.specs.declared.place.Place.TheVariants.{InAnswer};
-ghost use Rattle.client_calls.specs.declared.call.Method.TheVariants.{DoGet};
+ghost use Rattle.grpc_frame.specs.declared.record.Record.TheVariants.{Open, Message};
+ghost use Rattle.grpc_frame.specs.Records.{spelling};
+ghost use Rattle.flight_info.specs.Payloads.{Payload as PayloadBytes};
+ghost use Rattle.client_calls.specs.declared.call.Method.TheVariants.{DoGet, DoPut};
 ghost use Rattle.client_calls.specs.Answers.{AnswersOne, AnswersStream};
-ghost use Rattle.client_calls.specs.Outcome.{Calls};
-ghost use Rattle.client_calls.specs.inside.Parts.{IsOpen, HasStopped, SendsCall, Receives, line_of, outgoing_of};
+ghost use Rattle.client_calls.specs.Calls.{path_of};
+ghost use Rattle.client_calls.specs.Outcome.{Calls, Line};
+ghost use Rattle.client_calls.specs.Sending.{IsPutting, put_at};
+ghost use Rattle.client_calls.specs.inside.Parts.{IsOpen, HasStopped, SendsCall, SendsPart, StopsAt, Receives, line_of, outgoing_of};
 
 use crate::answer::{read_one, read_stream};
-use crate::call::{Method, Payload, write_call};
+use crate::call::{Method, Payload, begin_call, end_call, send_payload, write_call};
 use crate::failure::Failure;
 use bytes::Bytes;
 use flight_client::Stream;
-use grpc_frame::{Inbox, Input, Output};
+use grpc_frame::{Inbox, Input, Outbox, Output};
 use scan_base::Fault;
 use std::alloc::Global;
 use std::marker::Model;
@@ -155,8 +160,75 @@ impl<R: Input, W: Output> Connection<R, W> {
         }
     }
 
+    // Stops by a fault.
+    pub(crate) fn stop(&mut self, fault: Fault)
+        requires { IsOpen self.old }
+        ensures { StopsAt fault self.old self.new }
+    {
+        self.stopped = Some(fault);
+    }
+
+    // Sends the Open of a call and its first message.
+    pub(crate) fn begin_call(
+        &mut self,
+        outbox: &mut Outbox,
+        method: Method,
+        message: &Payload,
+    ) -> Result<(), Fault>
+        requires writes { CanFail (self.old.outgoing.failed) }
+        requires is_open { IsOpen self.old }
+        requires short { length message.now ≤ 16777216 }
+        ensures { SendsPart result (spelling (Open (path_of method)) ++ spelling (Message message.now))
+            self.old self.new outbox.old outbox.new }
+    {
+        match begin_call(outbox, &mut self.writer, method, message) {
+            Ok(()) => Ok(()),
+            Err(fault) => {
+                self.stopped = Some(fault);
+                Err(fault)
+            }
+        }
+    }
+
+    // Sends one message more of a call.
+    pub(crate) fn send_message(
+        &mut self,
+        outbox: &mut Outbox,
+        message: &Payload,
+    ) -> Result<(), Fault>
+        requires writes { CanFail (self.old.outgoing.failed) }
+        requires is_open { IsOpen self.old }
+        requires short { length message.now ≤ 16777216 }
+        ensures { SendsPart result (spelling (Message message.now)) self.old self.new outbox.old outbox.new }
+    {
+        match send_payload(outbox, &mut self.writer, message) {
+            Ok(()) => Ok(()),
+            Err(fault) => {
+                self.stopped = Some(fault);
+                Err(fault)
+            }
+        }
+    }
+
+    // Ends a put: sends its End, and writes what waits.
+    pub(crate) fn end_call(&mut self, outbox: &mut Outbox) -> Result<(), Fault>
+        requires writes { CanFail (self.old.outgoing.failed) }
+        requires is_open { IsOpen self.old }
+        ensures ended { (messages : List PayloadBytes) (begun : Line) → IsPutting messages begun (put_at self.old outbox.old) →
+            SendsCall result DoPut messages begun self.new }
+        ensures unread { OnOk result (self.new.incoming ≡ self.old.incoming) }
+    {
+        match end_call(outbox, &mut self.writer) {
+            Ok(()) => Ok(()),
+            Err(fault) => {
+                self.stopped = Some(fault);
+                Err(fault)
+            }
+        }
+    }
+
     // Reads an answer of one message.
-    fn receive_one(&mut self) -> Result<Bytes, Failure>
+    pub(crate) fn receive_one(&mut self) -> Result<Bytes, Failure>
         requires reads { CanFail (self.old.incoming.failed) }
         requires is_open { IsOpen self.old }
         ensures { Receives (AnswersOne (λ given message. given ≡ Ok message) result) self.old self.new }

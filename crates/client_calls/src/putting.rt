@@ -1,13 +1,17 @@
 //! Putting a stream into a table.
 
-ghost use Rattle.std.specs.Prelude.{◌≡◌, ◌++◌, map, None, IfOk, OnOk};
+ghost use Rattle.std.specs.Prelude.{◌≡◌, ◌≤◌, ◌∷◌, [], ◌++◌, length, map, None, IfOk, OnOk, MatchResult};
+ghost use Rattle.scan_base.specs.declared.fault.Fault.TheVariants.{MessageTooLarge};
 ghost use Rattle.grpc_frame.specs.Ends.{CanFail};
 ghost use Rattle.flight_proto.specs.FlightData.{data_bytes};
 ghost use Rattle.flight_proto.specs.StatementIngest.{options_said};
 ghost use Rattle.client_calls.specs.declared.call.Method.TheVariants.{DoPut};
 ghost use Rattle.client_calls.specs.Answers.{AnswersOne};
 ghost use Rattle.client_calls.specs.Commands.{options_of_mode, put_payloads, carried_in, ReadsCount};
+ghost use Rattle.client_calls.specs.Calls.{Fit};
 ghost use Rattle.client_calls.specs.Outcome.{Calls};
+ghost use Rattle.client_calls.specs.Sending.{later_payload};
+ghost use Rattle.client_calls.specs.inside.Parts.{IsUnmade};
 ghost use Rattle.client_calls.specs.inside.Heads.{put_command_bytes, first_payload};
 
 use crate::call::{Method, Payload};
@@ -141,8 +145,49 @@ fn put_payloads(
     Ok(payloads)
 }
 
-// How many rows a PutResult says.
-fn read_count(message: &[u8]) -> Result<u64, Fault>
+// A message that fits a record.
+fn short_payload(payload: Payload) -> Result<Payload, Fault>
+    ensures { MatchResult result (λ made. (made ≡ payload) × (length made ≤ 16777216))
+        (λ fault. (fault ≡ MessageTooLarge) × ¬ Fit (payload ∷ [])) }
+{
+    if payload.is_short() {
+        return Ok(payload);
+    }
+    Err(Fault::MessageTooLarge)
+}
+
+/// The first message of a put, which fits a record.
+///
+/// # Errors
+///
+/// `Fault::MessageTooLarge` where it does not, and `Fault::OutOfMemory` where memory is refused.
+pub(crate) fn first_message(
+    alloc: Global,
+    target: Target<'_>,
+    message: &IpcMessage,
+) -> Result<Payload, Fault>
+    ensures { MatchResult result
+        (λ made. (made ∷ [] ≡ put_payloads target.entry (message.now ∷ [])) × (length made ≤ 16777216))
+        (λ fault. IsUnmade fault (put_payloads target.entry (message.now ∷ []))) }
+{
+    let head = command_head(alloc, target)?;
+    short_payload(payload_of(head, message)?)
+}
+
+/// A message of a put behind the first, which fits a record.
+///
+/// # Errors
+///
+/// `Fault::MessageTooLarge` where it does not, and `Fault::OutOfMemory` where memory is refused.
+pub(crate) fn later_message(alloc: Global, message: &IpcMessage) -> Result<Payload, Fault>
+    ensures { MatchResult result (λ made. (made ≡ later_payload message.now) × (length made ≤ 16777216))
+        (λ fault. IsUnmade fault (later_payload message.now ∷ [])) }
+{
+    short_payload(payload_of(Vec::new(alloc), message)?)
+}
+
+/// How many rows a PutResult says.
+pub(crate) fn read_count(message: &[u8]) -> Result<u64, Fault>
     ensures { ReadsCount result message.now }
 {
     let rows = read_rows_put(message)?;

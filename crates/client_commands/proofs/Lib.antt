@@ -5,3 +5,4 @@ pub mod Even
 pub mod Spread
 pub mod Listing
 pub mod Listed
+pub mod RowsSent

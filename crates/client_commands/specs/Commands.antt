@@ -20,10 +20,11 @@ use Rattle.command_ends.specs.Printing.{Said, Prints, cause_lines, count_line, f
 use Rattle.command_ends.specs.Whole.{Source, ReadsMessages}
 use Rattle.command_ends.specs.declared.exit_status.ExitStatus.{ExitStatus}
 use Rattle.command_ends.specs.declared.exit_status.ExitStatus.TheVariants.{FaultAtThisEnd}
-use Rattle.csv_input.specs.Input.{Form, ReadsCsv}
+use Rattle.csv_input.specs.Input.{Form, ReadsCsv, TextAt}
 use Rattle.client_commands.specs.Fetching.{Fetches}
 use Rattle.client_commands.specs.Lines.{opened_line}
 use Rattle.client_commands.specs.Names.{names_listed}
+use Rattle.client_commands.specs.RowsPut.{PutsRows}
 use Rattle.client_commands.specs.Told.{Tells}
 
 -- what a command prints on: its output and its faults, before and behind it
@@ -107,16 +108,16 @@ Puts old new untouched Gives target status desk desk' =
 
 -- the input was not read, or says no rows, and why is printed: no connection is made
 pub record IsNoCsv (form : Form) (old new : Source) (untouched : Type 0) (status : ExitStatus) (desk desk' : Desk) : Type 0 where
-  pub reads : ReadsCsv {A = List IpcMessage} form (λ messages. messages) (Err status) old new desk.faults desk'.faults
+  pub reads : ReadsCsv {A = TextAt} form (λ text. text) (Err status) old new desk.faults desk'.faults
   pub alone : untouched
   pub nothing : desk'.out ≡ desk.out
 
--- these messages say the rows of the whole input. They are put, and the line of their count is printed.
+-- each record of the whole input says a row. The rows are put, and the line of their count is printed.
 pub record IsPutCsv (form : Form) (old new : Source) (Gives : Option Ends → Type 0) (target : Target) (status : ExitStatus) (desk desk' : Desk) : Type 0 where
-  pub messages : List IpcMessage
+  pub text : TextAt
   pub middle : Said
-  pub reads : ReadsCsv form (λ (messages : List IpcMessage). messages) (Ok messages) old new desk.faults middle
-  pub puts : Connects Gives (Calls DoPut (put_payloads target messages) (AnswersOne ReadsCount)) (Tells count_line) status (desk_of desk.out middle) desk'
+  pub reads : ReadsCsv form (λ (text : TextAt). text) (Ok text) old new desk.faults middle
+  pub puts : Connects Gives (PutsRows target text) (Tells count_line) status (desk_of desk.out middle) desk'
 
 abbrev pub PutsCsv : Form → Source → Source → Type 0 → (Option Ends → Type 0) → Target → ExitStatus → Desk → Desk → Type 0
 PutsCsv form old new untouched Gives target status desk desk' =

@@ -6,6 +6,7 @@ pub mod Handles
 pub mod Spread
 pub mod Streaming
 pub mod Names
+pub mod RowsPut
 pub mod Commands
 pub mod Queries
 pub mod inside

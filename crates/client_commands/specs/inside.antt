@@ -3,3 +3,4 @@ pub mod Naming
 pub mod Parts
 pub mod Passing
 pub mod Forms
+pub mod RowsSent

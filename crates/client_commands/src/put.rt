@@ -10,14 +10,16 @@ ghost use Rattle.command_ends.specs.Printing.{count_line, said_of};
 ghost use Rattle.command_ends.specs.Whole.{source_of};
 ghost use Rattle.client_commands.specs.Told.{Tells};
 ghost use Rattle.client_commands.specs.Commands.{Connects, Puts, PutsCsv, desk_of};
+ghost use Rattle.client_commands.specs.RowsPut.{PutsRows};
 ghost use Rattle.csv_input.specs.Input.{form_of};
 
 use crate::connecting::{end_unconnected, open};
+use crate::rows_put::put_rows;
 use crate::telling::{end_by_failure, end_by_printing};
 use client_calls::{Failure, Target};
 use command_ends::{Connect, ExitStatus, end_by_cause, end_by_fault, print_count, read_messages};
 use command_line::CsvForm;
-use csv_input::read_csv;
+use csv_input::{CsvText, read_csv};
 use grpc_frame::{Input, Output};
 use ipc_stream::IpcMessage;
 use scan_base::Fault;
@@ -68,9 +70,10 @@ pub struct CsvPutting<'a> {
     pub form: CsvForm<'a>,
 }
 
-/// Puts the rows that the whole input says as CSV into a table, and prints how many rows were put. The input is read, and all
-/// messages are made, before a connection is. Columns that are found are printed on `faults` in a line. A fault is printed there
-/// in a line, as far as that takes it.
+/// Puts the rows that the whole input says as CSV into a table, and prints how many rows were put. The input is read, and each
+/// record is looked at, before a connection is made. Then its rows are made and sent, batch by batch, so that memory holds the
+/// text and one batch. Columns that are found are printed on `faults` in a line. A fault is printed there in a line, as far as
+/// that takes it.
 pub fn put_csv<C: Connect, I: Input, W: Output, E: Output>(
     alloc: Global,
     network: &mut C,
@@ -84,19 +87,40 @@ pub fn put_csv<C: Connect, I: Input, W: Output, E: Output>(
     requires writes { CanFail (W.failures output.old) }
     requires prints { CanFail (E.failures faults.old) }
 
-    // The input says no rows or was not read, and why is printed; or the messages of its rows were put, and what came of it is.
+    // The input says no rows or was not read, and why is printed; or its rows were put, and what came of it is.
     ensures { PutsCsv (form_of putting.entry.form) (source_of I.Input input.old) (source_of I.Input input.new) (network.new ≡ network.old)
         (λ ends. C.connects network.old putting.entry.putting.port ends network.new) putting.entry.putting.target result
         (desk_of (said_of W.Output output.old) (said_of E.Output faults.old))
         (desk_of (said_of W.Output output.new) (said_of E.Output faults.new)) }
 {
     match read_csv(alloc, input, faults, putting.form) {
-        Ok(messages) => {
-            let target = putting.putting;
-            put_messages(alloc, network, output, faults, target, &messages)
-        }
+        Ok(text) => put_text(alloc, network, output, faults, putting.putting, &text),
         Err(status) => status,
     }
+}
+
+// Puts the rows of a text over a connection.
+fn put_text<C: Connect, W: Output, E: Output>(
+    alloc: Global,
+    network: &mut C,
+    output: &mut W,
+    faults: &mut E,
+    putting: Putting<'_>,
+    text: &CsvText,
+) -> ExitStatus
+    requires writes { CanFail (W.failures output.old) }
+    requires prints { CanFail (E.failures faults.old) }
+    ensures { Connects (λ ends. C.connects network.old putting.entry.port ends network.new)
+        (PutsRows putting.entry.target text.now) (Tells count_line) result
+        (desk_of (said_of W.Output output.old) (said_of E.Output faults.old))
+        (desk_of (said_of W.Output output.new) (said_of E.Output faults.new)) }
+{
+    let connection = match open(alloc, network, putting.port) {
+        Ok(connection) => connection,
+        Err(error) => return end_unconnected(alloc, faults, putting.port, &error),
+    };
+    let counted = put_rows(alloc, connection, putting.target, text);
+    tell_count(alloc, output, faults, counted)
 }
 
 // Puts these messages over a connection.

@@ -5,7 +5,7 @@
 
 use anyhow::Result;
 use command_line::CsvForm;
-use csv_input::read_csv;
+use csv_input::{CsvText, read_csv};
 use grpc_frame::{MemoryInput, MemoryOutput};
 use ipc_batch::Reader;
 use ipc_stream::IpcMessage;
@@ -28,12 +28,14 @@ fn push_message(
     Ok(())
 }
 
-// What messages say.
-fn push_messages(alloc: Global, messages: &[IpcMessage], told: &mut String) -> Result<(), Fault> {
+// What the messages of a text say.
+fn push_messages(alloc: Global, text: &CsvText, told: &mut String) -> Result<(), Fault> {
     let mut reader = Reader::new();
     let mut rows = String::new(alloc);
-    for message in messages {
-        push_message(&mut reader, alloc, message, &mut rows)?;
+    push_message(&mut reader, alloc, &text.schema_message(alloc)?, &mut rows)?;
+    let mut left = text.rows(alloc)?;
+    while let Some(message) = left.next(alloc)? {
+        push_message(&mut reader, alloc, &message, &mut rows)?;
     }
     if let Some(schema) = reader.schema() {
         push_schema(told, schema)?;
@@ -49,7 +51,7 @@ fn told_text(alloc: Global, form: CsvForm<'_>, text: &str) -> Result<String, Fau
     let mut input = MemoryInput::new(text.as_bytes());
     let mut faults = MemoryOutput::new(alloc);
     match read_csv(alloc, &mut input, &mut faults, form) {
-        Ok(messages) => push_messages(alloc, &messages, &mut told)?,
+        Ok(text) => push_messages(alloc, &text, &mut told)?,
         Err(status) => write!(told, "status {}", status.number())?,
     }
     if let Ok(said) = str::from_utf8(faults.as_slice()) {

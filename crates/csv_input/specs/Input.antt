@@ -9,8 +9,6 @@ use Rattle.scan_base.specs.declared.fault.Fault.TheVariants.{OutOfMemory, Transp
 use Rattle.arrow_schema.specs.declared.schema.Field.{Field}
 use Rattle.arrow_schema.specs.declared.schema.Schema.{Schema}
 use Rattle.grpc_frame.specs.Ends.{AppendsBeginning}
-use Rattle.ipc_batch.specs.Said.{Rows, Says}
-use Rattle.ipc_stream.specs.declared.message.IpcMessage.{IpcMessage}
 use Rattle.command_line.specs.declared.request.CsvForm.{CsvForm}
 use Rattle.command_ends.specs.Printing.{Said, Prints, cause_lines, fault_line}
 use Rattle.command_ends.specs.Whole.{Source, Gives, Stops}
@@ -19,7 +17,7 @@ use Rattle.command_ends.specs.declared.exit_status.ExitStatus.TheVariants.{Fault
 use Rattle.csv_records.specs.Left.{records_in}
 use Rattle.csv_columns.specs.Spelled.{Spells, spelled}
 use Rattle.csv_types.specs.Found.{AreFound, rows_behind}
-use Rattle.csv_table.specs.Rows.{AreRows, IsFirstWrong, sent_in}
+use Rattle.csv_table.specs.Rows.{AreRight, IsFirstWrong}
 use Rattle.csv_table.specs.declared.outcome.Wrong.{Wrong}
 use Rattle.csv_table.specs.declared.outcome.Wrong.TheVariants.{Fields, Cell}
 use Rattle.csv_table.specs.declared.outcome.WrongRecord.{WrongRecord}
@@ -97,27 +95,33 @@ Refuses header schema records old new =
     ((wrong : WrongRecord) × IsFirstWrong schema.fields (rows_behind header records) wrong × TellsWrong schema.fields header wrong old new)
     ⊎ ((fault : Fault) × Prints (fault_line fault) old new)
 
--- messages say the schema and the rows of the records
-abbrev pub SaysRows : Bool → Schema → List (List (List ℕ)) → List IpcMessage → Type 0
-SaysRows header schema records messages =
-    (rows : Rows) × AreRows schema.fields (rows_behind header records) rows × Says (map sent_in messages) schema rows
+-- each record says a row, and nothing is printed; or which is the first that is wrong
+abbrev pub ChecksRows : {A : Type 0} → Bool → Schema → List (List (List ℕ)) → Result A ExitStatus → Said → Said → Type 0
+ChecksRows header schema records (Ok done) old new = AreRight schema.fields (rows_behind header records) × (new ≡ old)
+ChecksRows header schema records (Err status) old new = (status ≡ FaultAtThisEnd) × Refuses header schema records old new
 
--- the messages, seen by `view`, say the schema and the rows of the records, and nothing is printed; or why there are none is
-abbrev pub ReadsRows : {A : Type 0} → Bool → Schema → List (List (List ℕ)) → (A → List IpcMessage) → Result A ExitStatus → Said → Said → Type 0
-ReadsRows header schema records view (Ok messages) old new = SaysRows header schema records (view messages) × (new ≡ old)
-ReadsRows header schema records view (Err status) old new = (status ≡ FaultAtThisEnd) × Refuses header schema records old new
-
--- No columns: why is printed. Or they were not printed; or they were, as far as they are found, and then why there are no rows.
+-- No columns: why is printed. Or they were not printed; or they were, as far as they are found, and then which record is wrong.
 abbrev pub RefusesText : Form → List (List (List ℕ)) → Said → Said → Type 0
 RefusesText form records old new =
     ((fault : Fault) × Prints (fault_line fault) old new)
     ⊎ ((schema : Schema) × AreColumnsOf form records schema × IsUntold schema.fields old new)
     ⊎ ((schema : Schema) × AreColumnsOf form records schema × ((middle : Said) × IsTold form schema.fields old middle × Refuses form.header schema records middle new))
 
--- the messages of the rows of a text of these records, whose columns are printed where they were found; or why there are none is
-abbrev pub ReadsText : {A : Type 0} → Form → List (List (List ℕ)) → (A → List IpcMessage) → Result A ExitStatus → Said → Said → Type 0
-ReadsText form records view (Ok messages) old new =
-    (schema : Schema) × AreColumnsOf form records schema × IsTold form schema.fields old new × SaysRows form.header schema records (view messages)
+-- a text that was read: its columns, and the records that say rows
+pub record TextAt : Type 0 where
+  pub schema : Schema
+  pub records : List (List (List ℕ))
+
+-- a text of these records was read: its columns are printed where they were found, and each record behind that of names says a row
+pub record IsRead (form : Form) (records : List (List (List ℕ))) (text : TextAt) (old new : Said) : Type 0 where
+  pub columns : AreColumnsOf form records text.schema
+  pub told : IsTold form text.schema.fields old new
+  pub rows : text.records ≡ rows_behind form.header records
+  pub right : AreRight text.schema.fields text.records
+
+-- a text of these records, seen by `view`, was read; or why it says no rows is printed
+abbrev pub ReadsText : {A : Type 0} → Form → List (List (List ℕ)) → (A → TextAt) → Result A ExitStatus → Said → Said → Type 0
+ReadsText form records view (Ok text) old new = IsRead form records (view text) old new
 ReadsText form records view (Err status) old new = (status ≡ FaultAtThisEnd) × RefusesText form records old new
 
 -- the lines that say why the input was not read
@@ -133,12 +137,12 @@ pub record IsUnread (status : ExitStatus) (old new : Source) (said said' : Said)
   pub says : Prints (unread_lines fault) said said'
 
 -- the whole input is a text, which gave this
-pub record GivesText {A : Type 0} (form : Form) (view : A → List IpcMessage) (result : Result A ExitStatus) (old new : Source) (said said' : Said) : Type 0 where
+pub record GivesText {A : Type 0} (form : Form) (view : A → TextAt) (result : Result A ExitStatus) (old new : Source) (said said' : Said) : Type 0 where
   pub text : List ℕ
   pub gives : Gives text old new
   pub reads : ReadsText form (records_in text) view result said said'
 
-abbrev pub ReadsCsv : {A : Type 0} → Form → (A → List IpcMessage) → Result A ExitStatus → Source → Source → Said → Said → Type 0
-ReadsCsv form view (Ok messages) old new said said' = GivesText form view (Ok messages) old new said said'
+abbrev pub ReadsCsv : {A : Type 0} → Form → (A → TextAt) → Result A ExitStatus → Source → Source → Said → Said → Type 0
+ReadsCsv form view (Ok text) old new said said' = GivesText form view (Ok text) old new said said'
 ReadsCsv form view (Err status) old new said said' =
     IsUnread status old new said said' ⊎ GivesText form view (Err status) old new said said'

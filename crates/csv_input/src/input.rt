@@ -1,58 +1,56 @@
 //! Reading an input as CSV.
 
-ghost use Rattle.std.specs.Prelude.{◌≡◌, MatchResult, None, All, IfOk, OnOk};
+ghost use Rattle.std.specs.Prelude.{◌≡◌, MatchResult, OnOk};
 ghost use Rattle.grpc_frame.specs.Ends.{CanFail};
-ghost use Rattle.arrow_schema.specs.Schema.{IsSchema};
-ghost use Rattle.arrow_schema.specs.Written.{encoding_of};
 ghost use Rattle.csv_records.specs.Left.{records_in};
-ghost use Rattle.csv_table.specs.Rows.{IsFirstWrong};
 ghost use Rattle.command_ends.specs.Printing.{Prints, said_of};
 ghost use Rattle.command_ends.specs.Whole.{source_of};
 ghost use Rattle.command_ends.specs.declared.exit_status.ExitStatus.TheVariants.{FaultAtThisEnd};
-ghost use Rattle.csv_input.specs.Input.{IsTold, IsUntold, ReadsCsv, ReadsRows, ReadsText, TellsWrong, form_of};
+ghost use Rattle.csv_input.specs.Input.{ChecksRows, IsTold, IsUntold, ReadsCsv, ReadsText, TellsWrong, form_of};
 
-use crate::reading::{columns_of, rows_of};
+use crate::reading::{columns_of, wrong_record};
 use crate::saying::wrong_line;
+use crate::text::CsvText;
 use arrow_schema::{Field, Schema};
+use bytes::Bytes;
 use command_ends::{ExitStatus, end_by_cause, end_by_fault, read_whole};
 use command_line::CsvForm;
 use csv_columns::columns_text;
-use csv_table::{TableRead, WrongRecord};
+use csv_table::WrongRecord;
 use grpc_frame::{Input, Output};
-use ipc_stream::IpcMessage;
 use scan_base::Fault;
 use std::alloc::{AllocError, Global};
 
-/// Reads the whole input as CSV: the messages of its rows. Columns that are found are printed on `faults` in a line before the
-/// rows are read.
+/// Reads the whole input as CSV: a text of which each record says a row. Columns that are found are printed on `faults` in a line
+/// before the records are looked at. No row is made yet.
 ///
 /// # Errors
 ///
-/// How the command ends, where there are no messages. Why is printed on `faults` in a line, as far as that takes it:
+/// How the command ends, where there are no rows. Why is printed on `faults` in a line, as far as that takes it:
 ///
 /// - The input was not read (F22), or memory is refused (F21).
 /// - The form spells no columns, or none are found (F8, F12).
 /// - The columns were found and not printed.
-/// - A record is wrong, which the line tells, or too long (F12).
+/// - A record is wrong, which the line tells.
 pub fn read_csv<I: Input, E: Output>(
     alloc: Global,
     input: &mut I,
     faults: &mut E,
     form: CsvForm<'_>,
-) -> Result<Vec<IpcMessage>, ExitStatus>
+) -> Result<CsvText, ExitStatus>
     requires reads { CanFail (I.failures input.old) }
     requires prints { CanFail (E.failures faults.old) }
 
-    // The messages say the rows of the whole input, and columns that were found are printed; or why there are none is.
-    ensures reads { ReadsCsv (form_of form.entry) (λ messages. messages.items) result
+    // The records of the whole input say rows, and columns that were found are printed; or why there are none is.
+    ensures reads { ReadsCsv (form_of form.entry) (λ text. text) result
         (source_of I.Input input.old) (source_of I.Input input.new)
         (said_of E.Output faults.old) (said_of E.Output faults.new) }
 
-    // Where there are messages, no write has failed.
+    // Where there are rows, no write has failed.
     ensures quiet { OnOk result (E.failures faults.new ≡ E.failures faults.old) }
 {
     match read_whole(alloc, input) {
-        Ok(text) => read_text(alloc, text.as_slice(), faults, form),
+        Ok(text) => read_text(alloc, text, faults, form),
         Err(Fault::Transport) => Err(end_by_cause(faults, "cannot read the input")),
         Err(fault) => Err(end_by_fault(faults, fault)),
     }
@@ -99,24 +97,22 @@ fn end_by_wrong<E: Output>(
     }
 }
 
-// The messages of the rows, or the line of what is wrong.
-fn read_rows<E: Output>(
+// Looks whether all records say rows, and prints which one does not.
+fn check_rows<E: Output>(
     alloc: Global,
     text: &[u8],
     faults: &mut E,
     schema: &Schema,
     header: bool,
-) -> Result<Vec<IpcMessage>, ExitStatus>
-    requires schema { IsSchema schema.now }
-    requires plain { All (λ column. encoding_of column.data_type ≡ None) (schema.now).fields }
-    requires prints { CanFail (E.failures faults.old) }
-    ensures reads { ReadsRows header schema.now (records_in text.now) (λ messages. messages.items) result
+) -> Result<(), ExitStatus>
+    requires { CanFail (E.failures faults.old) }
+    ensures checks { ChecksRows header schema.now (records_in text.now) result
         (said_of E.Output faults.old) (said_of E.Output faults.new) }
     ensures quiet { OnOk result (E.failures faults.new ≡ E.failures faults.old) }
 {
-    match rows_of(alloc, text, schema, header) {
-        Ok(TableRead::Messages(messages)) => Ok(messages),
-        Ok(TableRead::Wrong(wrong)) => {
+    match wrong_record(alloc, text, schema, header) {
+        Ok(None) => Ok(()),
+        Ok(Some(wrong)) => {
             let columns = schema.fields.as_slice();
             Err(end_by_wrong(alloc, faults, columns, header, wrong))
         }
@@ -127,21 +123,26 @@ fn read_rows<E: Output>(
 // Reads a text.
 fn read_text<E: Output>(
     alloc: Global,
-    text: &[u8],
+    text: Bytes,
     faults: &mut E,
     form: CsvForm<'_>,
-) -> Result<Vec<IpcMessage>, ExitStatus>
+) -> Result<CsvText, ExitStatus>
     requires { CanFail (E.failures faults.old) }
-    ensures reads { ReadsText (form_of form.entry) (records_in text.now) (λ messages. messages.items) result
+    ensures reads { ReadsText (form_of form.entry) (records_in text) (λ text. text) result
         (said_of E.Output faults.old) (said_of E.Output faults.new) }
     ensures quiet { OnOk result (E.failures faults.new ≡ E.failures faults.old) }
 {
-    let schema = match columns_of(alloc, text, form) {
+    let schema = match columns_of(alloc, text.as_slice(), form) {
         Ok(schema) => schema,
         Err(fault) => return Err(end_by_fault(faults, fault)),
     };
     if tell_columns(alloc, faults, schema.fields.as_slice(), form).is_err() {
         return Err(ExitStatus::FaultAtThisEnd);
     }
-    read_rows(alloc, text, faults, &schema, form.header)
+    check_rows(alloc, text.as_slice(), faults, &schema, form.header)?;
+    Ok(CsvText {
+        text,
+        schema,
+        header: form.header,
+    })
 }

@@ -6,5 +6,7 @@
 mod input;
 mod reading;
 mod saying;
+mod text;
 
 pub use crate::input::read_csv;
+pub use crate::text::{CsvRows, CsvText};

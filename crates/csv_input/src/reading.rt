@@ -5,7 +5,7 @@ ghost use Rattle.arrow_schema.specs.Schema.{IsSchema};
 ghost use Rattle.arrow_schema.specs.Written.{encoding_of};
 ghost use Rattle.csv_records.specs.Left.{records_in};
 ghost use Rattle.csv_types.specs.Found.{rows_behind};
-ghost use Rattle.csv_table.specs.Rows.{ReadsTable};
+ghost use Rattle.csv_table.specs.Rows.{FindsWrong};
 ghost use Rattle.csv_input.specs.Input.{AreColumnsOf, form_of};
 
 use arrow_schema::Schema;
@@ -13,7 +13,7 @@ use command_line::CsvForm;
 use csv::ByteRecord;
 use csv_columns::columns_in;
 use csv_records::Records;
-use csv_table::{TableRead, read_table};
+use csv_table::{WrongRecord, first_wrong};
 use csv_types::found_columns;
 use scan_base::Fault;
 use std::alloc::{AllocError, Global};
@@ -36,8 +36,12 @@ pub(crate) fn columns_of(alloc: Global, text: &[u8], form: CsvForm<'_>) -> Resul
     }
 }
 
-// The records that say rows.
-fn records_behind(alloc: Global, text: &[u8], header: bool) -> Result<Records<'_>, AllocError>
+/// The records that say rows.
+pub(crate) fn records_behind(
+    alloc: Global,
+    text: &[u8],
+    header: bool,
+) -> Result<Records<'_>, AllocError>
     ensures { IfOk result (λ records. records ≡ rows_behind header (records_in text.now)) }
 {
     let mut records = Records::new(alloc, text);
@@ -50,22 +54,20 @@ fn records_behind(alloc: Global, text: &[u8], header: bool) -> Result<Records<'_
     Ok(records)
 }
 
-/// The rows that a text says under columns, as messages, or the first record that is wrong.
+/// The first record that says no row of these columns.
 ///
 /// # Errors
 ///
 /// - `Fault::OutOfMemory` (F21) where memory is refused.
-/// - `Fault::LimitReached` (F12) where one record is too long for a message, or there are more than 2 to the 63 records.
-pub(crate) fn rows_of(
+/// - `Fault::LimitReached` (F12) where there are more than 2 to the 63 records.
+pub(crate) fn wrong_record(
     alloc: Global,
     text: &[u8],
     schema: &Schema,
     header: bool,
-) -> Result<TableRead, Fault>
-    requires schema { IsSchema schema.now }
-    requires plain { All (λ column. encoding_of column.data_type ≡ None) (schema.now).fields }
-    ensures { IfOk result (ReadsTable schema.now (rows_behind header (records_in text.now))) }
+) -> Result<Option<WrongRecord>, Fault>
+    ensures { IfOk result (FindsWrong (schema.now).fields (rows_behind header (records_in text.now))) }
 {
     let mut records = records_behind(alloc, text, header)?;
-    read_table(alloc, schema, &mut records)
+    first_wrong(alloc, schema.fields.as_slice(), &mut records)
 }

@@ -9,10 +9,15 @@ use Rattle.arrow_schema.proofs.Messages.{messages_read}
 use Rattle.arrow_schema.proofs.Again.{whole_schema, short_schema, schemas_read}
 use Rattle.ipc_batch.specs.State.{Known}
 use Rattle.ipc_batch.specs.Parts.{body_claimed}
-use Rattle.ipc_batch.specs.Said.{News, Says, schema_sent, news_of}
+use Rattle.ipc_batch.specs.Said.{News, Says, Sent, schema_sent, news_of}
 use Rattle.ipc_stream.specs.declared.message.IpcMessage.{IpcMessage}
-use Rattle.csv_table.specs.Rows.{sent_in}
-use Rattle.csv_table.specs.inside.SoFar.{SaysSchema}
+use Rattle.csv_table.specs.Rows.{SaysRecords, sent_in}
+use Rattle.csv_table.proofs.Joined.{no_rows}
+
+-- the first message of a stream says a schema
+abbrev pub SaysSchema : Schema → Sent → Type 0
+SaysSchema schema sent =
+    news_of None sent ≡ Ok (record { state = Some (record { schema = schema; dictionaries = [] }); batch = None })
 
 -- a written schema is read again
 pub schema_says : (schema : Schema) (header : List ℕ) → IsSchema schema → header ≡ schema_bytes schema → SaysSchema schema (record { header = header; body = [] })
@@ -25,8 +30,9 @@ schema_says schema header is e =
     rw (e, m.found, m.kind_again, told, m.body_length_again) refl
 
 -- a schema alone says no rows
-pub first_said : (message : IpcMessage) (schema : Schema) → SaysSchema schema (sent_in message) → Says (map sent_in (message ∷ [])) schema []
+pub first_said : (message : IpcMessage) (schema : Schema) → SaysSchema schema (sent_in message) → SaysRecords schema [] (message ∷ [])
 first_said message schema tells =
     let known : Known = record { schema = schema; dictionaries = [] } in
     let news : News = record { state = Some known; batch = None } in
-    (known, refl, (news, [], tells, refl, (refl, refl)))
+    let said : Says (map sent_in (message ∷ [])) schema [] = (known, refl, (news, [], tells, refl, (refl, refl))) in
+    ([], no_rows schema.fields, said)

@@ -18,7 +18,7 @@ use Rattle.arrays.specs.Column.{ColumnAt, values_of}
 use Rattle.arrays.specs.Typed.{IsOfType, IsValueOf}
 use Rattle.csv_values.specs.Said.{cell_in}
 use Rattle.csv_table.specs.inside.Chunks.{ChunkAt, field_in}
-use Rattle.csv_table.specs.inside.Cells.{AreCells, AreColumnsIn, HasWrongCell, HasWrongColumn, IsColumnIn, IsWrongAt, SaysCells}
+use Rattle.csv_table.specs.inside.Cells.{AreCells, AreColumnsIn, HasWrongCell, HasWrongColumn, IsColumnIn, SaysCells}
 
 -- no values
 pub no_cells : (chunk : ChunkAt) (column : Field) (number : ℕ) (cells : List ValueRef) → cells ≡ [] → AreCells chunk column number cells 0
@@ -101,25 +101,6 @@ wrong_column chunk columns number column inside is wrong = record {
 -- what was found of a field
 pub some_says : (value : Option Value) (cell : ValueRef) → option_map value_of (Some cell) ≡ value → value ≡ Some (value_of cell)
 some_says value cell e = sym e
-
--- one cell more says a value
-pub says_more : (chunk : ChunkAt) (columns : List Field) (row number : ℕ) (column : Field) → number < length columns → column ≡ get_or columns number column → IsSome (cell_in column (field_in chunk row number)) →
-    SaysCells chunk columns row number → SaysCells chunk columns row (number + 1)
-says_more chunk columns row number column inside is some so = λ k d low. elim (cases_lt k number) [
-  | inl before ↦ so k d before
-  | inr later ↦
-      let same : number ≡ k = omega (arith, low, later) in
-      subst (λ (n : ℕ). IsSome (cell_in (get_or columns n d) (field_in chunk row n))) same
-      (subst (λ (c : Field). IsSome (cell_in c (field_in chunk row number))) (is ∙ get_or_default columns number column d inside) some)
-]
-
-pub wrong_at : (chunk : ChunkAt) (columns : List Field) (row number : ℕ) (column : Field) → number < length columns → column ≡ get_or columns number column → cell_in column (field_in chunk row number) ≡ None →
-    SaysCells chunk columns row number → IsWrongAt chunk columns row number
-wrong_at chunk columns row number column inside is none so = record {
-  there = inside;
-  none = λ d. subst (λ (c : Field). cell_in c (field_in chunk row number) ≡ None) (is ∙ get_or_default columns number column d inside) none;
-  before = so;
-}
 
 -- a field has been judged
 pub judged : (value : Option Value) (found : Option ValueRef) → option_map value_of found ≡ value → IsSome found → IsSome value

@@ -1,93 +1,84 @@
 -- The first record that is wrong.
-use Rattle.std.proofs.Common.{◌≡◌, ◌≢◌, ◌<◌, ◌≤◌, ◌+◌, ◌-◌, ℕ, List, [], ◌∷◌, ◌++◌, length, get_or, refl, sym, ap, subst, ◌∙◌, arith, inl, inr}
-use Rattle.std.specs.Prelude.{IsSome}
+use Rattle.std.proofs.Common.{◌≡◌, ◌<◌, ◌+◌, ℕ, List, [], ◌∷◌, ◌++◌, length, get_or, sym, ap, subst, ◌∙◌, arith, inl, inr, append-nil, append_assoc}
+use Rattle.std.specs.Prelude.{IsSome, None}
 use Rattle.std.proofs.lemmas.Bool.{cases_lt}
-use Rattle.std.proofs.lemmas.List.{get_or_append_left, get_or-append_right, get_or_push, length-append}
+use Rattle.std.proofs.lemmas.List.{get_or-append-add, get_or_append_left, get_or_default, length-append}
+use Rattle.std.proofs.lemmas.List.Elements.{All-append, All-nil, All-cons}
 use Rattle.arrow_schema.specs.declared.schema.Field.{Field}
-use Rattle.arrow_schema.specs.declared.schema.Schema.{Schema}
-use Rattle.ipc_batch.specs.Said.{Rows}
-use Rattle.ipc_stream.specs.declared.message.IpcMessage.{IpcMessage}
 use Rattle.csv_values.specs.Said.{cell_in}
-use Rattle.csv_table.specs.declared.outcome.Wrong.TheVariants.{Cell, Fields}
-use Rattle.csv_table.specs.declared.outcome.WrongRecord.{WrongRecord}
-use Rattle.csv_table.specs.Rows.{AreRows, IsFirstWrong, IsRight, IsWrong}
-use Rattle.csv_table.specs.inside.Cells.{SaysCells}
-use Rattle.csv_table.specs.inside.Chunks.{ChunkAt, Holds, field_in}
-use Rattle.csv_table.specs.inside.SoFar.{HasRead, IsWrongIn}
+use Rattle.csv_table.specs.declared.outcome.Wrong.{Wrong}
+use Rattle.csv_table.specs.Rows.{AreRight, IsFirstWrong, IsRight, IsWrong, IsWrongCell, SaysCell}
 
--- a record that says a row is right
-right_one : (columns : List Field) (records : List (List (List ℕ))) (rows : Rows) (k : ℕ) → AreRows columns records rows → k < length records → IsRight columns (get_or records k [])
-right_one columns records rows k are low =
-    let row = are.each k low in
-    record { long = row.long; each = λ j there d. subst IsSome (sym (row.each j d there)) refl }
+-- ---- one record
 
--- so is one of the chunk that says a value in each column
-right_held : (chunk : ChunkAt) (columns : List Field) (held : List (List (List ℕ))) (k : ℕ) → Holds chunk held → chunk.width ≡ length columns → k < chunk.rows → SaysCells chunk columns k (length columns) →
-    IsRight columns (get_or held k [])
-right_held chunk columns held k holds wide low says = record {
-  long = holds.long k low ∙ wide;
-  each = λ j there d.
-      subst (λ (field : List ℕ). IsSome (cell_in (get_or columns j d) field)) (sym (holds.each k j low (omega (arith, there, wide)))) (says j d there);
-}
+-- the fields at the first places say values
+abbrev pub SayFirst : List Field → List (List ℕ) → ℕ → Type 0
+SayFirst columns fields count = (k : ℕ) → k < count → SaysCell columns fields k
 
--- the records before one of the chunk are right
-earlier_right : (columns : List Field) (done held : List (List (List ℕ))) (chunk : ChunkAt) (rows : Rows) (row : ℕ) → AreRows columns done rows → Holds chunk held → chunk.width ≡ length columns →
-    row ≤ chunk.rows → ((k : ℕ) → k < row → SaysCells chunk columns k (length columns)) → (k : ℕ) → k < length done + row → IsRight columns (get_or (done ++ held) k [])
-earlier_right columns done held chunk rows row are holds wide most says k low = elim (cases_lt k (length done)) [
-  | inl before ↦ subst (IsRight columns) (sym (get_or_append_left done held [] k before)) (right_one columns done rows k are before)
+-- one more does
+pub first_more : (columns : List Field) (fields : List (List ℕ)) (number : ℕ) (column : Field) → number < length columns → column ≡ get_or columns number column → IsSome (cell_in column (get_or fields number [])) →
+    SayFirst columns fields number → SayFirst columns fields (number + 1)
+first_more columns fields number column inside is some so = λ k low d. elim (cases_lt k number) [
+  | inl before ↦ so k before d
   | inr later ↦
-      let j = k - length done in
-      let inside : j < row = omega (arith, low, later) in
-      subst (IsRight columns) (sym (get_or-append_right done held (length done) k [] refl later))
-      (right_held chunk columns held j holds wide (omega (arith, inside, most)) (says j inside))
+      let same : number ≡ k = omega (arith, low, later) in
+      subst (λ (n : ℕ). IsSome (cell_in (get_or columns n d) (get_or fields n []))) same
+      (subst (λ (c : Field). IsSome (cell_in c (get_or fields number []))) (is ∙ get_or_default columns number column d inside) some)
 ]
 
--- a wrong record of the chunk is the first of all that were read
-pub wrong_in : (schema : Schema) (read : List (List (List ℕ))) (messages : List IpcMessage) (before : ℕ) (chunk : ChunkAt) (wrong : WrongRecord) → HasRead schema read messages before chunk →
-    IsWrongIn before chunk schema.fields wrong → IsFirstWrong schema.fields read wrong
-wrong_in schema read messages before chunk wrong has is =
-    let columns = schema.fields in
-    let all = has.done ++ has.held in
-    let at : before + is.row ≡ length has.done + is.row = omega (arith, has.counted) in
-    let low : is.row < length has.held = omega (arith, is.there, has.holds.count) in
-    let z : length has.done + is.row - length has.done ≡ is.row = omega arith in
-    let here : get_or all (before + is.row) [] ≡ get_or has.held is.row [] =
-    ap (λ (n : ℕ). get_or all n []) at ∙ get_or-append_right has.done has.held (length has.done) (length has.done + is.row) [] refl (omega arith) ∙ ap (λ (n : ℕ). get_or has.held n []) z in
-    let cell : (j : ℕ) → j < length columns → get_or (get_or has.held is.row []) j [] ≡ field_in chunk is.row j = λ j there. has.holds.each is.row j is.there (omega (arith, there, has.wide)) in
-    let first : IsFirstWrong columns all (record { before = before + is.row; wrong = Cell is.place }) = record {
-      there = omega (arith, at, low, length-append has.done has.held);
-      before = λ k under. earlier_right columns has.done has.held chunk has.rows is.row has.right has.holds has.wide (omega (arith, is.there)) is.earlier k (omega (arith, under, at));
-      is = subst (λ (fields : List (List ℕ)). IsWrong columns fields (Cell is.place)) (sym here) (
-        has.holds.long is.row is.there ∙ has.wide,
-        record {
-          there = is.is.there;
-          none = λ d. ap (cell_in (get_or columns is.place d)) (cell is.place is.is.there) ∙ is.is.none d;
-          before = λ j under d. subst (λ (field : List ℕ). IsSome (cell_in (get_or columns j d) field)) (sym (cell j (omega (arith, under, is.is.there)))) (is.is.before j d under);
-        },
-      );
-    } in
-    subst (λ (w : WrongRecord). IsFirstWrong columns read w) (sym is.here) (subst (λ (l : List (List (List ℕ))). IsFirstWrong columns l (record { before = before + is.row; wrong = Cell is.place })) (sym has.splits) first)
-
--- it is the first too where more records stand behind it
-pub wrong_still : (columns : List Field) (read more : List (List (List ℕ))) (wrong : WrongRecord) → IsFirstWrong columns read wrong → IsFirstWrong columns (read ++ more) wrong
-wrong_still columns read more wrong first = record {
-  there = omega (arith, first.there, length-append read more);
-  before = λ k under. subst (IsRight columns) (sym (get_or_append_left read more [] k (omega (arith, under, first.there)))) (first.before k under);
-  is = subst (λ (fields : List (List ℕ)). IsWrong columns fields wrong.wrong) (sym (get_or_append_left read more [] wrong.before first.there)) first.is;
+-- or it does not
+pub wrong_at : (columns : List Field) (fields : List (List ℕ)) (number : ℕ) (column : Field) → number < length columns → column ≡ get_or columns number column → cell_in column (get_or fields number []) ≡ None →
+    SayFirst columns fields number → IsWrongCell columns fields number
+wrong_at columns fields number column inside is none so = record {
+  there = inside;
+  none = λ d. subst (λ (c : Field). cell_in c (get_or fields number []) ≡ None) (is ∙ get_or_default columns number column d inside) none;
+  before = so;
 }
 
--- where no other is wrong, a record of another length is
-pub wrong_long : (schema : Schema) (read : List (List (List ℕ))) (messages : List IpcMessage) (before : ℕ) (chunk : ChunkAt) (fields : List (List ℕ)) → HasRead schema read messages before chunk →
-    length fields ≢ length schema.fields → ((k : ℕ) → k < chunk.rows → SaysCells chunk schema.fields k (length schema.fields)) →
-    IsFirstWrong schema.fields (read ++ fields ∷ []) (record { before = before + chunk.rows; wrong = Fields (length fields) })
-wrong_long schema read messages before chunk fields has other says =
-    let columns = schema.fields in
-    let whole : length read ≡ before + chunk.rows = ap length has.splits ∙ length-append has.done has.held ∙ omega (arith, has.counted, has.holds.count) in
+-- ---- all records
+
+-- a record was taken from those behind others
+pub splits_more : (all read : List (List (List ℕ))) (fields : List (List ℕ)) (left rest : List (List (List ℕ))) → all ≡ read ++ left → left ≡ fields ∷ rest → all ≡ (read ++ fields ∷ []) ++ rest
+splits_more all read fields left rest splits took = splits ∙ ap (λ (l : List (List (List ℕ))). read ++ l) took ∙ sym (append_assoc read (fields ∷ []) rest)
+
+-- it is right where all are
+pub right_at : (columns : List Field) (all read : List (List (List ℕ))) (fields : List (List ℕ)) (left rest : List (List (List ℕ))) → all ≡ read ++ left → left ≡ fields ∷ rest → AreRight columns all → IsRight columns fields
+right_at columns all read fields left rest splits took right =
+    let whole : all ≡ read ++ fields ∷ rest = splits ∙ ap (λ (l : List (List (List ℕ))). read ++ l) took in
+    let low : length read + 0 < length all = omega (arith, ap length whole, length-append read (fields ∷ rest)) in
+    subst (IsRight columns) (ap (λ (l : List (List (List ℕ))). get_or l (length read + 0) []) whole ∙ get_or-append-add read (fields ∷ rest) 0 []) (right (length read + 0) [] low)
+
+-- one more is right
+pub right_more : (columns : List Field) (read : List (List (List ℕ))) (fields : List (List ℕ)) → AreRight columns read → IsRight columns fields → AreRight columns (read ++ fields ∷ [])
+right_more columns read fields right one =
+    All-append (IsRight columns) read (fields ∷ []) right (All-cons (IsRight columns) fields [] one (All-nil (IsRight columns)))
+
+-- none is left
+pub right_all : (columns : List Field) (all read left : List (List (List ℕ))) → all ≡ read ++ left → left ≡ [] → AreRight columns read → AreRight columns all
+right_all columns all read left splits none right =
+    subst (AreRight columns) (sym (splits ∙ ap (λ (l : List (List (List ℕ))). read ++ l) none ∙ append-nil read)) right
+
+-- those that are left are right
+pub right_rest : (columns : List Field) (all read left : List (List (List ℕ))) → all ≡ read ++ left → AreRight columns all → AreRight columns left
+right_rest columns all read left splits right = λ k d low.
+    let inside : length read + k < length all = omega (arith, low, ap length splits, length-append read left) in
+    subst (IsRight columns) (ap (λ (l : List (List (List ℕ))). get_or l (length read + k) d) splits ∙ get_or-append-add read left k d) (right (length read + k) d inside)
+
+pub right_none : (columns : List Field) (left : List (List (List ℕ))) → left ≡ [] → AreRight columns left
+right_none columns left none = λ k d low. absurd (omega (arith, low, ap length none))
+
+-- it is the first that is wrong where those before it are right
+pub wrong_first : (columns : List Field) (all read : List (List (List ℕ))) (fields : List (List ℕ)) (left rest : List (List (List ℕ))) (before : ℕ) (wrong : Wrong) → all ≡ read ++ left → left ≡ fields ∷ rest →
+    before ≡ length read → AreRight columns read → IsWrong columns fields wrong → IsFirstWrong columns all (record { before = before; wrong = wrong })
+wrong_first columns all read fields left rest before wrong splits took count right is =
+    let whole : all ≡ read ++ fields ∷ rest = splits ∙ ap (λ (l : List (List (List ℕ))). read ++ l) took in
+    let place : before ≡ length read + 0 = omega (arith, count) in
+    let here : get_or all before [] ≡ fields =
+    ap (λ (n : ℕ). get_or all n []) place ∙ ap (λ (l : List (List (List ℕ))). get_or l (length read + 0) []) whole ∙ get_or-append-add read (fields ∷ rest) 0 [] in
     record {
-      there = omega (arith, whole, length-append read (fields ∷ []));
+      there = omega (arith, count, ap length whole, length-append read (fields ∷ rest));
       before = λ k under.
-          let inside : k < length read = omega (arith, under, whole) in
-          let right = earlier_right columns has.done has.held chunk has.rows chunk.rows has.right has.holds has.wide (omega arith) says k (omega (arith, under, has.counted)) in
-          subst (IsRight columns) (sym (get_or_append_left read (fields ∷ []) [] k inside)) (subst (λ (l : List (List (List ℕ))). IsRight columns (get_or l k [])) (sym has.splits) right);
-      is = subst (λ (f : List (List ℕ)). IsWrong columns f (Fields (length fields))) (sym (get_or_push read fields [] (before + chunk.rows) whole)) (refl, other);
+          let low : k < length read = omega (arith, under, count) in
+          subst (IsRight columns) (sym (ap (λ (l : List (List (List ℕ))). get_or l k []) whole ∙ get_or_append_left read (fields ∷ rest) [] k low)) (right k [] low);
+      is = subst (λ (f : List (List ℕ)). IsWrong columns f wrong) (sym here) is;
     }

@@ -4,4 +4,4 @@ mod Transposed
 mod Joined
 mod Faulty
 mod Columnar
-mod Sent
+pub mod Taken

@@ -11,7 +11,7 @@ use Rattle.arrays.specs.Typed.{AreOfTypes, IsOfType}
 use Rattle.csv_values.specs.Said.{cell_in}
 use Rattle.csv_table.specs.Rows.{AreRows, IsRow}
 use Rattle.csv_table.specs.inside.Chunks.{ChunkAt, Holds}
-use Rattle.csv_table.specs.inside.SoFar.{IsBatchOf}
+use Rattle.csv_table.specs.inside.Batches.{IsBatchOf}
 
 -- some column
 abbrev none : ColumnAt

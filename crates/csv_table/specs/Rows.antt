@@ -1,5 +1,5 @@
--- The rows that the records of a CSV text say under columns, or the first record that is wrong.
-use Rattle.std.specs.Prelude.{◌≡◌, ◌≢◌, ◌<◌, ℕ, List, [], length, map, get_or, Some, None, IsSome}
+-- The rows that the records of a CSV text say under columns, and the first record that is wrong.
+use Rattle.std.specs.Prelude.{◌≡◌, ◌≢◌, ◌<◌, ℕ, List, [], ◌∷◌, ◌++◌, All, length, map, get_or, Option, Some, None, IsSome}
 use Rattle.scan_base.specs.declared.value.Value.{Value}
 use Rattle.scan_base.specs.declared.value.Value.TheVariants.{Null}
 use Rattle.arrow_schema.specs.declared.schema.Field.{Field}
@@ -10,8 +10,6 @@ use Rattle.csv_values.specs.Said.{cell_in}
 use Rattle.csv_table.specs.declared.outcome.Wrong.{Wrong}
 use Rattle.csv_table.specs.declared.outcome.Wrong.TheVariants.{Fields, Cell}
 use Rattle.csv_table.specs.declared.outcome.WrongRecord.{WrongRecord}
-use Rattle.csv_table.specs.declared.outcome.TableRead.{TableRead}
-use Rattle.csv_table.specs.declared.outcome.TableRead.TheVariants as read
 
 -- a record has a field for each column, and each says the value of its place in the row
 pub record IsRow (columns : List Field) (fields : List (List ℕ)) (row : List Value) : Type 0 where
@@ -54,8 +52,28 @@ pub record IsFirstWrong (columns : List Field) (records : List (List (List ℕ))
 abbrev pub sent_in : IpcMessage → Sent
 sent_in message = record { header = message.header; body = message.body }
 
--- messages that say the schema and the rows of the records, or the first record that is wrong
-abbrev pub ReadsTable : Schema → List (List (List ℕ)) → TableRead → Type 0
-ReadsTable schema records (read.Messages messages) =
-    (rows : Rows) × AreRows schema.fields records rows × Says (map sent_in messages.items) schema rows
-ReadsTable schema records (read.Wrong wrong) = IsFirstWrong schema.fields records wrong
+-- each record is right
+abbrev pub AreRight : List Field → List (List (List ℕ)) → Type 0
+AreRight columns records = All (IsRight columns) records
+
+-- the first record that is wrong, where not all are right
+abbrev pub FindsWrong : List Field → List (List (List ℕ)) → Option WrongRecord → Type 0
+FindsWrong columns records None = AreRight columns records
+FindsWrong columns records (Some wrong) = IsFirstWrong columns records wrong
+
+-- messages say the schema and the rows of these records
+abbrev pub SaysRecords : Schema → List (List (List ℕ)) → List IpcMessage → Type 0
+SaysRecords schema records messages = (rows : Rows) × AreRows schema.fields records rows × Says (map sent_in messages) schema rows
+
+-- a message of the next records says their rows behind those that other messages say
+pub record IsNext (schema : Schema) (message : IpcMessage) (old new : List (List (List ℕ))) : Type 0 where
+  pub taken : List (List (List ℕ))
+  pub some : taken ≢ []
+  pub splits : old ≡ taken ++ new
+  pub behind : (done : List (List (List ℕ))) (messages : List IpcMessage) → SaysRecords schema done messages →
+      SaysRecords schema (done ++ taken) (messages ++ message ∷ [])
+
+-- the message of the next records, or nothing where none is left
+abbrev pub TakesMessage : Schema → Option IpcMessage → List (List (List ℕ)) → List (List (List ℕ)) → Type 0
+TakesMessage schema None old new = old ≡ []
+TakesMessage schema (Some message) old new = IsNext schema message old new

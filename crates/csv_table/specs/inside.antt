@@ -1,4 +1,4 @@
 -- Inside: what only the contracts of private functions cite.
 pub mod Chunks
 pub mod Cells
-pub mod SoFar
+pub mod Batches

@@ -4,7 +4,7 @@ ghost use Rattle.std.specs.Prelude.{◌≡◌, ◌<◌, None, All, IfOk, MatchOp
 ghost use Rattle.arrow_schema.specs.Written.{encoding_of};
 ghost use Rattle.arrays.specs.Typed.{AreOfTypes};
 ghost use Rattle.csv_table.specs.inside.Cells.{AreColumnsIn, HasWrongColumn};
-ghost use Rattle.csv_table.specs.inside.SoFar.{IsBatchOf};
+ghost use Rattle.csv_table.specs.inside.Batches.{IsBatchOf};
 
 use crate::cells::column_in;
 use crate::chunk::Chunk;

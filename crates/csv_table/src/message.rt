@@ -1,11 +1,10 @@
 //! The messages of a schema and of a batch.
 
-ghost use Rattle.std.specs.Prelude.{◌≡◌, ◌≤◌, IfOk, length};
+ghost use Rattle.std.specs.Prelude.{◌≤◌, ◌∷◌, [], IfOk, length};
 ghost use Rattle.scan_base.specs.Limits.{most_columns};
 ghost use Rattle.arrow_schema.specs.Schema.{IsSchema};
 ghost use Rattle.ipc_batch.specs.Written.{SaysBatch};
-ghost use Rattle.csv_table.specs.Rows.{sent_in};
-ghost use Rattle.csv_table.specs.inside.SoFar.{SaysSchema};
+ghost use Rattle.csv_table.specs.Rows.{SaysRecords, sent_in};
 
 use arrays::Batch;
 use arrow_schema::{Schema, write_schema};
@@ -15,10 +14,10 @@ use ipc_stream::IpcMessage;
 use scan_base::Fault;
 use std::alloc::{AllocError, Global};
 
-/// The message of a schema.
-pub(crate) fn schema_message(alloc: Global, schema: &Schema) -> Result<IpcMessage, AllocError>
+/// The message of a schema, which is the first of a stream.
+pub fn schema_message(alloc: Global, schema: &Schema) -> Result<IpcMessage, AllocError>
     requires { IsSchema schema.now }
-    ensures { IfOk result (λ message. SaysSchema schema.now (sent_in message)) }
+    ensures { IfOk result (λ message. SaysRecords schema.now [] (message ∷ [])) }
 {
     let header = Bytes::from_vec(write_schema(alloc, schema)?)?;
     let body = Bytes::from_vec(Vec::new(alloc))?;

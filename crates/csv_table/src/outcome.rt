@@ -1,6 +1,4 @@
-//! What reading a text gives.
-
-use ipc_stream::IpcMessage;
+//! What is wrong with a text.
 
 /// What is wrong with a record.
 #[derive(Clone, Copy, Debug, PartialEq, Eq)]
@@ -16,13 +14,4 @@ pub enum Wrong {
 pub struct WrongRecord {
     pub before: usize,
     pub wrong: Wrong,
-}
-
-/// What records are read as.
-#[derive(Debug, Drop)]
-pub enum TableRead {
-    /// The messages of a schema and its rows.
-    Messages(Vec<IpcMessage>),
-    /// One of them is wrong, and this is the first.
-    Wrong(WrongRecord),
 }

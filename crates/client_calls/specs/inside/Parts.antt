@@ -1,16 +1,17 @@
 -- Inside: a connection by its parts.
-use Rattle.std.specs.Prelude.{◌≡◌, ◌⊎◌, ℕ, List, Option, Result, Ok, Err}
+use Rattle.std.specs.Prelude.{◌≡◌, ◌⊎◌, ℕ, ◌+◌, List, Option, Result, Ok, Err}
 use Rattle.std.specs.Io.KnownBytes.{Consumes}
 use Rattle.scan_base.specs.declared.fault.Fault.{Fault}
-use Rattle.scan_base.specs.declared.fault.Fault.TheVariants.{MessageTooLarge, Transport}
+use Rattle.scan_base.specs.declared.fault.Fault.TheVariants.{MessageTooLarge, OutOfMemory, Transport}
 use Rattle.grpc_frame.specs.Records.{Received, with_more}
+use Rattle.grpc_frame.specs.Sending.{Sent, NotSent}
 use Rattle.flight_info.specs.Payloads.{Payload}
 use Rattle.client_calls.specs.declared.call.Method.{Method}
 use Rattle.client_calls.specs.declared.failure.Failure.{Failure}
 use Rattle.client_calls.specs.declared.failure.Failure.TheVariants.{Found}
 use Rattle.client_calls.specs.Answers.{Incoming, Stop, stopped_at}
 use Rattle.client_calls.specs.Calls.{Fit}
-use Rattle.client_calls.specs.Outcome.{Outgoing, Line, IsWritten, IsBegun, WhyNot, left_of}
+use Rattle.client_calls.specs.Outcome.{Outgoing, Line, IsWritten, IsBegun, WhyNot, left_of, stopped_by}
 
 -- the ends by their parts
 abbrev pub incoming_of : Option (List ℕ) → ℕ → Result Received Stop → Incoming
@@ -45,6 +46,24 @@ abbrev pub SendsCall : Result (Unit {0}) Fault → Method → List Payload → L
 SendsCall (Ok done) method messages old new =
     IsWritten method messages old.outgoing new.outgoing × (new.incoming ≡ old.incoming)
 SendsCall (Err fault) method messages old new = WhyNot fault method messages old new
+
+-- a connection has stopped by this fault, and nothing else is done
+abbrev pub StopsAt : Fault → Line → Line → Type 0
+StopsAt fault old new = (new.outgoing ≡ old.outgoing) × (new.incoming ≡ record old.incoming { left = stopped_by fault old.incoming.left })
+
+-- why a message of a call was not sent: it is too long (F2), or memory was refused for it (F21)
+abbrev pub IsUnmade : Fault → List Payload → Type 0
+IsUnmade fault messages = ((fault ≡ MessageTooLarge) × ¬ Fit messages) ⊎ (fault ≡ OutOfMemory)
+
+-- these bytes of a call were sent, or wait; or a write failed (F22), and the connection has stopped
+abbrev pub SendsPart : Result (Unit {0}) Fault → List ℕ → Line → Line → List ℕ → List ℕ → Type 0
+SendsPart (Ok done) bytes old new before after =
+    Sent old.outgoing.output new.outgoing.output before after bytes
+    × (new.outgoing.failed ≡ old.outgoing.failed) × (new.incoming ≡ old.incoming)
+SendsPart (Err fault) bytes old new before after =
+    (fault ≡ Transport) × NotSent old.outgoing.output new.outgoing.output before after bytes
+    × (new.outgoing.failed ≡ old.outgoing.failed + 1)
+    × (new.incoming ≡ record old.incoming { left = stopped_by Transport old.incoming.left })
 
 -- ---- reading
 

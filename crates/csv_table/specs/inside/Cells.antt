@@ -41,9 +41,3 @@ pub record HasWrongColumn (chunk : ChunkAt) (columns : List Field) : Type 0 wher
 -- a record says a value in each of the first columns
 abbrev pub SaysCells : ChunkAt → List Field → ℕ → ℕ → Type 0
 SaysCells chunk columns row count = (k : ℕ) (d : Field) → k < count → IsSome (cell_in (get_or columns k d) (field_in chunk row k))
-
--- a record's first field that says no value
-pub record IsWrongAt (chunk : ChunkAt) (columns : List Field) (row place : ℕ) : Type 0 where
-  pub there : place < length columns
-  pub none : (d : Field) → cell_in (get_or columns place d) (field_in chunk row place) ≡ None
-  pub before : SaysCells chunk columns row place

@@ -1,14 +1,13 @@
 use Rattle.std.proofs.Common.{List, Err, inl, inr, refl}
-use Rattle.ipc_stream.specs.declared.message.IpcMessage.{IpcMessage}
 use Rattle.command_ends.specs.Printing.{Said, said_of}
 use Rattle.command_ends.specs.Whole.{Source}
 use Rattle.command_ends.specs.declared.exit_status.ExitStatus.{ExitStatus}
-use Rattle.csv_input.specs.Input.{Form, ReadsCsv}
+use Rattle.csv_input.specs.Input.{Form, ReadsCsv, TextAt}
 use Rattle.client_commands.proofs.put.put_csv.Goals as goal
 
--- why there are no messages is the same, however they would be seen
-seen_apart : {A : Type 0} (form : Form) (view : A → List IpcMessage) (status : ExitStatus) (old new : Source) (said said' : Said) →
-    ReadsCsv form view (Err status) old new said said' → ReadsCsv {A = List IpcMessage} form (λ messages. messages) (Err status) old new said said'
+-- why there are no rows is the same, however they would be seen
+seen_apart : {A : Type 0} (form : Form) (view : A → TextAt) (status : ExitStatus) (old new : Source) (said said' : Said) →
+    ReadsCsv form view (Err status) old new said said' → ReadsCsv {A = TextAt} form (λ text. text) (Err status) old new said said'
 seen_apart form view status old new said said' (inl unread) = inl unread
 seen_apart form view status old new said said' (inr given) = inr (record { text = given.text; gives = given.gives; reads = given.reads })
 
@@ -16,10 +15,10 @@ pub returns-in-Ok : goal.returns-in-Ok
 returns-in-Ok g c =
     let given = c.in-Ok.ensures.reads in
     inr (record {
-      messages = c.in-Ok.messages.items;
+      text = c.in-Ok.text;
       middle = said_of g.E.Output c.read_csv.new.faults;
       reads = record { text = given.text; gives = given.gives; reads = given.reads };
-      puts = rw c.deref.ensures.value at c.put_messages.ensures;
+      puts = c.put_text.ensures;
     })
 
 pub returns-in-Err : goal.returns-in-Err

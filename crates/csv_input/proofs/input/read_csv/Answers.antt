@@ -4,4 +4,4 @@ use Rattle.csv_input.proofs.input.read_csv.Goals as goal
 
 pub returns-in-Ok-clause-reads : goal.returns-in-Ok-clause-reads
 returns-in-Ok-clause-reads g c =
-    gave (form_of c.args.form) (λ messages. messages.items) c.read_text.result _ _ _ _ _ c.in-Ok.ensures (rw c.as_slice.ensures at c.read_text.ensures.reads)
+    gave (form_of c.args.form) (λ text. text) c.read_text.result _ _ _ _ _ c.in-Ok.ensures c.read_text.ensures.reads
