@@ -48,17 +48,19 @@ module _ (target : Target) (text : TextAt) (begun : Line) where
   pub columns_unmade : (fault : Fault) → (last : Line) × FailsRows target text (Found fault) begun last
   columns_unmade fault = (
     record { incoming = record begun.incoming { left = stopped_by fault begun.incoming.left }; outgoing = begun.outgoing },
-    fault,
-    refl,
-    record {
-      some = [];
-      others = text.records;
-      splits = refl;
-      messages = [];
-      says = inl refl;
-      cut = record { wrote = record { front = []; rest = unended_bytes (put_payloads target []); splits = refl; wrote = Appends-nil begun.outgoing.output }; stopped = refl };
-      why = inr refl;
-    },
+    (
+      fault,
+      refl,
+      record {
+        some = [];
+        others = text.records;
+        splits = refl;
+        messages = [];
+        says = inl refl;
+        cut = record { wrote = record { front = []; rest = unended_bytes (put_payloads target []); splits = refl; wrote = Appends-nil begun.outgoing.output }; stopped = refl };
+        why = inr refl;
+      },
+    ),
   )
 
   module _ (done left rest : List (List (List ℕ))) (now : PutAt) (have : HaveSent target text done begun now) (splits : text.records ≡ done ++ left) where
@@ -99,20 +101,22 @@ module _ (target : Target) (text : TextAt) (begun : Line) where
     batch_unmade fault =
         let putting = have.putting in (
           record { incoming = record begun.incoming { left = stopped_by fault begun.incoming.left }; outgoing = now.line.outgoing },
-          fault,
-          refl,
-          record {
-            some = done;
-            others = left;
-            splits = splits;
-            messages = have.first ∷ have.others;
-            says = inr have.says;
-            cut = record {
-              wrote = record { front = putting.sent.written; rest = now.waiting; splits = sym putting.sent.whole; wrote = putting.sent.wrote };
-              stopped = refl;
-            };
-            why = inr putting.quiet;
-          },
+          (
+            fault,
+            refl,
+            record {
+              some = done;
+              others = left;
+              splits = splits;
+              messages = have.first ∷ have.others;
+              says = inr have.says;
+              cut = record {
+                wrote = record { front = putting.sent.written; rest = now.waiting; splits = sym putting.sent.whole; wrote = putting.sent.wrote };
+                stopped = refl;
+              };
+              why = inr putting.quiet;
+            },
+          ),
         )
 
     -- none is left

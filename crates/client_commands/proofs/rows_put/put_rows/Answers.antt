@@ -18,15 +18,15 @@ returns-in_err-send_rows g c =
     let e = c.in_err-send_rows.ensures c.args.target c.args.connection c.in_ok-putting.ensures in
     rw (p.1, p.2) (e.0, inr (_, refl, e.1))
 
-pub end-requires-clause-reads : goal.end-requires-clause-reads
-end-requires-clause-reads g c =
+pub end-counted-requires-clause-reads : goal.end-counted-requires-clause-reads
+end-counted-requires-clause-reads g c =
     few_reads c.args.target c.args.text.now c.args.connection _ _ (c.in_ok-send_rows.ensures c.args.target c.args.connection c.in_ok-putting.ensures) c.requires.0
 
-pub end-requires-clause-writes : goal.end-requires-clause-writes
-end-requires-clause-writes g c =
+pub end-counted-requires-clause-writes : goal.end-counted-requires-clause-writes
+end-counted-requires-clause-writes g c =
     few_writes c.args.target c.args.text.now c.args.connection _ _ (c.in_ok-send_rows.ensures c.args.target c.args.connection c.in_ok-putting.ensures) c.requires.1
 
 pub returns : goal.returns
 returns g c =
     let have = c.in_ok-send_rows.ensures c.args.target c.args.connection c.in_ok-putting.ensures in
-    (_, rows_put c.args.target c.args.text.now c.args.connection _ have _ _ (c.end.ensures _ c.args.connection have.putting))
+    (_, rows_put c.args.target c.args.text.now c.args.connection _ have _ _ (c.end-counted.ensures _ c.args.connection have.putting))

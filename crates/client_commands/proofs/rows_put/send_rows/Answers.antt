@@ -12,20 +12,38 @@ returns-in_err-rows g c target begun have =
     let p = err_from_is_err_and c.from_residual.result c.from_residual.ensures.1 in
     rw (p.1, p.2) (batch_unmade target c.args.text.now begun [] _ [] c.args.putting.now have refl OutOfMemory)
 
-pub loop-message-init : goal.loop-message-init
-loop-message-init g c = record {
+pub loop-rows-init : goal.loop-rows-init
+loop-rows-init g c = record {
   schema = ap (λ (t : TextAt). t.schema) c.in_ok-rows.ensures;
   sent = λ target begun have. ([], ap (λ (t : TextAt). t.records) (sym c.in_ok-rows.ensures), have);
   count = refl;
 }
 
-pub loop-message-preserved : goal.loop-message-preserved
-loop-message-preserved g c =
-    let i = c.loop-message.invariant in
+pub loop-rows-preserved-in_ok-send : goal.loop-rows-preserved-in_ok-send
+loop-rows-preserved-in_ok-send g c =
+    let i = c.loop-rows.invariant in
     let text = c.args.text.now in
     let message = c.in-Some.message in
     let took = rw c.in-Some.is at c.in_ok-message.ensures.taken in
-    let next : IsNext text.schema message c.loop-message.rows.records c.next.new.self.records = subst (λ (s : Schema). IsNext s message c.loop-message.rows.records c.next.new.self.records) i.schema took in
+    let next : IsNext text.schema message c.loop-rows.rows.records c.next.new.self.records = subst (λ (s : Schema). IsNext s message c.loop-rows.rows.records c.next.new.self.records) i.schema took in
+    record {
+      schema = c.next.ensures.same ∙ i.schema;
+      sent = λ target begun have.
+          let so = i.sent target begun have in (
+            _,
+            batch_splits target text begun so.0 _ _ _ so.2 so.1 message next,
+            batch_sent target text begun so.0 _ _ _ so.2 so.1 message _ next (c.in_ok-send.ensures.sent _ begun so.2.putting),
+          );
+      count = c.in_ok-send.ensures.quiet ∙ i.count;
+    }
+
+pub loop-rows-preserved : goal.loop-rows-preserved
+loop-rows-preserved g c =
+    let i = c.loop-rows.invariant in
+    let text = c.args.text.now in
+    let message = c.in-Some.message in
+    let took = rw c.in-Some.is at c.in_ok-message.ensures.taken in
+    let next : IsNext text.schema message c.loop-rows.rows.records c.next.new.self.records = subst (λ (s : Schema). IsNext s message c.loop-rows.rows.records c.next.new.self.records) i.schema took in
     record {
       schema = c.next.ensures.same ∙ i.schema;
       sent = λ target begun have.
@@ -40,22 +58,22 @@ loop-message-preserved g c =
 pub returns-in_err-message : goal.returns-in_err-message
 returns-in_err-message g c target begun have =
     let p = err_from_is_err_and c.from_residual-in_err-message.result c.from_residual-in_err-message.ensures.1 in
-    let so = c.loop-message.invariant.sent target begun have in
+    let so = c.loop-rows.invariant.sent target begun have in
     rw (p.1, p.2) (batch_unmade target c.args.text.now begun so.0 _ [] _ so.2 so.1 c.in_err-message.field-0.0)
 
 pub returns-in_err-send : goal.returns-in_err-send
 returns-in_err-send g c target begun have =
     let p = err_from_is_err_and c.from_residual-in_err-send.result c.from_residual-in_err-send.ensures.1 in
-    let i = c.loop-message.invariant in
+    let i = c.loop-rows.invariant in
     let text = c.args.text.now in
     let so = i.sent target begun have in
     let message = c.in-Some.message in
     let took = rw c.in-Some.is at c.in_ok-message.ensures.taken in
-    let next : IsNext text.schema message c.loop-message.rows.records c.next.new.self.records = subst (λ (s : Schema). IsNext s message c.loop-message.rows.records c.next.new.self.records) i.schema took in
+    let next : IsNext text.schema message c.loop-rows.rows.records c.next.new.self.records = subst (λ (s : Schema). IsNext s message c.loop-rows.rows.records c.next.new.self.records) i.schema took in
     rw (p.1, p.2) (_, batch_unsent target text begun so.0 _ _ _ so.2 so.1 message _ _ next (c.in_err-send.ensures.sent _ begun so.2.putting))
 
 pub returns : goal.returns
 returns g c target begun have =
-    let so = c.loop-message.invariant.sent target begun have in
+    let so = c.loop-rows.invariant.sent target begun have in
     let none = rw c.in_default.is at c.in_ok-message.ensures.taken in
     all_sent target c.args.text.now begun so.0 _ [] _ so.2 so.1 none
