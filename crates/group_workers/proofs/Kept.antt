@@ -1,4 +1,4 @@
--- That groups are those of some rows can be shown in one way at most.
+-- That a part has the groups of its batches so far can be shown in one way at most.
 use Rattle.std.proofs.Common.{◌≡◌, ℕ, ◌*◌, max, min, List, length, Option, Result, Ok, Err, arith}
 use Rattle.std.specs.Coded.{Coded-set, coded_ℕ, coded_list, coded_option}
 use Rattle.std.proofs.Math.Logic.{∥∥₁_elim}
@@ -16,9 +16,10 @@ use Rattle.typed_plan.specs.contracts.plan.Aggregate as aggregate
 use Rattle.group_slots.specs.declared.tally.Tally.{Tally}
 use Rattle.group_slots.specs.contracts.tally.Tally as tally
 use Rattle.grouping.specs.Fed.{AreTallied, GroupsAt, Holds}
-use Rattle.group_workers.specs.Merging.{CanMerge, GroupsOfPartAt}
+use Rattle.group_workers.specs.Merging.{CanMerge, IsPartAt, IsPartOf}
 use Rattle.group_workers.proofs.Parting.{all_before}
-use Rattle.scan_exec.specs.GroupWork.{AreGroupsOf, CanBeGrouped, GroupWorkAt}
+use Rattle.scan_exec.specs.declared.group_work.FedPart.{FedPart}
+use Rattle.scan_exec.specs.GroupWork.{AreGroupsOf, CanBeGrouped, GroupWorkAt, IsPartFed}
 
 numbers_equal : (n m : ℕ) → IsProp (n ≡ m)
 numbers_equal = Coded-set coded_ℕ
@@ -53,16 +54,22 @@ Holds-prop groups rows = hlevel (numbers_equal, keys_equal, AreTallied-prop)
 AreGroupsOf-prop : (work : GroupWorkAt) (rows : List Row) (groups : GroupsAt) → IsProp (AreGroupsOf work rows groups)
 AreGroupsOf-prop work rows groups = hlevel (batches_equal, types_equal, places_equal, items_equal, faults_equal, Holds-prop)
 
+IsPartFed-prop : (work : GroupWorkAt) (part : FedPart) → IsProp (IsPartFed work part)
+IsPartFed-prop work part = hlevel (numbers_equal, AreGroupsOf-prop)
+
+IsPartOf-prop : (work : GroupWorkAt) (from to : ℕ) (part : FedPart) → IsProp (IsPartOf work from to part)
+IsPartOf-prop work from to part = hlevel (numbers_equal, IsPartFed-prop)
+
 -- so what is kept of it is what it was
-groups_of_part : (work : GroupWorkAt) (parts number : ℕ) (answer : Result GroupsAt Fault) → ∥ GroupsOfPartAt work parts number answer ∥₁ → GroupsOfPartAt work parts number answer
-groups_of_part work parts number (Ok groups) is = ∥∥₁_elim is (AreGroupsOf-prop work _ groups) (λ x. x)
-groups_of_part work parts number (Err fault) is = tt
+part_at : (work : GroupWorkAt) (parts number : ℕ) (answer : Result FedPart Fault) → ∥ IsPartAt work parts number answer ∥₁ → IsPartAt work parts number answer
+part_at work parts number (Ok part) is = ∥∥₁_elim is (IsPartOf-prop work _ _ part) (λ x. x)
+part_at work parts number (Err fault) is = tt
 
 -- so the groups of each part can be merged
 pub can_merge : (work : GroupWorkAt) (parts workers : ℕ) → CanBeGrouped work → parts ≡ min (length work.batches) (max 1 workers) →
-    CanMerge work (λ number answer. ∥ GroupsOfPartAt work parts number answer ∥₁) parts
+    CanMerge work (λ number answer. ∥ IsPartAt work parts number answer ∥₁) parts
 can_merge work parts workers can count = record {
   can = can;
   all = all_before (length work.batches) parts (λ some. omega (arith, some, count));
-  each = groups_of_part work parts;
+  each = part_at work parts;
 }

@@ -10,6 +10,7 @@ use Rattle.typed_plan.specs.declared.plan.Aggregate.{Aggregate}
 use Rattle.grouping.specs.Fed.{GroupsAt, HasItems, Holds}
 use Rattle.row_sources.specs.Collected.{IsBatchOf}
 use Rattle.row_sources.specs.Picking.{PickAt, IsPick, holds, pick_of}
+use Rattle.scan_exec.specs.declared.group_work.FedPart.{FedPart}
 use Rattle.scan_exec.specs.declared.group_work.GroupWork.{GroupWork}
 
 -- the rows that the filters let through
@@ -61,3 +62,15 @@ GroupsOfPart work from to result = IfOk result (AreGroupsOf work (passing work.p
 -- the groups of all batches, unless memory was refused
 abbrev pub GroupsOfAll : GroupWorkAt → Result GroupsAt Fault → Type 0
 GroupsOfAll work result = IfOk result (AreGroupsOf work (passing work.pick (flat_map rows_of work.batches)))
+
+-- the batches of the part before `at` were fed
+pub record IsPartFed (work : GroupWorkAt) (part : FedPart) : Type 0 where
+  pub begun : part.from ≤ part.at
+  pub ordered : part.at ≤ part.to
+  pub there : part.to ≤ length work.batches
+  pub fed : AreGroupsOf work (passing work.pick (flat_map rows_of (batches_between part.from part.at work.batches))) part.groups
+
+-- it is a part of the same batches
+pub record IsSamePart (before after : FedPart) : Type 0 where
+  pub from : after.from ≡ before.from
+  pub to : after.to ≡ before.to

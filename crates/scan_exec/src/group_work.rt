@@ -1,15 +1,18 @@
 //! What is grouped, and who groups it.
 
-ghost use Rattle.std.specs.Prelude.{◌≤◌, length};
-ghost use Rattle.scan_exec.specs.GroupWork.{CanBeGrouped, GroupsOfAll, GroupsOfPart, work_at};
+ghost use Rattle.std.specs.Prelude.{◌≡◌, ◌≤◌, ◌<◌, IfOk, OnOk, length};
+ghost use Rattle.scan_exec.specs.GroupWork.{CanBeGrouped, GroupsOfAll, GroupsOfPart, IsPartFed, IsSamePart, work_at};
 
 use crate::grouped::{Feeding, feed_batch};
 use array_select::Selection;
 use grouping::{Grouping, Groups};
 use hash_seed::HashSeed;
-use row_sources::Picker;
+use row_sources::{Picker, Watches};
 use scan_base::Fault;
 use std::alloc::Global;
+
+// How many rows a turn of feeding looks at, and behind them those of the batch in hand.
+const TURN_ROWS: usize = 1_048_576;
 
 /// What is grouped: those rows of batches that filters let through.
 #[derive(Clone, Copy, Drop)]
@@ -22,22 +25,37 @@ pub struct GroupWork<'t, 'p> {
     pub picker: &'p Picker,
 }
 
+/// The groups of a part of the batches, from one up to, not with, another, of which those before `at` were fed.
+#[derive(Drop)]
+pub struct FedPart<'t> {
+    pub groups: Groups<'t>,
+    pub from: usize,
+    pub at: usize,
+    pub to: usize,
+    // The rows that were chosen last. Its memory is used again.
+    pub selection: Selection,
+}
+
 /// Who groups the rows of batches.
 pub trait GroupsBatches {
     ghost use Rattle.scan_exec.specs.GroupWork.{CanBeGrouped, GroupsOfAll, work_at};
 
-    /// The groups of those rows of all batches that the filters let through, in the order of the batches.
+    /// The groups of those rows of all batches that the filters let through, in the order of the batches. Who watches may end it.
     ///
     /// # Errors
     ///
-    /// F21 (`Fault::OutOfMemory`) where memory is refused.
-    fn groups_of_all<'t>(
+    /// F21 (`Fault::OutOfMemory`) where memory is refused, or who watches ends it.
+    fn groups_of_all<'t, W: Watches>(
         &self,
         alloc: Global,
         work: &GroupWork<'t, '_>,
+        watch: &mut W,
     ) -> Result<Groups<'t>, Fault>
-        requires { CanBeGrouped (work_at work.now) }
-        ensures { GroupsOfAll (work_at work.now) result };
+        requires can { CanBeGrouped (work_at work.now) }
+        requires ready { W.ready watch.old }
+        ensures groups { GroupsOfAll (work_at work.now) result }
+        ensures ready { W.ready watch.new }
+        ensures watched { W.watched watch.old watch.new };
 }
 
 /// Groups the rows in one walk through the batches.
@@ -45,38 +63,105 @@ pub trait GroupsBatches {
 pub struct InOneWalk;
 
 impl GroupsBatches for InOneWalk {
-    fn groups_of_all<'t>(
+    fn groups_of_all<'t, W: Watches>(
         &self,
         alloc: Global,
         work: &GroupWork<'t, '_>,
+        watch: &mut W,
     ) -> Result<Groups<'t>, Fault> {
-        work.groups_of_part(alloc, 0, work.shape.batches.len())
+        let part = work.begin_part(alloc, 0, work.shape.batches.len())?;
+        work.rest_of_part(alloc, part, watch)
     }
 }
 
 impl<'t, 'p> GroupWork<'t, 'p> {
-    /// The groups of those rows of the batches `from` up to, not with, `to` that the filters let through, in the order of the
-    /// batches.
+    /// The groups of a part of the batches, of which none was fed yet.
     ///
     /// # Errors
     ///
     /// F21 (`Fault::OutOfMemory`) where memory is refused.
-    pub fn groups_of_part(&self, alloc: Global, from: usize, to: usize) -> Result<Groups<'t>, Fault>
+    pub fn begin_part(&self, alloc: Global, from: usize, to: usize) -> Result<FedPart<'t>, Fault>
         requires can { CanBeGrouped (work_at self.now) }
         requires ordered { from ≤ to }
         requires there { to ≤ length self.now.shape.batches.now }
-        ensures { GroupsOfPart (work_at self.now) from to result }
+        requires ready { W.ready watch.old }
+        ensures fed { IfOk result (IsPartFed (work_at self.now)) }
+        ensures from { IfOk result (λ part. part.from ≡ from) }
+        ensures to { IfOk result (λ part. part.to ≡ to) }
     {
-        let mut groups = Groups::new(alloc, self.seed, self.shape)?;
-        let mut selection = Selection::new(alloc);
-        for number in from..to {
-            let feeding = Feeding {
-                number,
-                batch: &self.shape.batches[number],
-                picker: self.picker,
-            };
-            feed_batch(alloc, &mut groups, &feeding, &mut selection)?;
+        Ok(FedPart {
+            groups: Groups::new(alloc, self.seed, self.shape)?,
+            from,
+            at: from,
+            to,
+            selection: Selection::new(alloc),
+        })
+    }
+
+    // Feeds the next batch of a part.
+    fn feed_next(&self, alloc: Global, part: &mut FedPart<'t>) -> Result<(), Fault>
+        requires can { CanBeGrouped (work_at self.now) }
+        requires fed { IsPartFed (work_at self.now) part.old }
+        requires more { part.old.at < part.old.to }
+        ensures fed { OnOk result (IsPartFed (work_at self.now) part.new) }
+        ensures same { OnOk result (IsSamePart part.old part.new) }
+        ensures next { OnOk result (part.old.at < part.new.at) }
+    {
+        let feeding = Feeding {
+            number: part.at,
+            batch: &self.shape.batches[part.at],
+            picker: self.picker,
+        };
+        feed_batch(alloc, &mut part.groups, &feeding, &mut part.selection)?;
+        part.at += 1;
+        Ok(())
+    }
+
+    /// Feeds batches of a part for a turn: 1,048,576 rows, and behind them those of the batch in hand. Whether there are more.
+    ///
+    /// # Errors
+    ///
+    /// F21 (`Fault::OutOfMemory`) where memory is refused. Then nothing is said of the part.
+    pub fn feed_turn(&self, alloc: Global, part: &mut FedPart<'t>) -> Result<bool, Fault>
+        requires can { CanBeGrouped (work_at self.now) }
+        requires fed { IsPartFed (work_at self.now) part.old }
+        ensures fed { OnOk result (IsPartFed (work_at self.now) part.new) }
+        ensures same { OnOk result (IsSamePart part.old part.new) }
+    {
+        let mut rows = 0usize;
+        while part.at < part.to && rows < TURN_ROWS {
+            rows = rows.saturating_add(self.shape.batches[part.at].rows());
+            self.feed_next(alloc, part)?;
         }
-        Ok(groups)
+        Ok(part.at < part.to)
+    }
+
+    /// The groups of a part, once its other batches are fed. Who watches may end it behind each.
+    ///
+    /// # Errors
+    ///
+    /// F21 (`Fault::OutOfMemory`) where memory is refused, or who watches ends it.
+    pub fn rest_of_part<W: Watches>(
+        &self,
+        alloc: Global,
+        part: FedPart<'t>,
+        watch: &mut W,
+    ) -> Result<Groups<'t>, Fault>
+        requires can { CanBeGrouped (work_at self.now) }
+        requires fed { IsPartFed (work_at self.now) part }
+        requires ready { W.ready watch.old }
+        ensures groups { GroupsOfPart (work_at self.now) part.from part.to result }
+        ensures ready { W.ready watch.new }
+        ensures watched { W.watched watch.old watch.new }
+    {
+        let mut part = part;
+        while part.at < part.to {
+            let rows = self.shape.batches[part.at].rows();
+            self.feed_next(alloc, &mut part)?;
+            if !watch.goes_on(rows) {
+                return Err(Fault::OutOfMemory);
+            }
+        }
+        Ok(part.groups)
     }
 }
