@@ -1,51 +1,21 @@
 //! Digests of texts that are parts of keys, by the codes of the texts.
 
-ghost use Rattle.std.specs.Prelude.{◌≡◌, ◌≤◌, ◌<◌, ◌+◌, ◌^◌, ℕ, [], All, IfOk, IfSome, Option, Some, get_or, length, true};
-ghost use Rattle.scan_base.specs.declared.value.Value.TheVariants.{Null};
+ghost use Rattle.std.specs.Prelude.{◌≡◌, ◌≤◌, ◌<◌, ◌+◌, ◌^◌, ℕ, [], All, IfOk, IfSome, Option, Some, length};
+ghost use Rattle.hash_join.specs.declared.buckets.Buckets.{Buckets as BucketsAt};
 ghost use Rattle.hash_join.specs.declared.buckets.Buckets.TheVariants as parted;
-ghost use Rattle.hash_join.specs.Hashes.{digest_of, hash_of};
+ghost use Rattle.hash_join.specs.Hashes.{hash_of, key_digest};
 ghost use Rattle.hash_join.specs.KeyRows.{key_of, IsKeyRow};
 ghost use Rattle.hash_join.specs.Seen.{AreDigests};
 
 use crate::buckets::Hashing;
 use crate::key_row::{KeyRow, feed_part};
+use crate::part_rows::PartRows;
 use crate::product::Product;
 use std::alloc::{AllocError, Global};
 use std::hash::{Hash, Hasher};
 
 // No table has more places: 16 MB.
 const MOST_DIGESTS: usize = 1_048_576;
-
-// Rows whose keys have parts, some of which are texts.
-pub(crate) trait PartRows {
-    ghost count: { Self → ℕ };
-
-    ghost parts: { Self → ℕ };
-
-    ghost digest: { Self → ℕ → ℕ → Option ℕ };
-
-    // How many rows there are.
-    fn row_count(&self) -> usize
-        ensures { result ≡ count self.now };
-
-    // The code of a part of a row's key.
-    fn part_code(&self, row: usize, part: usize) -> Option<i128>
-        requires row { row < count self.now }
-        requires part { part < parts self.now };
-
-    // Whether the keys of two rows are the same in a part by its codes alone.
-    fn have_part_code(&self, row: usize, other: usize, part: usize) -> bool
-        requires row { row < count self.now }
-        requires other { other < count self.now }
-        requires part { part < parts self.now }
-        ensures { result ≡ true → digest self.now row part ≡ digest self.now other part };
-
-    // The digest of a part of a row's key; none where it is no text.
-    fn digest(&self, row: usize, part: usize) -> Option<u64>
-        requires row { row < count self.now }
-        requires part { part < parts self.now }
-        ensures { result ≡ digest self.now row part };
-}
 
 // A row that was seen, a part of its key that is a text, and the digest of the text.
 #[derive(Clone, Copy, Drop)]
@@ -117,17 +87,17 @@ impl Digests {
         requires few { R.count rows.now < 2 ^ 32 }
         requires at { IsKeyRow at.now }
         requires parts { length at.now.key.now ≡ R.parts rows.now }
-        requires same { (part : ℕ) → R.digest rows.now row part ≡ digest_of (parted.Hashed hashing.now) (get_or (key_of at.now) part Null) }
-        requires seen { AreDigests (R.digest rows.now) (R.count rows.now) self.old.texts.items }
+        requires key { R.key rows.now row ≡ key_of at.now }
+        requires seen { AreDigests (key_digest (parted.Hashed hashing.now) (R.key rows.now)) (R.count rows.now) self.old.texts.items }
         ensures hash { result ≡ hash_of hashing.now.begun (key_of at.now) }
-        ensures seen { AreDigests (R.digest rows.now) (R.count rows.now) self.new.texts.items }
+        ensures seen { AreDigests (key_digest (parted.Hashed hashing.now) (R.key rows.now)) (R.count rows.now) self.new.texts.items }
     {
         if self.texts.is_empty() || at.key.len() == 1 {
             return at.hash_from(hashing.begun);
         }
         let mut hasher = hashing.begun;
         for part in 0..at.key.len() {
-            let fed = match self.digest(rows, row, part) {
+            let fed = match self.digest(hashing, rows, row, part) {
                 Some(digest) => {
                     digest.hash(&mut hasher);
                     true
@@ -142,13 +112,19 @@ impl Digests {
     }
 
     // The digest of a part of a row's key, where it has a code.
-    fn digest<R: PartRows>(&mut self, rows: &R, row: usize, part: usize) -> Option<u64>
+    fn digest<R: PartRows>(
+        &mut self,
+        hashing: &Hashing,
+        rows: &R,
+        row: usize,
+        part: usize,
+    ) -> Option<u64>
         requires row { row < R.count rows.now }
         requires few { R.count rows.now < 2 ^ 32 }
         requires part { part < R.parts rows.now }
-        requires seen { AreDigests (R.digest rows.now) (R.count rows.now) self.old.texts.items }
-        ensures digest { IfSome result (λ digest. R.digest rows.now row part ≡ Some digest) }
-        ensures seen { AreDigests (R.digest rows.now) (R.count rows.now) self.new.texts.items }
+        requires seen { AreDigests (key_digest (parted.Hashed hashing.now) (R.key rows.now)) (R.count rows.now) self.old.texts.items }
+        ensures digest { IfSome result (λ digest. key_digest (parted.Hashed hashing.now) (R.key rows.now) row part ≡ Some digest) }
+        ensures seen { AreDigests (key_digest (parted.Hashed hashing.now) (R.key rows.now)) (R.count rows.now) self.new.texts.items }
     {
         let Some(code) = rows.part_code(row, part) else {
             return None;
@@ -157,7 +133,7 @@ impl Digests {
         if let Some(digest) = self.digest_at(rows, place, row, part) {
             return Some(digest);
         }
-        let found = rows.digest(row, part);
+        let found = hashing.digest(rows.part(row, part));
         if let Some(digest) = found {
             self.keep(place, row, part, digest);
         }
@@ -179,8 +155,8 @@ impl Digests {
     fn digest_at<R: PartRows>(&self, rows: &R, place: usize, row: usize, part: usize) -> Option<u64>
         requires row { row < R.count rows.now }
         requires part { part < R.parts rows.now }
-        requires seen { AreDigests (R.digest rows.now) (R.count rows.now) self.now.texts.items }
-        ensures { IfSome result (λ digest. R.digest rows.now row part ≡ Some digest) }
+        ensures { (buckets : BucketsAt) → AreDigests (key_digest buckets (R.key rows.now)) (R.count rows.now) self.now.texts.items →
+            IfSome result (λ digest. key_digest buckets (R.key rows.now) row part ≡ Some digest) }
     {
         if place >= self.texts.len() {
             return None;
