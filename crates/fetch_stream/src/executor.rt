@@ -1,6 +1,6 @@
 //! Who makes the payloads of a stream, and who reads them.
 
-ghost use Rattle.std.specs.Prelude.{◌≡◌, IfOk, Result};
+ghost use Rattle.std.specs.Prelude.{◌≡◌, IfOk, Result, OnOk};
 ghost use Rattle.scan_base.specs.declared.fault.Fault.{Fault as FaultAt};
 ghost use Rattle.fetch_stream.specs.Streams.{StreamAt, Gives, GivesTurn};
 
@@ -100,7 +100,7 @@ pub trait Executor {
     ) -> Result<FetchStream, AllocError>
         requires ready { W.ready watch.old }
         ensures stream { IfOk result (λ readied. readied ≡ stream) }
-        ensures ready { W.ready watch.new }
+        ensures ready { OnOk result (W.ready watch.new) }
         ensures watched { W.watched watch.old watch.new };
 }
 

@@ -1,6 +1,6 @@
 //! Openings: what a handle means, before a row of it is read.
 
-ghost use Rattle.std.specs.Prelude.{◌≡◌, ◌≢◌, ◌≤◌, true, false, length, nat_le, Err, IfOk, IfErr};
+ghost use Rattle.std.specs.Prelude.{◌≡◌, ◌≢◌, ◌≤◌, true, false, length, nat_le, Err, IfOk, IfErr, OnOk};
 ghost use Rattle.scan_base.specs.declared.fault.Fault.TheVariants.{BadTicket, LimitReached, OutOfMemory};
 ghost use Rattle.scan_base.specs.Limits.{most_query_bytes};
 ghost use Rattle.scan_base.specs.Reading.{RefusesFirst, demand};
@@ -198,7 +198,7 @@ impl Opening {
     ) -> Result<FetchStream, AllocError>
         requires ready { W.ready watch.old }
         ensures stream { IfOk result (λ stream. stream ≡ self) }
-        ensures ready { W.ready watch.new }
+        ensures ready { OnOk result (W.ready watch.new) }
         ensures watched { W.watched watch.old watch.new }
     {
         let Opening {
@@ -217,7 +217,7 @@ impl Meaning {
         requires meaning { IsMeaning self }
         requires ready { W.ready watch.old }
         ensures stream { IfOk result (λ stream. stream ≡ stream_meant self) }
-        ensures ready { W.ready watch.new }
+        ensures ready { OnOk result (W.ready watch.new) }
         ensures watched { W.watched watch.old watch.new }
     {
         match self {
@@ -233,7 +233,7 @@ impl PlannedScan {
         requires schema { IsSchema self.plan.schema }
         requires ready { W.ready watch.old }
         ensures stream { IfOk result (λ stream. stream ≡ before_schema self.plan.schema (rows_meant self)) }
-        ensures ready { W.ready watch.new }
+        ensures ready { OnOk result (W.ready watch.new) }
         ensures watched { W.watched watch.old watch.new }
     {
         let PlannedScan {

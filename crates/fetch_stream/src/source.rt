@@ -1,6 +1,6 @@
 //! What the rows of an answer come from.
 
-ghost use Rattle.std.specs.Prelude.{◌≡◌, IfOk};
+ghost use Rattle.std.specs.Prelude.{◌≡◌, IfOk, OnOk};
 ghost use Rattle.arrays.specs.Batch.{BatchAt};
 ghost use Rattle.fetch_stream.specs.inside.Ahead.{schema_behind, rows_taken, IsSource};
 ghost use Rattle.fetch_stream.specs.inside.Given.{GivesNoneYet, TurnsBatch};
@@ -65,7 +65,7 @@ impl Source {
         requires source { IsSource self }
         requires ready { W.ready watch.old }
         ensures source { IfOk result (GivesNoneYet self) }
-        ensures ready { W.ready watch.new }
+        ensures ready { OnOk result (W.ready watch.new) }
         ensures watched { W.watched watch.old watch.new }
     {
         match self {

@@ -1,6 +1,6 @@
 //! Streams: an answer, one parcel at a time.
 
-ghost use Rattle.std.specs.Prelude.{◌≡◌, ◌≢◌, ◌≤◌, ◌<◌, ◌+◌, ◌++◌, true, false, None, length, nat_le, Err, IfOk, IfErr, IfSome};
+ghost use Rattle.std.specs.Prelude.{◌≡◌, ◌≢◌, ◌≤◌, ◌<◌, ◌+◌, ◌++◌, true, false, None, length, nat_le, Err, IfOk, IfErr, IfSome, OnOk};
 ghost use Rattle.std.specs.List.{list_any};
 ghost use Rattle.scan_base.specs.declared.fault.Fault.TheVariants.{BadTicket, LimitReached, OutOfMemory};
 ghost use Rattle.scan_base.specs.Limits.{most_answer_rows, most_query_bytes};
@@ -253,7 +253,7 @@ impl FetchStream {
     ) -> Result<FetchStream, AllocError>
         requires ready { W.ready watch.old }
         ensures stream { IfOk result (λ stream. stream ≡ self) }
-        ensures ready { W.ready watch.new }
+        ensures ready { OnOk result (W.ready watch.new) }
         ensures watched { W.watched watch.old watch.new }
     {
         if self.refused.is_some() {

@@ -1,6 +1,6 @@
 //! Streams whose groups several workers make.
 
-ghost use Rattle.std.specs.Prelude.{◌≡◌, IfOk};
+ghost use Rattle.std.specs.Prelude.{◌≡◌, IfOk, OnOk};
 
 use fetch_stream::{FetchStream, Parcel, Payloads, ReadsPayloads};
 use group_workers::GroupWorkers;
@@ -75,7 +75,7 @@ pub(crate) fn ready_grouped<R: Threads + Wait + Sync, L: Watches>(
 ) -> Result<FetchStream, AllocError>
     requires ready { L.ready watch.old }
     ensures stream { IfOk result (λ stream. stream ≡ work.stream) }
-    ensures ready { L.ready watch.new }
+    ensures ready { OnOk result (L.ready watch.new) }
     ensures watched { L.watched watch.old watch.new }
 {
     let GroupedWork {

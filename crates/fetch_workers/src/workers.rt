@@ -1,6 +1,6 @@
 //! Several workers on one fetch.
 
-ghost use Rattle.std.specs.Prelude.{◌≡◌, IfOk, IfSome, None};
+ghost use Rattle.std.specs.Prelude.{◌≡◌, IfOk, IfSome, None, OnOk};
 
 use crate::grouped::{GroupedWork, read_grouped, ready_grouped};
 use crate::joined::Joined;
@@ -68,7 +68,7 @@ pub trait StartsWorkers {
         requires shared { shared self.now }
         requires ready { L.ready watch.old }
         ensures stream { IfOk result (λ stream. stream ≡ work.stream) }
-        ensures ready { L.ready watch.new }
+        ensures ready { OnOk result (L.ready watch.new) }
         ensures watched { L.watched watch.old watch.new };
 }
 

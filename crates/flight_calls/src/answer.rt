@@ -1,6 +1,6 @@
 //! Writing the answer of a call.
 
-ghost use Rattle.std.specs.Prelude.{◌≡◌, [], ◌∷◌, Result, Ok, IfOk, IfSome, OnErr, map};
+ghost use Rattle.std.specs.Prelude.{◌≡◌, [], ◌∷◌, Result, Ok, IfOk, IfSome, OnErr, map, OnOk};
 ghost use Rattle.std.specs.List.{flat_map};
 ghost use Rattle.scan_base.specs.declared.fault.Fault.{Fault as FaultAt};
 ghost use Rattle.grpc_frame.specs.declared.record.Record.TheVariants.{Message};
@@ -232,7 +232,7 @@ fn made_stream<X: Executor, L: Watches>(
 ) -> Result<FetchStream, AllocError>
     requires ready { L.ready watch.old }
     ensures stream { IfOk result (λ stream. stream ≡ opening) }
-    ensures ready { L.ready watch.new }
+    ensures ready { OnOk result (L.ready watch.new) }
     ensures watched { L.watched watch.old watch.new }
 {
     let stream = opening.stream_watched(setting.alloc, watch)?;
@@ -254,17 +254,16 @@ impl<'w, 'o, W: Output> Watches for Watching<'w, 'o, W> {
     ghost use Rattle.grpc_frame.specs.Ends.{CanFail};
     ghost use Rattle.flight_calls.specs.Watched.{IsWatched, still_watched, watched_again};
 
-    ghost ready = { λ w. w.failed ≡ None → CanFail (W.failures w.writer.now) };
+    ghost ready = { λ w. (w.failed ≡ None) × CanFail (W.failures w.writer.now) };
 
     ghost watched = { λ old new.
         (new.writer.ghost_name ≡ old.writer.ghost_name) × (new.outbox.ghost_name ≡ old.outbox.ghost_name)
         × IsWatched old.failed new.failed (W.contents old.writer.now) (W.contents new.writer.now)
         old.outbox.now new.outbox.now (W.failures old.writer.now) (W.failures new.writer.now) };
 
+    ghost told = { λ _ _ _. Unit {0} };
+
     fn goes_on(&mut self, rows: usize) -> bool {
-        if self.failed.is_some() {
-            return false;
-        }
         self.rows = self.rows.saturating_add(rows);
         if self.rows < LOOKED_ROWS {
             return true;
@@ -284,6 +283,10 @@ impl<'w, 'o, W: Output> Watches for Watching<'w, 'o, W> {
     ghost again = { λ one next last first then. (then.0 ∙ first.0, then.1 ∙ first.1,
         watched_again one.failed next.failed last.failed (W.contents one.writer.now) (W.contents next.writer.now) (W.contents last.writer.now)
         one.outbox.now next.outbox.now last.outbox.now (W.failures one.writer.now) (W.failures next.writer.now) (W.failures last.writer.now) first.2 then.2) };
+
+    ghost untold = { λ _. tt };
+
+    ghost told_again = { λ _ _ _ _ _ _ _. tt };
 }
 
 // Sends the payload of a schema. Where the next one may come late, it is written at once. The other end is not looked at: it may

@@ -1,12 +1,12 @@
 //! Groups of each part of the batches for itself, merged in the order of the parts.
 
-ghost use Rattle.std.specs.Prelude.{◌≡◌, IfOk};
+ghost use Rattle.std.specs.Prelude.{◌≡◌, IfOk, OnOk};
 ghost use Rattle.group_workers.specs.Merging.{AreNextGroups, CanMerge, IsNextPart};
 ghost use Rattle.scan_exec.specs.GroupWork.{work_at};
 
 use crate::parts::{count_before, row_count};
 use grouping::Groups;
-use row_sources::Watches;
+use row_sources::{Watches, tell};
 use scan_base::Fault;
 use scan_exec::{FedPart, GroupWork};
 use scan_workers::{Answers, NextAnswer, Reads, Work};
@@ -71,14 +71,14 @@ pub(crate) struct Merging<'w, 't, 'p, 'l, L> {
 impl<'w, 't, 'p, 'l, L: Watches> Reads<Result<FedPart<'t>, Fault>> for Merging<'w, 't, 'p, 'l, L> {
     type Out = Result<Groups<'t>, Fault>;
 
-    ghost use Rattle.std.specs.Prelude.{◌≡◌};
+    ghost use Rattle.std.specs.Prelude.{◌≡◌, OnOk};
     ghost use Rattle.group_workers.specs.Merging.{CanMerge};
     ghost use Rattle.scan_exec.specs.GroupWork.{GroupsOfAll, work_at};
 
     ghost takes = { λ m right count. CanMerge (work_at m.work.now) right count × L.ready m.watch.now };
 
     ghost reads = { λ m right count out new. GroupsOfAll (work_at m.work.now) out
-        × (new.watch.ghost_name ≡ m.watch.ghost_name) × L.ready new.watch.now × L.watched m.watch.now new.watch.now };
+        × (new.watch.ghost_name ≡ m.watch.ghost_name) × OnOk out (L.ready new.watch.now) × L.watched m.watch.now new.watch.now };
 
     fn read<P: Answers<Result<FedPart<'t>, Fault>>>(
         &mut self,
@@ -109,7 +109,7 @@ fn next_part<'t, P: Answers<Result<FedPart<'t>, Fault>>, L: Watches>(
     ensures ready { P.ready answers.new }
     ensures count { P.count answers.new ≡ P.count answers.old }
     ensures part { IfOk result (IsNextPart P.right (P.count answers.old) (P.given answers.old) (P.given answers.new)) }
-    ensures watch { L.ready watch.new }
+    ensures watch { OnOk result (L.ready watch.new) }
     ensures watched { L.watched watch.old watch.new }
 {
     let mut turns = u64::MAX;
@@ -121,9 +121,7 @@ fn next_part<'t, P: Answers<Result<FedPart<'t>, Fault>>, L: Watches>(
         }
         let told = TURN_ROWS.min(*untold);
         *untold -= told;
-        if !watch.goes_on(told) {
-            return Err(Fault::OutOfMemory);
-        }
+        tell(watch, told)?;
         turns -= 1;
     }
     match answers.next() {
@@ -146,7 +144,7 @@ fn next_groups<'t, P: Answers<Result<FedPart<'t>, Fault>>, L: Watches>(
     ensures ready { P.ready answers.new }
     ensures count { P.count answers.new ≡ P.count answers.old }
     ensures groups { IfOk result (AreNextGroups (work_at work.now) (P.count answers.old) (P.given answers.old) (P.given answers.new)) }
-    ensures watch { L.ready watch.new }
+    ensures watch { OnOk result (L.ready watch.new) }
     ensures watched { L.watched watch.old watch.new }
 {
     match next_part(answers, untold, watch)? {

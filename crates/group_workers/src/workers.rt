@@ -1,6 +1,6 @@
 //! Several workers that group the rows of batches.
 
-ghost use Rattle.std.specs.Prelude.{◌≡◌};
+ghost use Rattle.std.specs.Prelude.{◌≡◌, OnOk};
 ghost use Rattle.scan_exec.specs.GroupWork.{CanBeGrouped, GroupsOfAll, work_at};
 
 use crate::merging::{Merging, PartGroups};
@@ -17,6 +17,7 @@ use std::thread::Threads;
 
 /// A handle that starts the threads which make groups: each that may start threads and wait, and that threads may share.
 pub trait StartsGroupWorkers {
+    ghost use Rattle.std.specs.Prelude.{OnOk};
     ghost use Rattle.scan_exec.specs.GroupWork.{CanBeGrouped, GroupsOfAll, work_at};
 
     // What is to be known of it: that threads may share it.
@@ -38,7 +39,7 @@ pub trait StartsGroupWorkers {
         requires can { CanBeGrouped (work_at work.now) }
         requires ready { L.ready watch.old }
         ensures groups { GroupsOfAll (work_at work.now) result }
-        ensures ready { L.ready watch.new }
+        ensures ready { OnOk result (L.ready watch.new) }
         ensures watched { L.watched watch.old watch.new };
 }
 
@@ -111,7 +112,7 @@ fn groups_beside<'t, R: Threads + Wait + Sync, L: Watches>(
     requires can { CanBeGrouped (work_at work.now) }
     requires ready { L.ready watch.old }
     ensures groups { GroupsOfAll (work_at work.now) result }
-    ensures ready { L.ready watch.new }
+    ensures ready { OnOk result (L.ready watch.new) }
     ensures watched { L.watched watch.old watch.new }
 {
     let parts = part_count(work.shape.batches.len(), workers);

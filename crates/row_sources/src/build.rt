@@ -1,6 +1,6 @@
 //! A plan made ready to give its rows.
 
-ghost use Rattle.std.specs.Prelude.{◌≡◌, ◌≤◌, true, IfOk, length, map};
+ghost use Rattle.std.specs.Prelude.{◌≡◌, ◌≤◌, true, IfOk, length, map, OnOk};
 ghost use Rattle.std.specs.List.{flat_map, range_with_len};
 ghost use Rattle.arrays.specs.Batch.{rows_of};
 ghost use Rattle.table_versions.specs.Stored.{TableAt};
@@ -56,7 +56,7 @@ pub(crate) fn build<W: Watches>(
     ensures begun { IfOk result (λ made. IsBegun (tree_of plan) tables.items reading.from reading.to (sourced_at made)) }
     ensures few { IfOk result (λ made. is_place (tree_of plan) ≡ true →
         length (source_at made.source).ahead ≤ length (flat_map rows_of (first_batches tables.items))) }
-    ensures ready { W.ready watch.new }
+    ensures ready { OnOk result (W.ready watch.new) }
     ensures watched { W.watched watch.old watch.new }
 {
     typed_predicates_name_columns();

@@ -1,12 +1,12 @@
 //! All rows that are still to be given, at once.
 
-ghost use Rattle.std.specs.Prelude.{◌≡◌, IfOk, length, take};
+ghost use Rattle.std.specs.Prelude.{◌≡◌, IfOk, length, take, OnOk};
 ghost use Rattle.row_sources.specs.Collected.{AreCollected};
 ghost use Rattle.row_sources.specs.Running.{GoesOn};
 
 use crate::rows::Rows;
 use crate::turn::{Looking, Turn, patience_of};
-use crate::watch::{Unwatched, Watches};
+use crate::watch::{Unwatched, Watches, tell};
 use arrays::Batch;
 use std::alloc::{AllocError, Global};
 
@@ -37,7 +37,7 @@ pub fn collect_watched<W: Watches>(
     requires ready { W.ready watch.old }
     ensures on { GoesOn rows.old rows.new }
     ensures collected { IfOk result (λ batches. AreCollected rows.old batches.items rows.new) }
-    ensures ready { W.ready watch.new }
+    ensures ready { OnOk result (W.ready watch.new) }
     ensures watched { W.watched watch.old watch.new }
 {
     let mut batches = Vec::new(alloc);
@@ -48,26 +48,13 @@ pub fn collect_watched<W: Watches>(
         match rows.turn(&mut looking)? {
             Turn::Given(piece) => {
                 batches.push(piece.batch)?;
-                tell(&looking, watch)?;
+                tell(watch, looking.looked())?;
             }
             Turn::Working => {
                 turns -= 1;
-                tell(&looking, watch)?;
+                tell(watch, looking.looked())?;
             }
             Turn::End => return Ok(batches),
         }
-    }
-}
-
-// Tells who watches of a turn. It is an error where that ends the work.
-fn tell<W: Watches>(looking: &Looking, watch: &mut W) -> Result<(), AllocError>
-    requires ready { W.ready watch.old }
-    ensures ready { W.ready watch.new }
-    ensures watched { W.watched watch.old watch.new }
-{
-    if watch.goes_on(looking.looked()) {
-        Ok(())
-    } else {
-        Err(AllocError)
     }
 }

@@ -1,6 +1,6 @@
 //! What gives joined rows.
 
-ghost use Rattle.std.specs.Prelude.{◌≡◌, ◌≤◌, [], ◌++◌, IfOk, length, map};
+ghost use Rattle.std.specs.Prelude.{◌≡◌, ◌≤◌, [], ◌++◌, IfOk, length, map, OnOk};
 ghost use Rattle.arrow_schema.specs.Answer.{copied_type};
 ghost use Rattle.join_batches.specs.Joiner.{joined_types};
 ghost use Rattle.scan_base.specs.Limits.{most_rows};
@@ -13,7 +13,7 @@ use crate::build::Sourced;
 use crate::collected::collect_watched;
 use crate::columns::numbers_below;
 use crate::rows::{Joining, Source};
-use crate::watch::Watches;
+use crate::watch::{Watches, tell};
 use arrays::Batch;
 use arrow_schema::DataType;
 use hash_seed::HashSeed;
@@ -42,7 +42,7 @@ pub(crate) fn join_source<W: Watches>(
     requires ready { W.ready watch.old }
     ensures sourced { IfOk result IsSourced }
     ensures joins { IfOk result (λ made. JoinsRows on.now (sourced_at sides.left) (sourced_at sides.right) (sourced_at made)) }
-    ensures ready { W.ready watch.new }
+    ensures ready { OnOk result (W.ready watch.new) }
     ensures watched { W.watched watch.old watch.new }
 {
     let Sides { left, right } = sides;
@@ -105,14 +105,12 @@ fn joiner_of<W: Watches>(
     requires keys { HasKeys sides }
     requires ready { W.ready watch.old }
     ensures joiner { IfOk result (λ joiner. joiner ≡ joiner_with sides (plain_rows (sourced_at right).ahead)) }
-    ensures ready { W.ready watch.new }
+    ensures ready { OnOk result (W.ready watch.new) }
     ensures watched { W.watched watch.old watch.new }
 {
     let mut rows = right.rows(alloc)?;
     let batches = collect_watched(alloc, &mut rows, watch)?;
-    if !watch.goes_on(rows_in(batches.as_slice())) {
-        return Err(AllocError);
-    }
+    tell(watch, rows_in(batches.as_slice()))?;
     Joiner::new(alloc, seed, sides, batches)
 }
 

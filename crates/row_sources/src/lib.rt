@@ -26,4 +26,4 @@ pub use crate::piece::Piece;
 pub use crate::row_source::{Reading, RowSource, UnfilteredRows};
 pub use crate::rows::Rows;
 pub use crate::turn::{Looking, Patience, Turn};
-pub use crate::watch::{Unwatched, Watches};
+pub use crate::watch::{Unwatched, Watches, tell};

@@ -1,6 +1,6 @@
 //! What gives the rows of a plan's tree.
 
-ghost use Rattle.std.specs.Prelude.{◌≡◌, ◌≤◌, true, IfOk, IsTrue, length, map};
+ghost use Rattle.std.specs.Prelude.{◌≡◌, ◌≤◌, true, IfOk, IsTrue, length, map, OnOk};
 ghost use Rattle.std.specs.List.{flat_map, range_with_len};
 ghost use Rattle.arrays.specs.Batch.{rows_of};
 ghost use Rattle.table_versions.specs.Stored.{TableAt};
@@ -118,7 +118,7 @@ impl RowSource {
         ensures begun { IfOk result (λ source. IsBegun (tree_of plan) tables.items reading.from reading.to source.rows) }
         ensures few { IfOk result (λ source. is_place (tree_of plan) ≡ true →
             source.count ≤ length (flat_map rows_of (first_batches tables.items))) }
-        ensures ready { W.ready watch.new }
+        ensures ready { OnOk result (W.ready watch.new) }
         ensures watched { W.watched watch.old watch.new }
     {
         let sourced = build(alloc, plan, tables, reading, watch)?;

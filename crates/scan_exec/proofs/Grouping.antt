@@ -32,7 +32,7 @@ use Rattle.scan_exec.specs.declared.grouped.Wanted.{Wanted}
 use Rattle.scan_exec.specs.Giving.{GivingAt, GivingOn, GivesNext}
 use Rattle.row_sources.specs.Collected.{AreCollected, IsBatchOf}
 use Rattle.scan_exec.specs.Grouped.{AnswersAll, AreMade, IsAnswering, of_groups, passing_before, wanted_rows, wanted_types}
-use Rattle.scan_exec.specs.GroupWork.{AreGroupsOf, GroupsOfAll, GroupsOfPart, GroupWorkAt, batches_between, passing}
+use Rattle.scan_exec.specs.GroupWork.{AreGroupsOf, GroupsOfAll, GroupsOfPart, GroupWorkAt, batches_between, passing, rows_between}
 use Rattle.row_sources.specs.Picking.{PickAt, IsPick, holds, chosen_rows, pick_of}
 use Rattle.row_sources.specs.Running.{RowsAt, GoesOn}
 use Rattle.row_sources.proofs.Giving.{filter-map}
@@ -143,16 +143,21 @@ module _ (work : GroupWorkAt) (from k : ℕ) (batch : BatchAt) (ordered : from �
       ∙ ap (λ (some : List Row). passing work.pick (flat_map rows_of (batches_between from k work.batches) ++ some)) (append-nil (rows_of batch))
       ∙ filter-append (holds work.pick) (flat_map rows_of (batches_between from k work.batches)) (rows_of batch)
 
+  -- so many rows they have
+  pub counted_more : rows_between from (k + 1) work.batches ≡ rows_between from k work.batches + batch.rows
+  counted_more =
+      let long : rows_between from (k + 1) work.batches ≡ rows_between from k work.batches + length (rows_of batch) =
+      ap (λ (some : List BatchAt). length (flat_map rows_of some)) batches_more
+      ∙ ap length (flat_map-append rows_of (batches_between from k work.batches) (batch ∷ []) ∙ ap (λ (some : List Row). flat_map rows_of (batches_between from k work.batches) ++ some) (append-nil (rows_of batch)))
+      ∙ length-append (flat_map rows_of (batches_between from k work.batches)) (rows_of batch) in
+      omega (arith, long, length-rows_of batch)
+
   -- so many rows can be fed to the groups of those so far
   pub few_enough : (groups : GroupsAt) → AreGroupsOf work so_far groups → length (flat_map rows_of work.batches) ≤ most_rows → groups.count + batch.rows ≤ most_rows
   few_enough groups are few =
       let all = between_few from (k + 1) work.batches in
-      let long : length (flat_map rows_of (batches_between from (k + 1) work.batches)) ≡ length (flat_map rows_of (batches_between from k work.batches)) + length (rows_of batch) =
-      ap (λ (some : List BatchAt). length (flat_map rows_of some)) batches_more
-      ∙ ap length (flat_map-append rows_of (batches_between from k work.batches) (batch ∷ []) ∙ ap (λ (some : List Row). flat_map rows_of (batches_between from k work.batches) ++ some) (append-nil (rows_of batch)))
-      ∙ length-append (flat_map rows_of (batches_between from k work.batches)) (rows_of batch) in
       let size = passing_few (holds work.pick) (flat_map rows_of (batches_between from k work.batches)) in
-      omega (arith, all, long, size, few, are.held.count, length-rows_of batch)
+      omega (arith, all, counted_more, size, few, are.held.count)
 
   -- and then they are the groups of one batch more
   pub more_fed : (groups after : GroupsAt) → AreGroupsOf work so_far groups → HasFed groups after (passing work.pick (rows_of batch)) →
@@ -180,6 +185,10 @@ module _ (pick : PickAt) (batches : List BatchAt) (k : ℕ) (batch : BatchAt) (t
       subst (λ (n : ℕ). IsPick n pick) (sym (as_many types batch.columns of.typed)) picks
 
 -- ---- the groups of what is grouped
+
+-- no batch yet has no row
+pub none_counted : (from : ℕ) (batches : List BatchAt) → rows_between from from batches ≡ 0
+none_counted from batches = let none : from - from ≡ 0 = omega arith in rw none refl
 
 -- groups of no row are those of a part of which no batch was fed
 pub none_yet : (work : GroupWorkAt) (from : ℕ) (new : GroupsAt) → IsNew work.batches work.types work.keys work.items new →

@@ -55,6 +55,10 @@ pub record AreGroupsOf (work : GroupWorkAt) (rows : List Row) (groups : GroupsAt
 abbrev pub batches_between : ℕ → ℕ → List BatchAt → List BatchAt
 batches_between from to batches = take (to - from) (drop from batches)
 
+-- how many rows they have
+abbrev pub rows_between : ℕ → ℕ → List BatchAt → ℕ
+rows_between from to batches = length (flat_map rows_of (batches_between from to batches))
+
 -- the groups of those batches, unless memory was refused
 abbrev pub GroupsOfPart : GroupWorkAt → ℕ → ℕ → Result GroupsAt Fault → Type 0
 GroupsOfPart work from to result = IfOk result (AreGroupsOf work (passing work.pick (flat_map rows_of (batches_between from to work.batches))))

@@ -1,6 +1,6 @@
 //! What a scan gives: rows, or groups of them.
 
-ghost use Rattle.std.specs.Prelude.{◌≡◌, ◌≤◌, true, IfOk, length, take};
+ghost use Rattle.std.specs.Prelude.{◌≡◌, ◌≤◌, true, IfOk, length, take, OnOk};
 ghost use Rattle.scan_base.specs.Limits.{most_rows};
 ghost use Rattle.typed_plan.specs.Typed.{HasOutput, is_grouping};
 ghost use Rattle.scan_exec.specs.Answering.{IsGiving, answer_for, giving_at};
@@ -45,8 +45,8 @@ impl Answer {
         requires giving { IsGiving self.old }
         requires ready { W.ready watch.old }
         ensures giving { IsGiving self.new }
-        ensures ready { MakesReady (giving_at self.old) result (giving_at self.new) }
-        ensures ready { W.ready watch.new }
+        ensures makes { MakesReady (giving_at self.old) result (giving_at self.new) }
+        ensures ready { OnOk result (W.ready watch.new) }
         ensures watched { W.watched watch.old watch.new }
     {
         match self {

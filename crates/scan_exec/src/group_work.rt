@@ -1,13 +1,13 @@
 //! What is grouped, and who groups it.
 
-ghost use Rattle.std.specs.Prelude.{◌≡◌, ◌≤◌, ◌<◌, IfOk, OnOk, length};
-ghost use Rattle.scan_exec.specs.GroupWork.{CanBeGrouped, GroupsOfAll, GroupsOfPart, IsPartFed, IsSamePart, work_at};
+ghost use Rattle.std.specs.Prelude.{◌≡◌, ◌≤◌, ◌<◌, ◌+◌, IfOk, OnOk, length};
+ghost use Rattle.scan_exec.specs.GroupWork.{CanBeGrouped, GroupsOfAll, GroupsOfPart, IsPartFed, IsSamePart, rows_between, work_at};
 
 use crate::grouped::{Feeding, feed_batch};
 use array_select::Selection;
 use grouping::{Grouping, Groups};
 use hash_seed::HashSeed;
-use row_sources::{Picker, Watches};
+use row_sources::{Picker, Watches, tell};
 use scan_base::Fault;
 use std::alloc::Global;
 
@@ -38,6 +38,7 @@ pub struct FedPart<'t> {
 
 /// Who groups the rows of batches.
 pub trait GroupsBatches {
+    ghost use Rattle.std.specs.Prelude.{OnOk};
     ghost use Rattle.scan_exec.specs.GroupWork.{CanBeGrouped, GroupsOfAll, work_at};
 
     /// The groups of those rows of all batches that the filters let through, in the order of the batches. Who watches may end it.
@@ -54,7 +55,7 @@ pub trait GroupsBatches {
         requires can { CanBeGrouped (work_at work.now) }
         requires ready { W.ready watch.old }
         ensures groups { GroupsOfAll (work_at work.now) result }
-        ensures ready { W.ready watch.new }
+        ensures ready { OnOk result (W.ready watch.new) }
         ensures watched { W.watched watch.old watch.new };
 }
 
@@ -84,7 +85,6 @@ impl<'t, 'p> GroupWork<'t, 'p> {
         requires can { CanBeGrouped (work_at self.now) }
         requires ordered { from ≤ to }
         requires there { to ≤ length self.now.shape.batches.now }
-        requires ready { W.ready watch.old }
         ensures fed { IfOk result (IsPartFed (work_at self.now)) }
         ensures from { IfOk result (λ part. part.from ≡ from) }
         ensures to { IfOk result (λ part. part.to ≡ to) }
@@ -105,7 +105,7 @@ impl<'t, 'p> GroupWork<'t, 'p> {
         requires more { part.old.at < part.old.to }
         ensures fed { OnOk result (IsPartFed (work_at self.now) part.new) }
         ensures same { OnOk result (IsSamePart part.old part.new) }
-        ensures next { OnOk result (part.old.at < part.new.at) }
+        ensures next { OnOk result (part.new.at ≡ part.old.at + 1) }
     {
         let feeding = Feeding {
             number: part.at,
@@ -136,7 +136,7 @@ impl<'t, 'p> GroupWork<'t, 'p> {
         Ok(part.at < part.to)
     }
 
-    /// The groups of a part, once its other batches are fed. Who watches may end it behind each.
+    /// The groups of a part, once its other batches are fed. Who watches is told of the rows of each, and may end it behind each.
     ///
     /// # Errors
     ///
@@ -151,16 +151,15 @@ impl<'t, 'p> GroupWork<'t, 'p> {
         requires fed { IsPartFed (work_at self.now) part }
         requires ready { W.ready watch.old }
         ensures groups { GroupsOfPart (work_at self.now) part.from part.to result }
-        ensures ready { W.ready watch.new }
+        ensures ready { OnOk result (W.ready watch.new) }
         ensures watched { W.watched watch.old watch.new }
+        ensures told { OnOk result (W.told (rows_between part.at part.to (work_at self.now).batches) watch.old watch.new) }
     {
         let mut part = part;
         while part.at < part.to {
             let rows = self.shape.batches[part.at].rows();
             self.feed_next(alloc, &mut part)?;
-            if !watch.goes_on(rows) {
-                return Err(Fault::OutOfMemory);
-            }
+            tell(watch, rows)?;
         }
         Ok(part.groups)
     }

@@ -1,6 +1,6 @@
 //! Scans.
 
-ghost use Rattle.std.specs.Prelude.{◌≡◌, ◌≤◌, ◌<◌, [], false, IfOk, IfSome, length};
+ghost use Rattle.std.specs.Prelude.{◌≡◌, ◌≤◌, ◌<◌, [], false, IfOk, IfSome, length, OnOk};
 ghost use Rattle.std.specs.List.{list_any};
 ghost use Rattle.table_versions.specs.Stored.{CatalogAt, tables_of};
 ghost use Rattle.table_versions.specs.Table.{is_long_text};
@@ -114,7 +114,7 @@ impl Scan {
         ensures rows { IfOk result (λ scan. (catalog : CatalogAt) → HoldsFrom catalog plan →
             left scan ≡ plan_rows (plan_of plan) (tables_of catalog) reading.from reading.to) }
         ensures short { IfOk result (λ scan. list_any (list_any is_long_text) (left scan) ≡ false) }
-        ensures ready { W.ready watch.new }
+        ensures ready { OnOk result (W.ready watch.new) }
         ensures watched { W.watched watch.old watch.new }
     {
         skipping_keeps_rows();
@@ -161,8 +161,8 @@ impl Scan {
         watch: &mut W,
     ) -> Result<Scan, AllocError>
         requires ready { W.ready watch.old }
-        ensures ready { IfOk result (IsReadied self) }
-        ensures ready { W.ready watch.new }
+        ensures readied { IfOk result (IsReadied self) }
+        ensures ready { OnOk result (W.ready watch.new) }
         ensures watched { W.watched watch.old watch.new }
     {
         let Scan {

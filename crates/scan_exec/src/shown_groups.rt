@@ -1,6 +1,6 @@
 //! Groups of which each different item is made once.
 
-ghost use Rattle.std.specs.Prelude.{◌≡◌, IsTrue, length};
+ghost use Rattle.std.specs.Prelude.{◌≡◌, IsTrue, length, OnOk};
 ghost use Rattle.opened_batches.specs.Chosen.{are_within};
 ghost use Rattle.scan_exec.specs.Giving.{GivesNext, MakesReady};
 ghost use Rattle.scan_exec.specs.ShownGroups.{with_cells};
@@ -62,8 +62,8 @@ impl ShownGroups {
         watch: &mut W,
     ) -> Result<(), AllocError>
         requires ready { W.ready watch.old }
-        ensures ready { MakesReady self.old result self.new }
-        ensures ready { W.ready watch.new }
+        ensures makes { MakesReady self.old result self.new }
+        ensures ready { OnOk result (W.ready watch.new) }
         ensures watched { W.watched watch.old watch.new }
     {
         self.groups.make(alloc, by, watch)

@@ -8,15 +8,15 @@ use Rattle.scan_exec.proofs.Grouping.{groups_on, made_ahead}
 use Rattle.scan_exec.proofs.grouped.GroupedRows.make.Goals as goal
 
 -- they are there
-pub returns-in-Made-clause-ready : goal.returns-in-Made-clause-ready
-returns-in-Made-clause-ready g c =
+pub returns-in-Made-clause-makes : goal.returns-in-Made-clause-makes
+returns-in-Made-clause-makes g c =
     let s = c.self.inside in
     subst (λ (giving : GivingAt). GivesNoneYet giving giving) c.self.view_is
     (record { same = refl; on = groups_on s.wanted s.rows s.rows s.stage s.stage (goes_still s.rows c.self.invariant.front) })
 
 -- they were refused before
-pub returns-in-Refused-clause-ready : goal.returns-in-Refused-clause-ready
-returns-in-Refused-clause-ready g c =
+pub returns-in-Refused-clause-makes : goal.returns-in-Refused-clause-makes
+returns-in-Refused-clause-makes g c =
     let s = c.self.inside in
     subst (λ (giving : GivingAt). GivingOn giving giving) c.self.view_is (groups_on s.wanted s.rows s.rows s.stage s.stage (goes_still s.rows c.self.invariant.front))
 
@@ -25,8 +25,8 @@ invariant_of-self-in-Ok g c =
     let made = c.in-Ok.ensures.made in
     record { front = c.made.ensures.on.opened; holds = (made.answering, made.all ∙ sym c.made.ensures.on.batches) }
 
-pub returns-in-Ok-clause-ready : goal.returns-in-Ok-clause-ready
-returns-in-Ok-clause-ready g c =
+pub returns-in-Ok-clause-makes : goal.returns-in-Ok-clause-makes
+returns-in-Ok-clause-makes g c =
     let s = c.self.inside in
     let rows = c.made.new.rows in
     let after = of_groups rows s.wanted (Made c.in-Ok.made) in
