@@ -280,9 +280,12 @@ impl<'w, 'o, W: Output> Watches for Watching<'w, 'o, W> {
 
     ghost unasked = { λ one. (refl, refl, still_watched one.failed (W.contents one.writer.now) one.outbox.now (W.failures one.writer.now)) };
 
-    ghost again = { λ one next last first then. (then.0 ∙ first.0, then.1 ∙ first.1,
-        watched_again one.failed next.failed last.failed (W.contents one.writer.now) (W.contents next.writer.now) (W.contents last.writer.now)
-        one.outbox.now next.outbox.now last.outbox.now (W.failures one.writer.now) (W.failures next.writer.now) (W.failures last.writer.now) first.2 then.2) };
+    ghost again = { λ one next last first then. (
+      then.0 ∙ first.0,
+      then.1 ∙ first.1,
+      watched_again one.failed next.failed last.failed (W.contents one.writer.now) (W.contents next.writer.now) (W.contents last.writer.now)
+          one.outbox.now next.outbox.now last.outbox.now (W.failures one.writer.now) (W.failures next.writer.now) (W.failures last.writer.now) first.2 then.2,
+    ) };
 
     ghost untold = { λ _. tt };
 

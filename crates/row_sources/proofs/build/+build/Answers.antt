@@ -88,7 +88,7 @@ first_front [] last more = absurd (omega (arith, more))
 first_front (table ∷ tables) last more = refl
 
 pub build-requires-in-Join : goal.build-requires-in-Join
-build-requires-in-Join g t c =
+build-requires-in-Join g t c κs lives =
     let left = tree_of c.in-Join.left.value in
     let right = tree_of c.in-Join.right.value in
     let tree : tree_of c.args.plan ≡ joined left right c.in-Join.on = ap tree_of c.in-Join.is in
@@ -102,14 +102,17 @@ build-requires-in-Join g t c =
     omega (arith, ap (λ (plan : Plan). tree_size (tree_of plan)) c.into_inner-in-Join.ensures, ap tree_size tree) in (
       first_of (omega (arith, smaller), search (rules, smaller)),
       (
-        subst (λ (plan : Plan). IsTypedTree (tree_of plan)) (sym c.into_inner-in-Join.ensures) typed.0,
+        lives,
         (
-          ap (λ (plan : Plan). tree_schemas (tree_of plan)) c.into_inner-in-Join.ensures ∙ sides.0,
+          subst (λ (plan : Plan). IsTypedTree (tree_of plan)) (sym c.into_inner-in-Join.ensures) typed.0,
           (
-            subst (BeginsInFirst c.args.reading.from) first c.requires.first,
+            ap (λ (plan : Plan). tree_schemas (tree_of plan)) c.into_inner-in-Join.ensures ∙ sides.0,
             (
-              subst (λ (batches : List BatchAt). batches_in c.args.reading.from c.args.reading.to batches ≡ range_with_len 0 (length batches)) first c.requires.each,
-              c.requires.ready,
+              subst (BeginsInFirst c.args.reading.from) first c.requires.first,
+              (
+                subst (λ (batches : List BatchAt). batches_in c.args.reading.from c.args.reading.to batches ≡ range_with_len 0 (length batches)) first c.requires.each,
+                c.requires.ready,
+              ),
             ),
           ),
         ),
@@ -117,7 +120,7 @@ build-requires-in-Join g t c =
     )
 
 pub build-requires-in-Join-2 : goal.build-requires-in-Join-2
-build-requires-in-Join-2 g t c =
+build-requires-in-Join-2 g t c κs lives =
     let left = tree_of c.in-Join.left.value in
     let right = tree_of c.in-Join.right.value in
     let table = c.in_ok-table-in-Join.table in
@@ -131,15 +134,18 @@ build-requires-in-Join-2 g t c =
     omega (arith, ap (λ (plan : Plan). tree_size (tree_of plan)) c.into_inner-in-Join-2.ensures, ap tree_size tree) in (
       first_of (omega (arith, smaller), search (rules, smaller)),
       (
-        subst (λ (plan : Plan). IsTypedTree (tree_of plan)) (sym c.into_inner-in-Join-2.ensures) typed.1,
+        lives,
         (
-          ap (λ (plan : Plan). tree_schemas (tree_of plan)) c.into_inner-in-Join-2.ensures ∙ sides.1 ∙ ap schemas_of (sym lasts),
+          subst (λ (plan : Plan). IsTypedTree (tree_of plan)) (sym c.into_inner-in-Join-2.ensures) typed.1,
           (
-            inl refl,
+            ap (λ (plan : Plan). tree_schemas (tree_of plan)) c.into_inner-in-Join-2.ensures ∙ sides.1 ∙ ap schemas_of (sym lasts),
             (
-              subst (λ (tables : List TableAt). batches_in 0 c.rows-to.result (first_batches tables) ≡ range_with_len 0 (length (first_batches tables))) (sym lasts)
-                  (all_whole table c.rows-to.result c.rows-to.ensures.kept),
-              c.in_ok-left-in-Join.ensures.ready,
+              inl refl,
+              (
+                subst (λ (tables : List TableAt). batches_in 0 c.rows-to.result (first_batches tables) ≡ range_with_len 0 (length (first_batches tables))) (sym lasts)
+                    (all_whole table c.rows-to.result c.rows-to.ensures.kept),
+                c.in_ok-left-in-Join.ensures.ready,
+              ),
             ),
           ),
         ),

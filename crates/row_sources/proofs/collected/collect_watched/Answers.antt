@@ -11,24 +11,24 @@ use Rattle.row_sources.proofs.JoinSteps.{on_and_on}
 use Rattle.row_sources.proofs.Turns.{turns_left}
 use Rattle.row_sources.proofs.collected.collect_watched.Goals as goal
 
-pub loop-batches-smaller-in-Given : goal.loop-batches-smaller-in-Given
-loop-batches-smaller-in-Given g c =
+pub loop-batches-smaller-in-Continue-branch-4 : goal.loop-batches-smaller-in-Continue-branch-4
+loop-batches-smaller-in-Continue-branch-4 g c =
     let finds : FindsPiece c.loop-batches.rows c.in-Given.piece c.turn.new.self = rw (c.in_ok-piece.was, c.in-Given.is) at c.turn.ensures.found in
     omega (arith, fewer_ahead c.loop-batches.rows c.turn.new.self c.in-Given.piece finds)
 
-pub loop-batches-preserved-in-Given : goal.loop-batches-preserved-in-Given
-loop-batches-preserved-in-Given g c =
+pub loop-batches-preserved-in-Continue-branch-4 : goal.loop-batches-preserved-in-Continue-branch-4
+loop-batches-preserved-in-Continue-branch-4 g c =
     let finds : FindsPiece c.loop-batches.rows c.in-Given.piece c.turn.new.self = rw (c.in_ok-piece.was, c.in-Given.is) at c.turn.ensures.found in
     let is = c.loop-batches.invariant in
     let batches = c.loop-batches.batches.items in
     let all = c.push.new.self.items in
-    let items = c.in_ok-push.ensures.items in
+    let items = c.in_ok-push-in-Given.ensures.items in
     record {
       rows = one_more c.args.rows.now c.loop-batches.rows c.turn.new.self c.in-Given.piece batches all finds items is.rows;
       each = one_typed c.args.rows.now c.loop-batches.rows c.turn.new.self c.in-Given.piece batches all finds items is.on.types is.each;
       on = on_and_on c.args.rows.now c.loop-batches.rows c.turn.new.self is.on finds.on;
-      ready = c.in_ok-tell.ensures.ready;
-      watched = g.met.W.Watches.again _ _ _ is.watched c.in_ok-tell.ensures.watched;
+      ready = c.in_ok-tell-in-Given.ensures.ready;
+      watched = g.met.W.Watches.again _ _ _ is.watched c.in_ok-tell-in-Given.ensures.watched;
     }
 
 -- where none is given, one turn fewer is left

@@ -34,7 +34,7 @@ joined-requires-clause-joined g c =
     let right = sourced_at c.args.sides.right in
     let is = sides_of c.args.on.now left.types right.types c.as_slice-3.result.now c.as_slice-4.result.now c.in_ok-sides.sides
     (c.as_slice-3.ensures.value ∙ c.requires.left.types) (c.as_slice-4.ensures.value ∙ c.requires.right.types) c.in_ok-sides.ensures in
-    let joiner = c.in_ok-joiner.ensures ∙ joiner_is c.args.on.now left right c.requires.joinable c.in_ok-sides.sides is in
+    let joiner = c.in_ok-joiner.ensures.joiner ∙ joiner_is c.args.on.now left right c.requires.joinable c.in_ok-sides.sides is in
     subst (λ (j : JoinerAt). IsJoined left j 0) (sym joiner) (joins_source c.args.on.now left right c.requires.joinable)
 
 pub joined-requires-clause-types : goal.joined-requires-clause-types
@@ -43,7 +43,7 @@ joined-requires-clause-types g c =
     let right = sourced_at c.args.sides.right in
     let is = sides_of c.args.on.now left.types right.types c.as_slice-3.result.now c.as_slice-4.result.now c.in_ok-sides.sides
     (c.as_slice-3.ensures.value ∙ c.requires.left.types) (c.as_slice-4.ensures.value ∙ c.requires.right.types) c.in_ok-sides.ensures in
-    let joiner = c.in_ok-joiner.ensures ∙ joiner_is c.args.on.now left right c.requires.joinable c.in_ok-sides.sides is in
+    let joiner = c.in_ok-joiner.ensures.joiner ∙ joiner_is c.args.on.now left right c.requires.joinable c.in_ok-sides.sides is in
     c.in_ok-types.ensures
     ∙ ap (λ (some : List DataType). map copied_type (some ++ c.as_slice-2.result.now)) (c.as_slice.ensures.value ∙ c.requires.left.types)
     ∙ ap (λ (some : List DataType). map copied_type (left.types ++ some)) (c.as_slice-2.ensures.value ∙ c.requires.right.types)
@@ -56,7 +56,7 @@ returns-clause-joins g c =
     let right = sourced_at c.args.sides.right in
     let is = sides_of on left.types right.types c.as_slice-3.result.now c.as_slice-4.result.now c.in_ok-sides.sides
     (c.as_slice-3.ensures.value ∙ c.requires.left.types) (c.as_slice-4.ensures.value ∙ c.requires.right.types) c.in_ok-sides.ensures in
-    let joiner = c.in_ok-joiner.ensures ∙ joiner_is on left right c.requires.joinable c.in_ok-sides.sides is in
+    let joiner = c.in_ok-joiner.ensures.joiner ∙ joiner_is on left right c.requires.joinable c.in_ok-sides.sides is in
     let begun = subst (λ (j : JoinerAt). JoinsRows on left right (all_joined left j)) (sym joiner) (joins_begun on left right c.requires.joinable) in
     IfOk-weaker c.joined.result (λ (made : Sourced). sourced_at made ≡ all_joined left c.in_ok-joiner.joiner)
     (λ (made : Sourced). JoinsRows on left right (sourced_at made))

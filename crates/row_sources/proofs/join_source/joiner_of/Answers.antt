@@ -20,6 +20,7 @@ collect_watched-requires g c =
     record {
       front = subst (λ (rows : RowsAt). take (length rows.opened) rows.batches ≡ rows.opened) (sym c.in_ok-rows.ensures)
           (subst (λ (opened : List ℕ). take (length opened) right.batches ≡ opened) (sym c.requires.unopened) refl);
+      ready = c.requires.ready;
     }
 
 pub new-requires-clause-typed : goal.new-requires-clause-typed
