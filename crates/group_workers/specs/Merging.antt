@@ -3,17 +3,10 @@ use Rattle.std.specs.Prelude.{◌≡◌, ◌≤◌, ◌<◌, ℕ, ◌+◌, lengt
 use Rattle.scan_base.specs.declared.fault.Fault.{Fault}
 use Rattle.grouping.specs.Fed.{GroupsAt}
 use Rattle.group_workers.specs.Parts.{batches_before}
-use Rattle.scan_exec.specs.declared.group_work.FedPart.{FedPart}
-use Rattle.scan_exec.specs.GroupWork.{CanBeGrouped, GroupWorkAt, GroupsOfPart, IsPartFed}
-
--- a part that begins and ends at these batches, of which those before some batch were fed
-pub record IsPartOf (work : GroupWorkAt) (from to : ℕ) (part : FedPart) : Type 0 where
-  pub fed : IsPartFed work part
-  pub begin : part.from ≡ from
-  pub end : part.to ≡ to
+use Rattle.scan_exec.specs.GroupWork.{CanBeGrouped, GroupWorkAt, GroupsOfPart, IsPartOf, PartAt}
 
 -- the part of a number, of so many parts, unless memory was refused
-abbrev pub IsPartAt : GroupWorkAt → ℕ → ℕ → Result FedPart Fault → Type 0
+abbrev pub IsPartAt : GroupWorkAt → ℕ → ℕ → Result PartAt Fault → Type 0
 IsPartAt work parts number result =
     let before = batches_before (length work.batches) parts in
     IfOk result (IsPartOf work (before number) (before (number + 1)))
@@ -25,13 +18,13 @@ GroupsOfPartAt work parts number result =
     GroupsOfPart work (before number) (before (number + 1)) result
 
 -- the parts are what is read, and have all batches
-pub record CanMerge (work : GroupWorkAt) (right : ℕ → Result FedPart Fault → Type 0) (parts : ℕ) : Type 0 where
+pub record CanMerge (work : GroupWorkAt) (right : ℕ → Result PartAt Fault → Type 0) (parts : ℕ) : Type 0 where
   pub can : CanBeGrouped work
   pub all : batches_before (length work.batches) parts parts ≡ length work.batches
-  pub each : (number : ℕ) (answer : Result FedPart Fault) → right number answer → IsPartAt work parts number answer
+  pub each : (number : ℕ) (answer : Result PartAt Fault) → right number answer → IsPartAt work parts number answer
 
 -- the part that is answered next, of so many, or none behind the last one
-abbrev pub IsNextPart : (right : ℕ → Result FedPart Fault → Type 0) → ℕ → ℕ → ℕ → Option FedPart → Type 0
+abbrev pub IsNextPart : (right : ℕ → Result PartAt Fault → Type 0) → ℕ → ℕ → ℕ → Option PartAt → Type 0
 IsNextPart right parts given now (Some part) = right given (Ok part) × (given < parts) × (now ≡ given + 1)
 IsNextPart right parts given now None = (parts ≤ given) × (now ≡ given)
 

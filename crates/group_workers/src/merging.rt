@@ -24,7 +24,7 @@ pub(crate) struct PartGroups<'w, 't, 'p> {
 }
 
 impl<'w, 't, 'p> Work for PartGroups<'w, 't, 'p> {
-    type Answer = Result<FedPart<'t>, Fault>;
+    type Answer = Result<FedPart<'t, 'p>, Fault>;
 
     ghost use Rattle.group_workers.specs.Merging.{IsPartAt};
     ghost use Rattle.scan_exec.specs.GroupWork.{CanBeGrouped, work_at};
@@ -39,7 +39,7 @@ impl<'w, 't, 'p> Work for PartGroups<'w, 't, 'p> {
         self.parts
     }
 
-    fn answer(&self, alloc: Global, morsel: usize) -> Result<FedPart<'t>, Fault> {
+    fn answer(&self, alloc: Global, morsel: usize) -> Result<FedPart<'t, 'p>, Fault> {
         let work = self.work;
         let batches = work.shape.batches.len();
         let from = count_before(batches, self.parts, morsel);
@@ -47,16 +47,16 @@ impl<'w, 't, 'p> Work for PartGroups<'w, 't, 'p> {
         work.begin_part(alloc, from, to)
     }
 
-    fn go_on(&self, alloc: Global, answer: &mut Result<FedPart<'t>, Fault>) -> bool {
-        let Ok(part) = answer else {
+    fn go_on(&self, alloc: Global, answer: &mut Result<FedPart<'t, 'p>, Fault>) -> bool {
+        let Ok(part) = std::mem::replace(answer, Err(Fault::OutOfMemory)) else {
             return false;
         };
-        match self.work.feed_turn(alloc, part) {
-            Ok(more) => more,
-            Err(fault) => {
-                *answer = Err(fault);
-                false
+        match part.feed_turn(alloc) {
+            Ok((part, more)) => {
+                *answer = Ok(part);
+                more
             }
+            Err(_) => false,
         }
     }
 }
@@ -68,7 +68,7 @@ pub(crate) struct Merging<'w, 't, 'p, 'l, L> {
     pub(crate) watch: &'l mut L,
 }
 
-impl<'w, 't, 'p, 'l, L: Watches> Reads<Result<FedPart<'t>, Fault>> for Merging<'w, 't, 'p, 'l, L> {
+impl<'w, 't, 'p, 'l, L: Watches> Reads<Result<FedPart<'t, 'p>, Fault>> for Merging<'w, 't, 'p, 'l, L> {
     type Out = Result<Groups<'t>, Fault>;
 
     ghost use Rattle.std.specs.Prelude.{◌≡◌, OnOk};
@@ -80,7 +80,7 @@ impl<'w, 't, 'p, 'l, L: Watches> Reads<Result<FedPart<'t>, Fault>> for Merging<'
     ghost reads = { λ m right count out new. GroupsOfAll (work_at m.work.now) out
         × (new.watch.ghost_name ≡ m.watch.ghost_name) × OnOk out (L.ready new.watch.now) × L.watched m.watch.now new.watch.now };
 
-    fn read<P: Answers<Result<FedPart<'t>, Fault>>>(
+    fn read<P: Answers<Result<FedPart<'t, 'p>, Fault>>>(
         &mut self,
         answers: &mut P,
     ) -> Result<Groups<'t>, Fault> {
@@ -99,11 +99,11 @@ impl<'w, 't, 'p, 'l, L: Watches> Reads<Result<FedPart<'t>, Fault>> for Merging<'
 
 // The part that is answered next, or none behind the last one. Behind each turn of its worker, who watches may end it. So many
 // rows of turns are untold.
-fn next_part<'t, P: Answers<Result<FedPart<'t>, Fault>>, L: Watches>(
+fn next_part<'t, 'p, P: Answers<Result<FedPart<'t, 'p>, Fault>>, L: Watches>(
     answers: &mut P,
     untold: &mut usize,
     watch: &mut L,
-) -> Result<Option<FedPart<'t>>, Fault>
+) -> Result<Option<FedPart<'t, 'p>>, Fault>
     requires ready { P.ready answers.old }
     requires watch { L.ready watch.old }
     ensures ready { P.ready answers.new }
@@ -131,9 +131,9 @@ fn next_part<'t, P: Answers<Result<FedPart<'t>, Fault>>, L: Watches>(
 }
 
 // The groups of the part that is answered next, or none behind the last one. What its worker has not fed is fed here.
-fn next_groups<'t, P: Answers<Result<FedPart<'t>, Fault>>, L: Watches>(
+fn next_groups<'t, 'p, P: Answers<Result<FedPart<'t, 'p>, Fault>>, L: Watches>(
     alloc: Global,
-    work: &GroupWork<'t, '_>,
+    work: &GroupWork<'t, 'p>,
     answers: &mut P,
     untold: &mut usize,
     watch: &mut L,
@@ -148,7 +148,7 @@ fn next_groups<'t, P: Answers<Result<FedPart<'t>, Fault>>, L: Watches>(
     ensures watched { L.watched watch.old watch.new }
 {
     match next_part(answers, untold, watch)? {
-        Some(part) => Ok(Some(work.rest_of_part(alloc, part, watch)?)),
+        Some(part) => Ok(Some(part.into_groups(alloc, watch)?)),
         None => Ok(None),
     }
 }

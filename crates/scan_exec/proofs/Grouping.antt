@@ -32,7 +32,7 @@ use Rattle.scan_exec.specs.declared.grouped.Wanted.{Wanted}
 use Rattle.scan_exec.specs.Giving.{GivingAt, GivingOn, GivesNext}
 use Rattle.row_sources.specs.Collected.{AreCollected, IsBatchOf}
 use Rattle.scan_exec.specs.Grouped.{AnswersAll, AreMade, IsAnswering, of_groups, passing_before, wanted_rows, wanted_types}
-use Rattle.scan_exec.specs.GroupWork.{AreGroupsOf, GroupsOfAll, GroupsOfPart, GroupWorkAt, batches_between, passing, rows_between}
+use Rattle.scan_exec.specs.GroupWork.{AreGroupsOf, CountsNext, GroupsOfAll, GroupsOfPart, GroupWorkAt, IsPartFed, IsPartOf, IsSamePart, PartAt, batches_between, part_at, passing, rows_between}
 use Rattle.row_sources.specs.Picking.{PickAt, IsPick, holds, chosen_rows, pick_of}
 use Rattle.row_sources.specs.Running.{RowsAt, GoesOn}
 use Rattle.row_sources.proofs.Giving.{filter-map}
@@ -184,6 +184,66 @@ module _ (pick : PickAt) (batches : List BatchAt) (k : ℕ) (batch : BatchAt) (t
       let of : IsBatchOf types batch = subst (IsBatchOf types) (sym is) (each k batch there) in
       subst (λ (n : ℕ). IsPick n pick) (sym (as_many types batch.columns of.typed)) picks
 
+-- the next batch of a part that is not whole
+module _ (work : GroupWorkAt) (from at to : ℕ) (groups : GroupsAt) (is : IsPartFed work from at to groups) (more : at < to) (batch : BatchAt) (has : batch ≡ get_or work.batches at batch) where
+  next_there : at < length work.batches
+  next_there = omega (arith, more, is.there)
+
+  -- can be fed
+  pub next_number : at < length groups.batches
+  next_number = omega (arith, next_there, ap length is.fed.batches_are)
+
+  pub next_is : batch_at groups.batches at ≡ batch
+  next_is = is_at work.pick work.batches at batch next_there has groups.batches is.fed.batches_are
+
+  pub next_pick : IsPick (length batch.columns) work.pick
+  next_pick = can_pick work.pick work.batches at batch next_there has work.types is.can.batches is.can.pick
+
+  pub next_few : groups.count + batch.rows ≤ most_rows
+  next_few = few_enough work from at batch is.begun next_there has groups is.fed is.can.few
+
+  pub next_counts : CountsNext (part_at work from at to) batch.rows
+  next_counts first low = counted_more work first at batch low next_there has
+
+  -- and then it was
+  pub next_fed : (after : GroupsAt) → HasFed groups after (passing work.pick (rows_of batch)) → IsPartFed work from (at + 1) to after
+  next_fed after fed = record {
+    can = is.can;
+    begun = omega (arith, is.begun);
+    ordered = omega (arith, more);
+    there = is.there;
+    fed = more_fed work from at batch is.begun next_there has groups after is.fed fed;
+  }
+
+-- where all batches of a part were fed, its groups are those of what it is a part of
+pub part_whole : (mine : GroupWorkAt) (begin at end : ℕ) (groups : GroupsAt) (part : PartAt) → IsPartFed mine begin at end groups → part_at mine begin at end ≡ part → at ≡ end →
+    (work : GroupWorkAt) (from to : ℕ) → IsPartOf work from to part → AreGroupsOf work (passing work.pick (flat_map rows_of (batches_between from to work.batches))) groups
+part_whole mine begin at end groups part is seen whole work from to of =
+    let rows : passing mine.pick (flat_map rows_of (batches_between begin at mine.batches)) ≡ passing work.pick (flat_map rows_of (batches_between from to work.batches)) =
+    ap (λ (n : ℕ). passing mine.pick (flat_map rows_of (batches_between begin n mine.batches))) whole ∙ ap (λ (p : PartAt). p.rows) seen ∙ of.rows in
+    record {
+      batches_are = is.fed.batches_are ∙ ap (λ (p : PartAt). p.batches) seen ∙ of.batches;
+      types_are = is.fed.types_are ∙ ap (λ (p : PartAt). p.types) seen ∙ of.types;
+      keys_are = is.fed.keys_are ∙ ap (λ (p : PartAt). p.keys) seen ∙ of.keys;
+      items_are = is.fed.items_are ∙ ap (λ (p : PartAt). p.items) seen ∙ of.items;
+      refused = is.fed.refused;
+      held = subst (Holds groups) rows is.fed.held;
+    }
+
+-- a part of what the same one is a part of
+pub still_part : (work : GroupWorkAt) (from to : ℕ) (before after : PartAt) → IsSamePart before after → IsPartOf work from to before → IsPartOf work from to after
+still_part work from to before after same is = record {
+  batches = same.batches ∙ is.batches;
+  types = same.types ∙ is.types;
+  keys = same.keys ∙ is.keys;
+  items = same.items ∙ is.items;
+  rows = same.rows ∙ is.rows;
+}
+
+-- a part that is begun
+pub begun_part : (work : GroupWorkAt) (from at to : ℕ) (part : PartAt) → part ≡ part_at work from at to → IsPartOf work from to part
+begun_part work from at to part is = subst (IsPartOf work from to) (sym is) (record { batches = refl; types = refl; keys = refl; items = refl; rows = refl })
+
 -- ---- the groups of what is grouped
 
 -- no batch yet has no row
@@ -205,12 +265,11 @@ none_yet work from new is =
     })
 
 -- the part of all batches has all rows
-pub whole_part : (work : GroupWorkAt) (from to : ℕ) (result : Result GroupsAt Fault) → from ≡ 0 → to ≡ length work.batches → GroupsOfPart work from to result →
-    GroupsOfAll work result
-whole_part work from to result first last is =
+pub whole_part : (work : GroupWorkAt) (to : ℕ) (result : Result GroupsAt Fault) → to ≡ length work.batches → GroupsOfPart work 0 to result → GroupsOfAll work result
+whole_part work to result last is =
     subst (λ (some : List BatchAt). IfOk result (AreGroupsOf work (passing work.pick (flat_map rows_of some))))
     (from_first (length work.batches) work.batches ∙ take-length work.batches)
-    (subst (λ (n : ℕ). GroupsOfPart work 0 n result) last (subst (λ (n : ℕ). GroupsOfPart work n to result) first is))
+    (subst (λ (n : ℕ). GroupsOfPart work 0 n result) last is)
 
 -- ---- the answer
 

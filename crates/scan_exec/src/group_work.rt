@@ -1,7 +1,7 @@
 //! What is grouped, and who groups it.
 
-ghost use Rattle.std.specs.Prelude.{◌≡◌, ◌≤◌, ◌<◌, ◌+◌, IfOk, OnOk, length};
-ghost use Rattle.scan_exec.specs.GroupWork.{CanBeGrouped, GroupsOfAll, GroupsOfPart, IsPartFed, IsSamePart, rows_between, work_at};
+ghost use Rattle.std.specs.Prelude.{◌≡◌, ◌≤◌, ◌<◌, ◌+◌, ℕ, IfOk, Ok, OnOk, length};
+ghost use Rattle.scan_exec.specs.GroupWork.{CanBeGrouped, CountsNext, GroupWorkAt, GroupsOfAll, GroupsOfPart, IsPartOf, IsSamePart, part_at, rows_between, work_at};
 
 use crate::grouped::{Feeding, feed_batch};
 use array_select::Selection;
@@ -10,6 +10,7 @@ use hash_seed::HashSeed;
 use row_sources::{Picker, Watches, tell};
 use scan_base::Fault;
 use std::alloc::Global;
+use std::marker::Model;
 
 // How many rows a turn of feeding looks at, and behind them those of the batch in hand.
 const TURN_ROWS: usize = 1_048_576;
@@ -25,15 +26,40 @@ pub struct GroupWork<'t, 'p> {
     pub picker: &'p Picker,
 }
 
-/// The groups of a part of the batches, from one up to, not with, another, of which those before `at` were fed.
-#[derive(Drop)]
-pub struct FedPart<'t> {
-    pub groups: Groups<'t>,
-    pub from: usize,
-    pub at: usize,
-    pub to: usize,
+/// A part of the batches, from one up to, not with, another, with the groups of those before `at`, which were fed. A contract sees
+/// what is grouped, and where the part begins, stands and ends.
+pub struct FedPart<'t, 'p> {
+    work: GroupWork<'t, 'p>,
+    groups: Groups<'t>,
+    from: usize,
+    at: usize,
+    to: usize,
     // The rows that were chosen last. Its memory is used again.
-    pub selection: Selection,
+    selection: Selection,
+}
+
+impl<'t, 'p> Model for FedPart<'t, 'p> {
+    ghost use Rattle.scan_exec.specs.GroupWork.{IsPartFed, PartAt, part_at, work_at};
+
+    ghost Value = { PartAt };
+
+    ghost view = { λ p. part_at (work_at p.work) p.from p.at p.to };
+
+    ghost invariant = { λ p. IsPartFed (work_at p.work) p.from p.at p.to p.groups };
+}
+
+// Written out, so that dropping it is one call (docs/DECISIONS.md).
+impl<'t, 'p> Drop for FedPart<'t, 'p> {
+    fn drop(self) {
+        let FedPart {
+            work: _,
+            groups: _,
+            from: _,
+            at: _,
+            to: _,
+            selection: _,
+        } = self;
+    }
 }
 
 /// Who groups the rows of batches.
@@ -71,96 +97,126 @@ impl GroupsBatches for InOneWalk {
         watch: &mut W,
     ) -> Result<Groups<'t>, Fault> {
         let part = work.begin_part(alloc, 0, work.shape.batches.len())?;
-        work.rest_of_part(alloc, part, watch)
+        part.into_groups(alloc, watch)
     }
 }
 
 impl<'t, 'p> GroupWork<'t, 'p> {
-    /// The groups of a part of the batches, of which none was fed yet.
+    /// A part of the batches, of which none was fed yet.
     ///
     /// # Errors
     ///
     /// F21 (`Fault::OutOfMemory`) where memory is refused.
-    pub fn begin_part(&self, alloc: Global, from: usize, to: usize) -> Result<FedPart<'t>, Fault>
+    pub fn begin_part(
+        &self,
+        alloc: Global,
+        from: usize,
+        to: usize,
+    ) -> Result<FedPart<'t, 'p>, Fault>
         requires can { CanBeGrouped (work_at self.now) }
         requires ordered { from ≤ to }
         requires there { to ≤ length self.now.shape.batches.now }
-        ensures fed { IfOk result (IsPartFed (work_at self.now)) }
-        ensures from { IfOk result (λ part. part.from ≡ from) }
-        ensures to { IfOk result (λ part. part.to ≡ to) }
+        ensures { IfOk result (λ part. part ≡ part_at (work_at self.now) from from to) }
     {
+        let groups = Groups::new(alloc, self.seed, self.shape)?;
         Ok(FedPart {
-            groups: Groups::new(alloc, self.seed, self.shape)?,
+            work: *self,
+            groups,
             from,
             at: from,
             to,
             selection: Selection::new(alloc),
         })
     }
+}
 
-    // Feeds the next batch of a part.
-    fn feed_next(&self, alloc: Global, part: &mut FedPart<'t>) -> Result<(), Fault>
-        requires can { CanBeGrouped (work_at self.now) }
-        requires fed { IsPartFed (work_at self.now) part.old }
-        requires more { part.old.at < part.old.to }
-        ensures fed { OnOk result (IsPartFed (work_at self.now) part.new) }
-        ensures same { OnOk result (IsSamePart part.old part.new) }
-        ensures next { OnOk result (part.new.at ≡ part.old.at + 1) }
+impl<'t, 'p> FedPart<'t, 'p> {
+    // The same part, with its next batch fed, and how many rows that has.
+    fn feed_next(self, alloc: Global) -> Result<(FedPart<'t, 'p>, usize), Fault>
+        requires more { self.at < self.to }
+        ensures next { IfOk result (λ fed. fed.0 ≡ record self { at = self.at + 1 }) }
+        ensures rows { IfOk result (λ fed. CountsNext self fed.1) }
     {
+        let FedPart {
+            work,
+            mut groups,
+            from,
+            at,
+            to,
+            mut selection,
+        } = self;
+        let batch = &work.shape.batches[at];
         let feeding = Feeding {
-            number: part.at,
-            batch: &self.shape.batches[part.at],
-            picker: self.picker,
+            number: at,
+            batch,
+            picker: work.picker,
         };
-        feed_batch(alloc, &mut part.groups, &feeding, &mut part.selection)?;
-        part.at += 1;
-        Ok(())
+        feed_batch(alloc, &mut groups, &feeding, &mut selection)?;
+        let part = FedPart {
+            work,
+            groups,
+            from,
+            at: at + 1,
+            to,
+            selection,
+        };
+        Ok((part, batch.rows()))
     }
 
-    /// Feeds batches of a part for a turn: 1,048,576 rows, and behind them those of the batch in hand. Whether there are more.
+    /// The same part, with batches of it fed for a turn: 1,048,576 rows, and behind them those of the batch in hand. Whether there
+    /// are more.
     ///
     /// # Errors
     ///
-    /// F21 (`Fault::OutOfMemory`) where memory is refused. Then nothing is said of the part.
-    pub fn feed_turn(&self, alloc: Global, part: &mut FedPart<'t>) -> Result<bool, Fault>
-        requires can { CanBeGrouped (work_at self.now) }
-        requires fed { IsPartFed (work_at self.now) part.old }
-        ensures fed { OnOk result (IsPartFed (work_at self.now) part.new) }
-        ensures same { OnOk result (IsSamePart part.old part.new) }
+    /// F21 (`Fault::OutOfMemory`) where memory is refused.
+    pub fn feed_turn(self, alloc: Global) -> Result<(FedPart<'t, 'p>, bool), Fault>
+        ensures { IfOk result (λ fed. IsSamePart self fed.0) }
     {
+        let mut part = self;
         let mut rows = 0usize;
         while part.at < part.to && rows < TURN_ROWS {
-            rows = rows.saturating_add(self.shape.batches[part.at].rows());
-            self.feed_next(alloc, part)?;
+            let (next, more) = part.feed_next(alloc)?;
+            part = next;
+            rows = rows.saturating_add(more);
         }
-        Ok(part.at < part.to)
+        let more = part.at < part.to;
+        Ok((part, more))
     }
 
-    /// The groups of a part, once its other batches are fed. Who watches is told of the rows of each, and may end it behind each.
+    /// The groups of the part, once its other batches are fed. Who watches is told of the rows of each, and may end it behind each.
     ///
     /// # Errors
     ///
     /// F21 (`Fault::OutOfMemory`) where memory is refused, or who watches ends it.
-    pub fn rest_of_part<W: Watches>(
-        &self,
-        alloc: Global,
-        part: FedPart<'t>,
-        watch: &mut W,
-    ) -> Result<Groups<'t>, Fault>
-        requires can { CanBeGrouped (work_at self.now) }
-        requires fed { IsPartFed (work_at self.now) part }
+    pub fn into_groups<W: Watches>(self, alloc: Global, watch: &mut W) -> Result<Groups<'t>, Fault>
         requires ready { W.ready watch.old }
-        ensures groups { GroupsOfPart (work_at self.now) part.from part.to result }
+        ensures groups { (work : GroupWorkAt) (from to : ℕ) → IsPartOf work from to self → GroupsOfPart work from to result }
         ensures ready { OnOk result (W.ready watch.new) }
         ensures watched { W.watched watch.old watch.new }
-        ensures told { OnOk result (W.told (rows_between part.at part.to (work_at self.now).batches) watch.old watch.new) }
+        ensures told { OnOk result (W.told (rows_between self.at self.to self.batches) watch.old watch.new) }
     {
-        let mut part = part;
+        let mut part = self;
         while part.at < part.to {
-            let rows = self.shape.batches[part.at].rows();
-            self.feed_next(alloc, &mut part)?;
+            let (next, rows) = part.feed_next(alloc)?;
+            part = next;
             tell(watch, rows)?;
         }
-        Ok(part.groups)
+        Ok(part.groups())
+    }
+
+    // The groups, where all batches were fed.
+    fn groups(self) -> Groups<'t>
+        requires { self.at ≡ self.to }
+        ensures { (work : GroupWorkAt) (from to : ℕ) → IsPartOf work from to self → GroupsOfPart work from to (Ok result) }
+    {
+        let FedPart {
+            work: _,
+            groups,
+            from: _,
+            at: _,
+            to: _,
+            selection: _,
+        } = self;
+        groups
     }
 }

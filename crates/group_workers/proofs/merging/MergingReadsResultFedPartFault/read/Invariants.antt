@@ -3,7 +3,7 @@ use Rattle.std.specs.List.{flat_map}
 use Rattle.arrays.specs.Batch.{rows_of}
 use Rattle.group_workers.specs.Parts.{batches_before}
 use Rattle.scan_exec.specs.GroupWork.{AreGroupsOf, passing, work_at}
-use Rattle.group_workers.proofs.merging.MergingReadsResultGroupsFault.read.Given as goal
+use Rattle.group_workers.proofs.merging.MergingReadsResultFedPartFault.read.Given as goal
 
 -- the groups of the parts so far are merged
 abbrev pub invariant-loop-part : goal.invariant-loop-part

@@ -6,7 +6,7 @@ use Rattle.group_workers.specs.Merging.{AreNextGroups, GroupsOfPartAt}
 use Rattle.group_workers.specs.Parts.{batches_before}
 use Rattle.scan_exec.specs.GroupWork.{AreGroupsOf, passing, work_at}
 use Rattle.group_workers.proofs.Merged.{all_are, are_alike, first_are, merge_few, more_merged}
-use Rattle.group_workers.proofs.merging.MergingReadsResultGroupsFault.read.Goals as goal
+use Rattle.group_workers.proofs.merging.MergingReadsResultFedPartFault.read.Goals as goal
 
 pub loop-part-init : goal.loop-part-init
 loop-part-init g c =
@@ -20,7 +20,7 @@ loop-part-init g c =
       omega (arith, next.1, next.2, c.next_groups.ensures.count),
       subst (λ (n : ℕ). AreGroupsOf work (passing work.pick (flat_map rows_of (take (batches_before (length work.batches) parts n) work.batches))) c.in-Some.first) (sym one)
           (first_are work parts c.in-Some.first at),
-      c.next_groups.ensures.watch,
+      c.in_ok-first.ensures.watch,
       c.next_groups.ensures.watched,
     )
 
@@ -51,7 +51,7 @@ loop-part-preserved g c =
       omega (arith, next.1, next.2, c.next_groups-2.ensures.count, inv.0),
       subst (λ (m : ℕ). AreGroupsOf work (passing work.pick (flat_map rows_of (take (batches_before (length work.batches) parts m) work.batches))) c.merge.new.self) (sym next.2)
           (more_merged work parts n c.loop-part.groups c.in-Some-next_groups.part c.merge.new.self inv.3 next.0 has),
-      c.next_groups-2.ensures.watch,
+      c.in_ok-part.ensures.watch,
       g.met.L.Watches.again _ _ _ inv.5 c.next_groups-2.ensures.watched,
     )
 
@@ -64,6 +64,6 @@ returns g c =
     let next = rw (c.in_ok-part.was, c.in_default-next_groups.is, inv.0) at c.next_groups-2.ensures.groups in (
       all_are work parts n c.loop-part.groups (omega (arith, next.0, inv.2, inv.0)) c.requires.takes.0.all inv.3,
       refl,
-      c.next_groups-2.ensures.watch,
+      c.in_ok-part.ensures.watch,
       g.met.L.Watches.again _ _ _ inv.5 c.next_groups-2.ensures.watched,
     )
