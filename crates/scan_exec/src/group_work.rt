@@ -134,8 +134,8 @@ impl<'t, 'p> FedPart<'t, 'p> {
     // The same part, with its next batch fed, and how many rows that has.
     fn feed_next(self, alloc: Global) -> Result<(FedPart<'t, 'p>, usize), Fault>
         requires more { self.at < self.to }
-        ensures next { IfOk result (λ fed. fed.0 ≡ record self { at = self.at + 1 }) }
-        ensures rows { IfOk result (λ fed. CountsNext self fed.1) }
+        ensures next { IfOk result (λ fed. fed.0 ≡ record self.entry { at = self.entry.at + 1 }) }
+        ensures rows { IfOk result (λ fed. CountsNext self.entry fed.1) }
     {
         let FedPart {
             work,
@@ -170,7 +170,7 @@ impl<'t, 'p> FedPart<'t, 'p> {
     ///
     /// F21 (`Fault::OutOfMemory`) where memory is refused.
     pub fn feed_turn(self, alloc: Global) -> Result<(FedPart<'t, 'p>, bool), Fault>
-        ensures { IfOk result (λ fed. IsSamePart self fed.0) }
+        ensures { IfOk result (λ fed. IsSamePart self.entry fed.0) }
     {
         let mut part = self;
         let mut rows = 0usize;
@@ -190,10 +190,10 @@ impl<'t, 'p> FedPart<'t, 'p> {
     /// F21 (`Fault::OutOfMemory`) where memory is refused, or who watches ends it.
     pub fn into_groups<W: Watches>(self, alloc: Global, watch: &mut W) -> Result<Groups<'t>, Fault>
         requires ready { W.ready watch.old }
-        ensures groups { (work : GroupWorkAt) (from to : ℕ) → IsPartOf work from to self → GroupsOfPart work from to result }
+        ensures groups { (work : GroupWorkAt) (from to : ℕ) → IsPartOf work from to self.entry → GroupsOfPart work from to result }
         ensures ready { OnOk result (W.ready watch.new) }
         ensures watched { W.watched watch.old watch.new }
-        ensures told { OnOk result (W.told (rows_between self.at self.to self.batches) watch.old watch.new) }
+        ensures told { OnOk result (W.told (rows_between self.entry.at self.entry.to self.entry.batches) watch.old watch.new) }
     {
         let mut part = self;
         while part.at < part.to {
@@ -207,7 +207,7 @@ impl<'t, 'p> FedPart<'t, 'p> {
     // The groups, where all batches were fed.
     fn groups(self) -> Groups<'t>
         requires { self.at ≡ self.to }
-        ensures { (work : GroupWorkAt) (from to : ℕ) → IsPartOf work from to self → GroupsOfPart work from to (Ok result) }
+        ensures { (work : GroupWorkAt) (from to : ℕ) → IsPartOf work from to self.entry → GroupsOfPart work from to (Ok result) }
     {
         let FedPart {
             work: _,
