@@ -1,8 +1,8 @@
 -- A log, and the same with the seat of each entry.
-use Rattle.std.proofs.Common.{Bool, true, false, ◌≡◌, ◌⊎◌, inl, inr, ℕ, ◌≤◌, ◌+◌, List, [], ◌∷◌, ◌++◌, length, map, refl, ap, sym, ◌∙◌, arith, append-nil, length-append}
+use Rattle.std.proofs.Common.{Bool, true, false, ◌≡◌, ◌⊎◌, inl, inr, ℕ, ◌≤◌, ◌+◌, List, [], ◌∷◌, ◌++◌, length, ap, sym, ◌∙◌, arith, append-nil, length-append}
 use Rattle.std.specs.Prelude.{MatchBool}
 use Rattle.std.proofs.lemmas.List.{length-map, map-append}
-use Rattle.version_log.specs.Log.{Log, Begins}
+use Rattle.version_log.specs.Log.{Begins}
 use Rattle.version_cell.specs.Signed.{Signed, MakerAt, log_of, maker_at, GoesOn, Learns}
 
 pub log_of-more : (entries : List Signed) (s : Signed) → log_of (entries ++ s ∷ []) ≡ log_of entries ++ s.entry ∷ []

@@ -1,5 +1,5 @@
 -- Logs that were made by one and by another.
-use Rattle.std.proofs.Common.{◌≡◌, ◌⊎◌, inl, inr, ℕ, ◌+◌, ◌≤◌, List, [], ◌∷◌, ◌++◌, length, refl, ap, sym, ◌∙◌, arith}
+use Rattle.std.proofs.Common.{◌≡◌, inl, inr, ◌+◌, ◌≤◌, [], ◌∷◌, ◌++◌, length, refl, ap, ◌∙◌, arith}
 use Rattle.version_log.specs.Log.{Entry, Log}
 use Rattle.version_cell.specs.Merges.{Merges}
 use Rattle.version_cell.specs.Signed.{IsAmong}

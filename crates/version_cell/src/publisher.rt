@@ -128,13 +128,13 @@ impl<C: CellName, R: Wait + Drop> Publisher<C, R> {
         unreachable!()
     }
 
-    // The log so far.
-    pub(crate) fn history(&self) -> &History
-        ensures log { result.now.seen.log ≡ self.now }
-        ensures book { result.now.seen.book ≡ C.book }
+    // The log so far. It takes no memory.
+    pub(crate) fn history(&self) -> History
+        ensures log { result.seen.log ≡ self.now }
+        ensures book { result.seen.book ≡ C.book }
         ensures is_log { IsLog (log_of self.now) }
     {
-        &self.store().history
+        self.store().history.again()
     }
 
     // The log so far, for seats to learn. It takes no memory.
@@ -142,7 +142,7 @@ impl<C: CellName, R: Wait + Drop> Publisher<C, R> {
         ensures same { result ≡ log_of self.now }
         ensures is_log { IsLog result }
     {
-        Told::new(self.history().again())
+        Told::new(self.history())
     }
 
     // Makes the next version, with this put of the seat with a number. It waits for the seats that are reading the copy which it

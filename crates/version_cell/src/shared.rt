@@ -54,7 +54,7 @@ impl<C: CellName, R: Wait + Drop> Counting<C, R> {
         ensures same { self.new.publisher ≡ self.old.publisher }
     {
         let Counting { publisher, tally } = self;
-        seat.maker.ask(tally, publisher.history());
+        seat.maker.ask(tally, &publisher.history());
     }
 
     // Puts through a seat, which asks first, and gives the put's number.
@@ -74,7 +74,7 @@ impl<C: CellName, R: Wait + Drop> Counting<C, R> {
         catch_up(publisher, tally, maker);
         let receipt = publisher.put(alloc, maker.seat(), put)?;
         let Receipt { number, put, .. } = receipt;
-        maker.make(tally, publisher.history(), &Entry::put(put));
+        maker.make(tally, &publisher.history(), &Entry::put(put));
         Ok(number)
     }
 
@@ -92,7 +92,7 @@ impl<C: CellName, R: Wait + Drop> Counting<C, R> {
         let maker = &mut seat.maker;
         catch_up(publisher, tally, maker);
         let floor = publisher.expire(alloc, maker.seat(), version)?;
-        maker.make(tally, publisher.history(), &Entry::mark(version));
+        maker.make(tally, &publisher.history(), &Entry::mark(version));
         Ok(floor)
     }
 
@@ -102,7 +102,7 @@ impl<C: CellName, R: Wait + Drop> Counting<C, R> {
         ensures each { result.each ≡ [] }
     {
         let Counting { publisher, tally } = self;
-        Gathered::new(publisher.history().again(), tally.none())
+        Gathered::new(publisher.history(), tally.none())
     }
 
     // The log, where it goes on from all that the seats of the cell had seen, which are done with.
@@ -116,7 +116,7 @@ impl<C: CellName, R: Wait + Drop> Counting<C, R> {
     {
         let Counting { publisher, tally } = self;
         tally.audit(&mut all.shares);
-        if all.history.begins(publisher.history()) {
+        if all.history.begins(&publisher.history()) {
             return Some(publisher.tell());
         }
         None
@@ -134,7 +134,7 @@ fn catch_up<C: CellName, R: Wait + Drop>(
     ensures asked { maker.new ≡ maker_at maker.old.seat publisher.now maker.old.made (maker.old.asks + 1) }
     ensures tally { tally.new ≡ tally.old }
 {
-    maker.ask(tally, publisher.history());
+    maker.ask(tally, &publisher.history());
 }
 
 /// A putter that threads share under one lock. Each entry is made through a seat, and stands among those of that seat.

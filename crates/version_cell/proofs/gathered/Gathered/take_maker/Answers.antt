@@ -10,12 +10,12 @@ pub invariant_of-self : goal.invariant_of-self
 invariant_of-self g c =
     let mine = c.maker.inside in
     let before = c.self.inside.parts.value.parts in
-    let taken : c.with.result.value.parts ≡ part_at mine.seat mine.made.value.entries ∷ before = search rules in (
-      search rules,
-      one_taken mine.seat mine.made.value.entries before c.with.result.value.parts mine.history.seen.log c.self.inside.history.seen.log c.longer.result.seen.log
-          c.self.inside.shares mine.shares c.merge.new.self c.self.invariant.1 c.self.invariant.2 c.self.invariant.3 c.self.invariant.4
-          c.maker.invariant.1 c.maker.invariant.2 c.longer.ensures.this c.longer.ensures.that taken c.merge.ensures,
-    )
+    let taken : c.with.result.value.parts ≡ part_at mine.seat mine.made.value.entries ∷ before = search rules in
+    let all =
+    one_taken mine.seat mine.made.value.entries before c.with.result.value.parts mine.history.seen.log c.self.inside.history.seen.log c.longer.result.seen.log
+    c.self.inside.shares mine.shares c.merge.new.self c.self.invariant.1 c.self.invariant.2 c.self.invariant.3 c.self.invariant.4
+    c.maker.invariant.1 c.maker.invariant.2 c.longer.ensures.this c.longer.ensures.that taken c.merge.ensures in
+    (search rules, all.0, all.1, all.2, all.3)
 
 pub returns-clause-log : goal.returns-clause-log
 returns-clause-log g c =

@@ -1,4 +1,4 @@
-use Rattle.std.proofs.Common.{rules}
+use Rattle.std.proofs.Common.{Ok, rules}
 use Rattle.std.proofs.lemmas.Result.{err_from_is_err_and}
 use Rattle.table_versions.specs.Stored.{put_of}
 use Rattle.version_cell.specs.Signed.{log_of}
@@ -14,7 +14,7 @@ returns-in_err-receipt-clause-put g c =
     (refused_behind _ _ _ _ _ (put_of c.args.put) (log_of c.args.self.now.publisher) _ c.requires.within c.in_err-receipt.ensures.answered c.in_err-receipt.ensures.first (search rules))
 
 pub invariant_of-self-2 : goal.invariant_of-self-2
-invariant_of-self-2 g c = longer_by_one _ _ _ _ _ c.in_ok-receipt.ensures.added c.args.self.now.counted (search rules)
+invariant_of-self-2 g c = record { counted = longer_by_one _ _ _ _ _ c.in_ok-receipt.ensures.added c.args.self.now.counted (search rules) }
 
 pub returns-clause-answered : goal.returns-clause-answered
 returns-clause-answered g c = c.in_ok-receipt.ensures.answered
@@ -25,4 +25,4 @@ returns-clause-put g c =
 
 pub returns-clause-begins : goal.returns-clause-begins
 returns-clause-begins g c =
-    begun_behind _ _ (log_of c.args.self.now.publisher) (put_of c.args.put) _ _ c.requires.within c.in_ok-receipt.ensures.answered (search rules)
+    begun_behind (Ok c.in_ok-receipt.receipt) _ (log_of c.args.self.now.publisher) (put_of c.args.put) (log_of c.put.new.self) (log_of c.make-2.new.self.seen) c.requires.within c.in_ok-receipt.ensures.answered (search rules)

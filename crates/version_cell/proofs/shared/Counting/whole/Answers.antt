@@ -8,8 +8,8 @@ use Rattle.version_cell.proofs.shared.Counting.whole.Goals as goal
 pub returns-then-begins-clause-begins : goal.returns-then-begins-clause-begins
 returns-then-begins-clause-begins g c =
     let same : log_of c.all.inside.history.seen.log ≡ c.args.all.now.log = ap (λ (g : GatheredAt). g.log) c.all.view_is in
-    let told : log_of c.history.result.now.seen.log ≡ c.tell.result = search rules in
-    rw (same, told) at (begins_of c.all.inside.history.seen.log c.history.result.now.seen.log (rw c.if-begins.true at c.begins.ensures))
+    let told : log_of c.history.result.seen.log ≡ c.tell.result = search rules in
+    rw (same, told) at (begins_of c.all.inside.history.seen.log c.history.result.seen.log (rw c.if-begins.true at c.begins.ensures))
 
 pub returns-then-begins-clause-counted : goal.returns-then-begins-clause-counted
 returns-then-begins-clause-counted g c =
@@ -27,9 +27,9 @@ returns-then-begins-clause-each g c =
     let parts = c.all.inside.parts.value.parts in
     let seats = g.C.Ledger.parts in
     let each : made_by_each parts ≡ c.args.all.now.each = ap (λ (g : GatheredAt). g.each) c.all.view_is in
-    let told : log_of c.history.result.now.seen.log ≡ c.tell.result = search rules in
+    let told : log_of c.history.result.seen.log ≡ c.tell.result = search rules in
     let many : length parts ≡ seats = omega (arith, c.all.invariant.1, ap (λ (g : GatheredAt). g.seats) c.all.view_is, c.requires) in
     let sum : powers (seats_of parts) + 1 ≡ 2 ^ seats = omega (arith, c.all.invariant.3, c.audit.ensures.numbers) in
-    let counted : made_by_all parts ≡ length c.history.result.now.seen.log =
+    let counted : made_by_all parts ≡ length c.history.result.seen.log =
     omega (arith, c.all.invariant.2, c.audit.ensures.whole, c.args.self.now.counted, ap length c.history.ensures.log) in
-    rw (each, told) at (all_merge parts c.all.inside.history.seen.log c.history.result.now.seen.log seats (rw c.if-begins.true at c.begins.ensures) c.all.invariant.4 many sum counted)
+    rw (each, told) at (all_merge parts c.all.inside.history.seen.log c.history.result.seen.log seats (rw c.if-begins.true at c.begins.ensures) c.all.invariant.4 many sum counted)
