@@ -1,5 +1,5 @@
 #!/usr/bin/env python3
-"""What a few kilobytes of input may make the program hold: eight inputs that are small beside the answers that they ask for.
+"""What a few kilobytes of input may make the program hold: ten inputs that are small beside the answers that they ask for.
 
     python3 bench/hostile.py [--program PATH] [--rows N] [CASE..]
 
@@ -7,7 +7,8 @@ Buffers of a put may lie over each other, so that many columns cost the bytes of
 often it is named, while an answer has one for each of its batches; and a group is made of a bit. Each case puts such tables
 and fetches one answer of them through `flightscan pipe`. The program is run on the puts alone too, and what it holds at most then is taken from what it holds with
 the fetch. It may hold 64 MB beside what docs/ARCHITECTURE.md states for a fetch: that is a list for each group, of which
-the table says how much it is. Every answer has to end with status 0. It ends with 1 where one does not, or more is held.
+the table says how much it is. Of two cases the seconds tell more: their one long text stands in a key beside another number in each
+row, and is not to be looked at for each. Every answer has to end with status 0. It ends with 1 where one does not, or more is held.
 
 `--rows N` makes each table of N rows or fewer, to try the script. Build the program first, as for `pipe.py`.
 """
@@ -135,8 +136,8 @@ def words_over_one_buffer(table, columns, count):
 
 
 def cases(most):
-    """The eight inputs, with tables of so many rows at most."""
-    rows = {count: min(count, most) for count in (128, 300, 600, 1_000, 102_400, 500_000, 2_000_000)}
+    """The ten inputs, with tables of so many rows at most."""
+    rows = {count: min(count, most) for count in (128, 300, 600, 1_000, 65_536, 102_400, 500_000, 2_000_000)}
     pieces = max(1, rows[102_400] // PIECE_ROWS)
     four = ", ".join(names(20, "x.") + names(20, "y.") + names(24, "z."))
     two = ", ".join(names(63, "x."))
@@ -155,6 +156,10 @@ def cases(most):
              GROWN * rows[2_000_000] * (GROUP_BYTES + TALLY_BYTES)),
         Case("one word, many times", [one_word(b"u", rows[128])],
              f"SELECT {', '.join(['s'] * 64)} FROM u GROUP BY s, k".encode(), rows[128]),
+        Case("a long word beside a number, joined", [one_word(b"u", rows[65_536])],
+             b"SELECT a.k FROM u AS a JOIN u AS b ON a.s = b.s AND a.k = b.k", rows[65_536]),
+        Case("a long word beside a number, grouped", [one_word(b"u", rows[65_536])], b"SELECT COUNT(*) FROM u GROUP BY s, k", rows[65_536],
+             GROWN * rows[65_536] * (GROUP_BYTES + COUNT_BYTES)),
         Case("one word of many, in pieces", [one_of_many_words(b"u", pieces)], b"SELECT s FROM u WHERE k < 1000", pieces * PIECE_ROWS),
         Case("dictionaries over one buffer", [words_over_one_buffer(b"u", 64, rows[500_000])], b"SELECT * FROM u", rows[500_000]),
     ]

@@ -1,7 +1,8 @@
 #!/usr/bin/env bash
 # Starts a server and a gateway to it, and ends both by Ctrl-C.
 #
-#   gateway/serve.sh --port 4711 --grpc-port 4712 [--seats 32] [--parts 1] [--wait 10] [--idle 2] [--program PATH]
+#   gateway/serve.sh --port 4711 --grpc-port 4712 [--seats 32] [--parts 1] [--workers 1] [--keep 0] [--wait 10] [--idle 2]
+#       [--program PATH]
 #
 # The server listens on 127.0.0.1:4711 for our own clients, and the gateway on 127.0.0.1:4712 for those of gRPC. Of port 0
 # the system chooses one; both ports are printed. Where one of the two ends, the other one is ended too. It needs the built
@@ -10,7 +11,7 @@
 here=$(cd "$(dirname "$0")" && pwd)
 program=$here/../crates/flightscan/out/flightscan
 python=${PYTHON:-/usr/bin/python3}
-declare -A given=([port]='' [grpc-port]='' [seats]=32 [parts]=1 [wait]=10 [idle]=2 [program]=$program)
+declare -A given=([port]='' [grpc-port]='' [seats]=32 [parts]=1 [workers]=1 [keep]=0 [wait]=10 [idle]=2 [program]=$program)
 
 usage() {
     sed -n '2,/^$/s/^# \{0,1\}//p' "$0" >&2
@@ -36,7 +37,8 @@ trap end EXIT
 trap 'exit 0' INT TERM
 
 mkfifo "$folder/said"
-"${given[program]}" serve --port "${given[port]}" --seats "${given[seats]}" --parts "${given[parts]}" >"$folder/said" &
+"${given[program]}" serve --port "${given[port]}" --seats "${given[seats]}" --parts "${given[parts]}" \
+    --workers "${given[workers]}" --keep "${given[keep]}" >"$folder/said" &
 running+=($!)
 exec 3<"$folder/said"
 if ! read -r line <&3; then

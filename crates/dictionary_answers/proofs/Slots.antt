@@ -1,13 +1,15 @@
 -- Slots that are coded one by one.
 use Rattle.std.proofs.Common.{◌≡◌, ◌≤◌, ◌<◌, ℕ, zero, suc, ◌+◌, ◌-◌, ◌*◌, ◌/◌, List, [], ◌∷◌, length, map, set, take, All, sym, ap, subst, ◌∙◌, arith}
 use Rattle.std.specs.List.{range_with_len}
-use Rattle.std.proofs.lemmas.List.{take_all, take_more_set}
+use Rattle.std.proofs.lemmas.List.{take_all, take_more_set, take-set-le}
 use Rattle.std.proofs.lemmas.List.FromFn.{length-map-range_with_len, get_or-map-range_with_len, map-range_with_len_more}
 use Rattle.scan_base.specs.declared.value.Value.{Value}
 use Rattle.scan_base.specs.declared.value.Value.TheVariants.{Null}
 use Rattle.dictionary_answers.specs.Firsts.{firsts, firsts_behind, bytes_in}
 use Rattle.dictionary_answers.specs.Coded.{CodedAt, AreCoded, FoundAt, coded_at}
-use Rattle.dictionary_answers.specs.inside.Coding.{Finds}
+use Rattle.arrays.specs.Column.{ColumnAt, slot_of}
+use Rattle.dictionary_answers.specs.inside.Blocks.{AreCodedTo}
+use Rattle.dictionary_answers.specs.inside.Coding.{Finds, room_of}
 use Rattle.dictionary_answers.specs.inside.Packed.{numbers_in}
 use Rattle.dictionary_answers.proofs.Numbers.{length-numbers}
 use Rattle.dictionary_answers.proofs.Places.{coded_more, firsts_more, few_behind, bytes_behind}
@@ -58,3 +60,17 @@ none_fit f n count room coded are low full =
 pub slot_is : (P : Value → Type 0) (f : ℕ → Value) (count place : ℕ) → All P (map f (range_with_len 0 count)) → place < count → P (f place)
 slot_is P f count place all low =
     subst P (get_or-map-range_with_len f 0 count place place Null low (omega arith)) (all place Null (omega (arith, length-map-range_with_len f 0 count)))
+
+-- one slot more of a column
+pub coded_on : (column : ColumnAt) (n : ℕ) (old new : FoundAt) (packed after : List ℕ) (place : ℕ) → n < length packed / 4 → numbers_in after ≡ set (numbers_in packed) n place →
+    AreCodedTo column n old packed → Finds old new place (slot_of column n) → AreCodedTo column (n + 1) new after
+coded_on column n old new packed after place low is are finds =
+    subst (λ (room : ℕ). AreCoded (map (slot_of column) (range_with_len 0 (n + 1))) room (coded_at new (take (n + 1) (numbers_in after)))) (sym finds.bytes)
+    (slot_more (slot_of column) n (room_of old) old new packed after place low is are finds)
+
+-- slots stay coded where a number is put behind them
+pub coded_still : (column : ColumnAt) (n at place : ℕ) (found : FoundAt) (packed after : List ℕ) → n ≤ at → numbers_in after ≡ set (numbers_in packed) at place →
+    AreCodedTo column n found packed → AreCodedTo column n found after
+coded_still column n at place found packed after high is are =
+    subst (λ (places : List ℕ). AreCoded (map (slot_of column) (range_with_len 0 n)) (room_of found) (coded_at found places))
+    (sym (ap (take n) is ∙ take-set-le n (numbers_in packed) at place high)) are

@@ -2,3 +2,4 @@
 pub mod Coding
 pub mod Table
 pub mod Packed
+pub mod Blocks

@@ -11,13 +11,14 @@ ghost use Rattle.arrays.specs.declared.layout.Layout.TheVariants as layout;
 ghost use Rattle.dictionary_answers.specs.declared.coding.Stop.TheVariants.{OutOfRoom};
 ghost use Rattle.dictionary_answers.specs.Firsts.{bytes_in, firsts, firsts_behind};
 ghost use Rattle.dictionary_answers.specs.Coded.{AreCoded, coded_at};
-ghost use Rattle.dictionary_answers.specs.inside.Coding.{Finds};
+ghost use Rattle.dictionary_answers.specs.inside.Coding.{Finds, room_of};
+ghost use Rattle.dictionary_answers.specs.inside.Blocks.{AreCodedTo, IsBlock};
 ghost use Rattle.dictionary_answers.specs.inside.Packed.{numbers_in};
 ghost use Rattle.dictionary_answers.specs.inside.Table.{AreMet, IsTable};
 
 use crate::coding::{Coded, NO_PLACE, Stop};
 use crate::found::Found;
-use crate::indices::{IndexColumn, IndexElement, is_valid, valid_index};
+use crate::indices::{Block, IndexColumn, IndexElement, is_valid, valid_index};
 use crate::packed::{put_number, unpack_numbers, zeros};
 use arrays::{Cells, Column, Indices, Layout};
 use arrow_schema::IntegerType;
@@ -28,6 +29,9 @@ use std::alloc::Global;
 // For each slot of a column, its dictionary may have so many values for a table of them to be made: so what a table takes
 // is bounded by the slots, however many values the dictionary has.
 const VALUES_FOR_EACH_SLOT: usize = 16;
+
+// How many slots are copied before it is asked whether the table had met all their indices.
+const BLOCK_SLOTS: usize = 1_024;
 
 /// The texts of a column, each once, and which of them each slot holds. No text is copied. Where slots are indices, one
 /// text is looked up for each index that is met.
@@ -230,7 +234,8 @@ fn code_elements<'t, E: IndexElement>(
     }
 }
 
-// Codes each slot, none of which is null.
+// Codes each slot, none of which is null, block by block. A block whose indices the table has all met is copied through it, in
+// a loop that asks nothing of its slots one by one.
 fn code_valid<'t, E: IndexElement>(
     found: &mut Found<'t>,
     table: &mut [u32],
@@ -247,9 +252,40 @@ fn code_valid<'t, E: IndexElement>(
     ensures coded { OnOk result (AreCoded (values_of (of.now).column.now) (found.old).left (coded_at found.new (numbers_in packed.new))) }
     ensures full { IfErr result (λ stop. stop ≡ OutOfRoom → (found.old).left < bytes_in (firsts (values_of (of.now).column.now))) }
 {
-    let (first, count, _slots) = (of.column.first(), of.column.len(), of.cells.len());
+    let count = of.column.len();
+    let mut from = 0;
+    while from < count {
+        let to = count.min(from + BLOCK_SLOTS);
+        let block = Block { of, from, to };
+        if !found.copy_known::<E>(table, &block, packed) {
+            code_block::<E>(found, table, &block, packed)?;
+        }
+        from = to;
+    }
+    Ok(())
+}
+
+// Codes the slots of a block, none of which is null, behind those before it.
+fn code_block<'t, E: IndexElement>(
+    found: &mut Found<'t>,
+    table: &mut [u32],
+    block: &Block<'_, 't>,
+    packed: &mut [u8],
+) -> Result<(), Stop>
+    requires small { (block.now).of.now.column.now.len < 2 ^ 31 }
+    requires block { IsBlock E.WIDTH block.now }
+    requires long { length packed.old ≡ 4 * (block.now).of.now.column.now.len }
+    requires coded { AreCodedTo (block.now).of.now.column.now (block.now).from found.old packed.old }
+    requires table { IsTable (block.now).of.now.cells.dictionary (found.old).texts table.old }
+    ensures coded { OnOk result (AreCodedTo (block.now).of.now.column.now (block.now).to found.new packed.new) }
+    ensures room { OnOk result (room_of found.new ≡ room_of found.old) }
+    ensures table { OnOk result (IsTable (block.now).of.now.cells.dictionary (found.new).texts table.new) }
+    ensures full { IfErr result (λ stop. stop ≡ OutOfRoom → room_of found.old < bytes_in (firsts (values_of (block.now).of.now.column.now))) }
+{
+    let of = block.of;
+    let (first, _count, _slots) = (of.column.first(), of.column.len(), of.cells.len());
     let (values, dictionary) = (of.cells.values(), of.cells.dictionary());
-    for place in 0..count {
+    for place in block.from..block.to {
         let index = E::index_at(values, first + place);
         let number = found.place_of_index(table, dictionary, index)?;
         put_number(packed, place, number);

@@ -1,16 +1,19 @@
 //! The texts of a column, each once, as they are found.
 
-ghost use Rattle.std.specs.Prelude.{◌≡◌, ◌<◌, ◌+◌, ◌^◌, ◌∷◌, [], Some, IfErr, IfOk, OnOk, get_or, length, map, nat_eq, slice_get};
+ghost use Rattle.std.specs.Prelude.{◌≡◌, ◌<◌, ◌+◌, ◌*◌, ◌^◌, ◌∷◌, [], Some, IfErr, IfOk, IsTrue, OnOk, get_or, length, map, nat_eq, slice_get, slice_index};
 ghost use Rattle.indexmap.specs.IndexMap.{get};
 ghost use Rattle.scan_base.specs.declared.value.Value.TheVariants.{Null};
 ghost use Rattle.scan_base.specs.Value.{value_of, IsTextOrNull};
 ghost use Rattle.dictionary_answers.specs.declared.coding.Stop.TheVariants.{OutOfRoom};
 ghost use Rattle.dictionary_answers.specs.Firsts.{bytes_in, firsts_behind, with_text};
+ghost use Rattle.dictionary_answers.specs.inside.Blocks.{AreCodedTo, IsBlock};
 ghost use Rattle.dictionary_answers.specs.inside.Coding.{Finds};
 ghost use Rattle.dictionary_answers.specs.inside.Table.{AreMet, IsTable};
 
 use crate::coding::{NO_PLACE, Stop};
-use arrays::Dictionary;
+use crate::indices::{Block, IndexElement};
+use crate::packed::put_number;
+use arrays::{Cells, Dictionary};
 use hash_seed::HashSeed;
 use indexmap::{IndexMap, IndexSet};
 use scan_base::ValueRef;
@@ -122,7 +125,34 @@ impl<'t> Found<'t> {
         self.meet(table, dictionary, index)
     }
 
-    /// The same with a map in the stead of a table: it holds only indices that were met, and forgets none.
+    /// Puts the places of a block's indices, none of which is null, as the table has them, and gives whether it had met all. Only
+    /// then they are these indices' places among the texts.
+    pub(crate) fn copy_known<E: IndexElement>(
+        &self,
+        table: &[u32],
+        block: &Block<'_, 't>,
+        packed: &mut [u8],
+    ) -> bool
+        requires block { IsBlock E.WIDTH block.now }
+        requires long { length packed.old ≡ 4 * (block.now).of.now.column.now.len }
+        requires coded { AreCodedTo (block.now).of.now.column.now (block.now).from self.now packed.old }
+        requires table { IsTable (block.now).of.now.cells.dictionary (self.now).texts table.now }
+        ensures before { AreCodedTo (block.now).of.now.column.now (block.now).from self.now packed.new }
+        ensures known { IsTrue result → AreCodedTo (block.now).of.now.column.now (block.now).to self.now packed.new }
+    {
+        let of = block.of;
+        let (first, _count, _slots) = (of.column.first(), of.column.len(), of.cells.len());
+        let values = of.cells.values();
+        let mut are_known = true;
+        for place in block.from..block.to {
+            let number = table_entry(table, E::index_at(values, first + place));
+            put_number(packed, place, number);
+            are_known &= number != NO_PLACE;
+        }
+        are_known
+    }
+
+    /// The place of the value of an index, with a map in the stead of a table: it holds only indices that were met, and forgets none.
     pub(crate) fn place_of_far_index(
         &mut self,
         met: &mut IndexMap<usize, u32, HashSeed>,
@@ -158,6 +188,14 @@ impl<'t> Found<'t> {
     {
         self.left
     }
+}
+
+// What a table has for an index.
+fn table_entry(table: &[u32], index: usize) -> u32
+    requires { index < length table.now }
+    ensures { result ≡ slice_index table.now index }
+{
+    table[index]
 }
 
 // The value of an index of a dictionary.

@@ -18,6 +18,14 @@ pub(crate) struct IndexColumn<'t> {
     pub(crate) cells: Indices<'t>,
 }
 
+/// Slots of such a column that follow each other.
+#[derive(Drop)]
+pub(crate) struct Block<'b, 't> {
+    pub(crate) of: &'b IndexColumn<'t>,
+    pub(crate) from: usize,
+    pub(crate) to: usize,
+}
+
 /// A type of numbers without a sign as which indices are read. A number that is not negative has the same bits in the type
 /// of its width that has a sign.
 pub(crate) trait IndexElement {

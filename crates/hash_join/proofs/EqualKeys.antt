@@ -20,7 +20,7 @@ use Rattle.scan_base.specs.Value.{is_null}
 use Rattle.hash_join.specs.Pairs.{keys_join}
 use Rattle.hash_join.specs.declared.buckets.Buckets.{Buckets}
 use Rattle.hash_join.specs.declared.buckets.Buckets.TheVariants as parted
-use Rattle.hash_join.specs.Hashes.{fed, fed_part, hash_of, parts_hash, value_hash, number_of, product_of, bucket_among, bucket_of}
+use Rattle.hash_join.specs.Hashes.{fed, fed_part, hash_of, parts_hash, number_of, product_of, bucket_among, bucket_of}
 use Rattle.hash_join.specs.Chains.{stands}
 
 kept : (b : Bool) → keeps (truth_from b) ≡ true → b ≡ true

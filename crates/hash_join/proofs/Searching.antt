@@ -48,6 +48,7 @@ module _ (search : Search) (is : IsSearch search) where
     left = record { row = h; columns = is.columns };
     alike = is.alike;
     small = omega (arith, is.small);
+    few = is.small;
   }
 
   past_is : (row from : ℕ) → pairs_past (walk_at search row) from ≡ pairs_of (build_of search.rights.now) search.left.batch.now search.left.key.now row from

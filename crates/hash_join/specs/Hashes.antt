@@ -113,6 +113,10 @@ digest_of (parted.Hashed hashing) (Int number) = None
 digest_of (parted.Multiplied product) value = None
 digest_of (parted.Ranked ranks) value = None
 
+-- the digests of parts of the keys of rows
+abbrev pub key_digest : Buckets → (ℕ → List Value) → ℕ → ℕ → Option ℕ
+key_digest buckets keys row part = digest_of buckets (get_or (keys row) part Null)
+
 -- the last bucket
 abbrev pub last_of : Buckets → ℕ
 last_of (parted.Hashed hashing) = hashing.mask

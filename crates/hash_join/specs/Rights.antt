@@ -3,10 +3,9 @@ use Rattle.std.specs.Prelude.{◌≡◌, ◌≤◌, ◌<◌, ◌^◌, ℕ, List,
 use Rattle.std.specs.List.{list_all}
 use Rattle.scan_base.specs.Limits.{most_rows}
 use Rattle.scan_base.specs.declared.value.Value.{Value}
-use Rattle.scan_base.specs.declared.value.Value.TheVariants.{Null}
 use Rattle.arrays.specs.Batch.{BatchAt}
 use Rattle.hash_join.specs.declared.rights.Rights.{Rights}
-use Rattle.hash_join.specs.Hashes.{bucket_of, digest_of, last_of}
+use Rattle.hash_join.specs.Hashes.{bucket_of, key_digest, last_of}
 use Rattle.hash_join.specs.Pairs.{key_in, places, row_at}
 
 -- the place of a row
@@ -25,9 +24,9 @@ key_at rights number = key_from rights (place_at rights number)
 abbrev pub bucket_at : Rights → ℕ → Option ℕ
 bucket_at rights number = bucket_of rights.buckets (key_at rights number)
 
--- the digest of a part of a row's key, where it is a text
+-- the digests of parts of the rows' keys
 abbrev pub digest_at : Rights → ℕ → ℕ → Option ℕ
-digest_at rights number part = digest_of rights.buckets (get_or (key_at rights number) part Null)
+digest_at rights = key_digest rights.buckets (key_at rights)
 
 -- the places are those of the rows of the batches, few enough to be counted, and each batch has the columns of the key
 pub record AreRights (rights : Rights) : Type 0 where

@@ -1,12 +1,11 @@
 -- Inside: a left row that looks for its partners along a chain.
-use Rattle.std.specs.Prelude.{◌≡◌, ◌≤◌, ◌<◌, ◌^◌, ◌++◌, ℕ, Bool, true, List, Option, length, map, drop, get_or}
+use Rattle.std.specs.Prelude.{◌≡◌, ◌≤◌, ◌<◌, ◌^◌, ◌++◌, ℕ, Bool, true, List, Option, length, map, drop}
 use Rattle.std.specs.List.{filter}
 use Rattle.hash_join.specs.declared.pair.Pair.{Pair}
 use Rattle.hash_join.specs.declared.walk.Walk.{Walk}
 use Rattle.hash_join.specs.Pairs.{keys_join}
-use Rattle.scan_base.specs.declared.value.Value.TheVariants.{Null}
-use Rattle.hash_join.specs.Hashes.{bucket_of, digest_of}
-use Rattle.hash_join.specs.KeyRows.{key_of, IsKeyRow}
+use Rattle.hash_join.specs.Hashes.{bucket_of, key_digest}
+use Rattle.hash_join.specs.KeyRows.{key_beside, key_of, IsKeyRow}
 use Rattle.hash_join.specs.Rights.{key_from, place_at, bucket_at, AreRights}
 use Rattle.hash_join.specs.Chains.{stands, AreRepeats, HasLinked}
 
@@ -26,9 +25,9 @@ pairs_past walk from = map (pair_at walk) (filter (joins_at walk) (drop from wal
 abbrev pub bucket_left : Walk → Option ℕ
 bucket_left walk = bucket_of walk.rights.now.buckets (key_of walk.left)
 
--- the digest of a part of the left row's key, where it is a text
-abbrev pub digest_left : Walk → ℕ → Option ℕ
-digest_left walk part = digest_of walk.rights.now.buckets (get_or (key_of walk.left) part Null)
+-- the digests of parts of the keys of left rows in the batch
+abbrev pub digest_left : Walk → ℕ → ℕ → Option ℕ
+digest_left walk = key_digest walk.rights.now.buckets (key_beside walk.left)
 
 -- whether a right row stands in the left row's chain
 abbrev pub in_chain : Walk → ℕ → Bool
@@ -46,6 +45,7 @@ pub record IsWalk (walk : Walk) : Type 0 where
   pub left : IsKeyRow walk.left
   pub alike : length walk.left.key.now ≡ length walk.rights.now.key.items
   pub small : walk.left.row < 2 ^ 32
+  pub few : walk.left.batch.now.rows < 2 ^ 32
 
 -- the pairs that are found, and those that are still to be found with right rows from a row of the chain on, are all
 pub record Follows (walk : Walk) (at : ℕ) (made whole : List Pair) (most : ℕ) : Type 0 where

@@ -5,9 +5,12 @@ ghost use Rattle.hash_join.specs.declared.look.Told.TheVariants as known;
 ghost use Rattle.hash_join.specs.Searches.{IsSearch};
 
 use crate::buckets::Buckets;
-use crate::digests::{Digests, PartRows};
-use crate::key_codes::{has_codes, most_codes};
+use crate::compared::Compared;
+use crate::digests::Digests;
+use crate::key_codes::{any_codes, has_codes, most_codes};
+use crate::key_row::KeyRow;
 use crate::look::Told;
+use crate::part_rows::BatchRows;
 use crate::search::Search;
 use crate::seen::{BucketRows, SeenRows, Wanted};
 use crate::sieve::Sieve;
@@ -31,7 +34,7 @@ impl<'a> BucketRows for AllRows<'a> {
 
     ghost last = { λ rows. last_of rows.search.rights.now.buckets };
 
-    ghost digest = { λ rows row part. digest_left (walk_at rows.search row) part };
+    ghost digest = { λ rows. digest_left (walk_at rows.search 0) };
 
     fn count(&self) -> usize {
         self.search.left.batch.rows()
@@ -46,38 +49,14 @@ impl<'a> BucketRows for AllRows<'a> {
     }
 
     fn bucket(&self, row: usize, digests: &mut Digests) -> Option<usize> {
-        let left = self.search.left_row(row);
+        let left = KeyRow {
+            batch: self.search.left.batch,
+            key: self.search.left.key,
+            row,
+        };
+        let rows = BatchRows { at: left };
         let buckets = &self.search.rights.buckets;
-        buckets.bucket_by(self, row, &left, digests)
-    }
-}
-
-impl<'a> PartRows for AllRows<'a> {
-    ghost use Rattle.std.specs.Prelude.{length};
-    ghost use Rattle.hash_join.specs.Searches.{walk_at};
-    ghost use Rattle.hash_join.specs.Walks.{digest_left};
-
-    ghost count = { λ rows. rows.search.left.batch.now.rows };
-
-    ghost parts = { λ rows. length rows.search.left.key.now };
-
-    ghost digest = { λ rows row part. digest_left (walk_at rows.search row) part };
-
-    fn row_count(&self) -> usize {
-        self.search.left.batch.rows()
-    }
-
-    fn part_code(&self, row: usize, part: usize) -> Option<i128> {
-        self.search.left_row(row).part_code(part)
-    }
-
-    fn have_part_code(&self, row: usize, other: usize, part: usize) -> bool {
-        self.search.left_row(row).has_part_of(part, other)
-    }
-
-    fn digest(&self, row: usize, part: usize) -> Option<u64> {
-        let left = self.search.left_row(row);
-        self.search.rights.buckets.digest(left.part(part))
+        buckets.bucket_by(&rows, row, &left, digests)
     }
 }
 
@@ -100,7 +79,7 @@ impl<'a> Sieve for AllRows<'a> {
 
     ghost last = { λ rows. last_of rows.search.rights.now.buckets };
 
-    ghost digest = { λ rows row part. digest_left (walk_at rows.search row) part };
+    ghost digest = { λ rows. digest_left (walk_at rows.search 0) };
 
     fn passes(&self, _row: usize) -> bool {
         true
@@ -130,6 +109,16 @@ impl<'a> Sieve for AllRows<'a> {
             codes: most_codes(batch, key).min(rows),
         };
         SeenRows::new(alloc, hashing, wanted)
+    }
+
+    fn compared(&self, alloc: Global) -> Compared {
+        let (batch, key) = (self.search.left.batch, self.search.left.key);
+        match &self.search.rights.buckets {
+            Buckets::Hashed(hashing) if any_codes(batch, key) => {
+                Compared::new(alloc, hashing, batch.rows())
+            }
+            _ => Compared::none(alloc),
+        }
     }
 
     fn head(&self, row: usize, seen: &mut SeenRows) -> u32 {

@@ -1,14 +1,15 @@
 //! How keys are parted into buckets.
 
-ghost use Rattle.std.specs.Prelude.{◌≡◌, ◌≤◌, ◌<◌, ◌^◌, ℕ, IfSome, get_or, length};
+ghost use Rattle.std.specs.Prelude.{◌≡◌, ◌≤◌, ◌<◌, ◌^◌, IfSome, length};
 ghost use Rattle.scan_base.specs.Value.{value_of};
-ghost use Rattle.scan_base.specs.declared.value.Value.TheVariants.{Null};
-ghost use Rattle.hash_join.specs.Hashes.{last_of, bucket_of, digest_of, hashed_bucket};
+ghost use Rattle.hash_join.specs.declared.buckets.Buckets.TheVariants as parted;
+ghost use Rattle.hash_join.specs.Hashes.{last_of, bucket_of, digest_of, hashed_bucket, key_digest};
 ghost use Rattle.hash_join.specs.KeyRows.{key_of, IsKeyRow};
 ghost use Rattle.hash_join.specs.Seen.{AreDigests};
 
-use crate::digests::{Digests, PartRows};
+use crate::digests::Digests;
 use crate::key_row::{KeyRow, text_digest};
+use crate::part_rows::PartRows;
 use crate::product::Product;
 use crate::ranks::Ranks;
 use scan_base::ValueRef;
@@ -66,11 +67,11 @@ impl Buckets {
         requires few { R.count rows.now < 2 ^ 32 }
         requires row { IsKeyRow row.now }
         requires parts { length row.now.key.now ≡ R.parts rows.now }
-        requires same { (part : ℕ) → R.digest rows.now number part ≡ digest_of self.now (get_or (key_of row.now) part Null) }
-        requires seen { AreDigests (R.digest rows.now) (R.count rows.now) digests.old.texts.items }
+        requires key { R.key rows.now number ≡ key_of row.now }
+        requires seen { AreDigests (key_digest self.now (R.key rows.now)) (R.count rows.now) digests.old.texts.items }
         ensures bucket { result ≡ bucket_of self.now (key_of row.now) }
         ensures within { IfSome result (λ bucket. bucket ≤ last_of self.now) }
-        ensures seen { AreDigests (R.digest rows.now) (R.count rows.now) digests.new.texts.items }
+        ensures seen { AreDigests (key_digest self.now (R.key rows.now)) (R.count rows.now) digests.new.texts.items }
     {
         let Buckets::Hashed(hashing) = self else {
             return self.bucket(row);
@@ -78,18 +79,6 @@ impl Buckets {
         match digests.hash(hashing, rows, number, row) {
             None => None,
             Some(hash) => Some(hash as usize & hashing.mask),
-        }
-    }
-
-    // The digest of a value that is a text, where keys are hashed.
-    pub(crate) fn digest(&self, value: ValueRef<'_>) -> Option<u64>
-        ensures { result ≡ digest_of self.now (value_of value.entry) }
-    {
-        match (self, value) {
-            (Buckets::Hashed(hashing), ValueRef::Text(text)) => {
-                Some(text_digest(hashing.begun, text))
-            }
-            _ => None,
         }
     }
 }
@@ -103,6 +92,16 @@ impl Hashing {
         match row.hash_from(self.begun) {
             None => None,
             Some(hash) => Some(hash as usize & self.mask),
+        }
+    }
+
+    // The digest of a value that is a text.
+    pub(crate) fn digest(&self, value: ValueRef<'_>) -> Option<u64>
+        ensures { result ≡ digest_of (parted.Hashed self.now) (value_of value.entry) }
+    {
+        match value {
+            ValueRef::Text(text) => Some(text_digest(self.begun, text)),
+            _ => None,
         }
     }
 }

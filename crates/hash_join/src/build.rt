@@ -7,6 +7,7 @@ ghost use Rattle.arrays.specs.Batch.{BatchAt};
 ghost use Rattle.hash_join.specs.Pairs.{places, pairs_ahead};
 
 use crate::chains::Chains;
+use crate::compared::{Compared, Made};
 use crate::pair::Pair;
 use crate::rights::Rights;
 use crate::search::Search;
@@ -126,9 +127,13 @@ impl Build {
             chains: &self.chains,
             left: *left,
         };
-        let mut pairs = Vec::new(alloc);
-        let stop = search.push_pairs(probe, most, &mut pairs)?;
+        let mut made = Made {
+            pairs: Vec::new(alloc),
+            compared: Compared::none(alloc),
+        };
+        let stop = search.push_pairs(probe, most, &mut made)?;
         *probe = stop;
+        let Made { pairs, compared: _ } = made;
         Ok(pairs)
     }
 }

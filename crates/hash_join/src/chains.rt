@@ -72,8 +72,9 @@ fn repeats_of(alloc: Global, rights: &Rights, links: &[u32]) -> Result<Vec<bool>
     if !rights.are_hashed() {
         return Ok(repeats);
     }
+    let mut compared = rights.compared(alloc);
     for row in 0..rows {
-        repeats[row] = rights.is_repeat(row, links[row] as usize);
+        repeats[row] = rights.is_repeat(row, links[row] as usize, &mut compared);
     }
     Ok(repeats)
 }

@@ -1,14 +1,15 @@
 //! Digests of texts that are parts of keys, by the codes of the texts.
 
-ghost use Rattle.std.specs.Prelude.{◌≡◌, ◌≤◌, ◌<◌, ◌+◌, ◌^◌, ℕ, [], All, IfOk, IfSome, Option, Some, get_or, length, true};
-ghost use Rattle.scan_base.specs.declared.value.Value.TheVariants.{Null};
+ghost use Rattle.std.specs.Prelude.{◌≡◌, ◌≤◌, ◌<◌, ◌+◌, ◌^◌, ℕ, [], All, IfOk, IfSome, Option, Some, length};
+ghost use Rattle.hash_join.specs.declared.buckets.Buckets.{Buckets as BucketsAt};
 ghost use Rattle.hash_join.specs.declared.buckets.Buckets.TheVariants as parted;
-ghost use Rattle.hash_join.specs.Hashes.{digest_of, hash_of};
+ghost use Rattle.hash_join.specs.Hashes.{hash_of, key_digest};
 ghost use Rattle.hash_join.specs.KeyRows.{key_of, IsKeyRow};
 ghost use Rattle.hash_join.specs.Seen.{AreDigests};
 
 use crate::buckets::Hashing;
 use crate::key_row::{KeyRow, feed_part};
+use crate::part_rows::PartRows;
 use crate::product::Product;
 use std::alloc::{AllocError, Global};
 use std::hash::{Hash, Hasher};
@@ -16,36 +17,11 @@ use std::hash::{Hash, Hasher};
 // No table has more places: 16 MB.
 const MOST_DIGESTS: usize = 1_048_576;
 
-// Rows whose keys have parts, some of which are texts.
-pub(crate) trait PartRows {
-    ghost count: { Self → ℕ };
+// A table begins with no more places, 16 KB, and grows as texts are met. So who looks at few rows pays for few.
+const FIRST_DIGESTS: usize = 1_024;
 
-    ghost parts: { Self → ℕ };
-
-    ghost digest: { Self → ℕ → ℕ → Option ℕ };
-
-    // How many rows there are.
-    fn row_count(&self) -> usize
-        ensures { result ≡ count self.now };
-
-    // The code of a part of a row's key.
-    fn part_code(&self, row: usize, part: usize) -> Option<i128>
-        requires row { row < count self.now }
-        requires part { part < parts self.now };
-
-    // Whether the keys of two rows are the same in a part by its codes alone.
-    fn have_part_code(&self, row: usize, other: usize, part: usize) -> bool
-        requires row { row < count self.now }
-        requires other { other < count self.now }
-        requires part { part < parts self.now }
-        ensures { result ≡ true → digest self.now row part ≡ digest self.now other part };
-
-    // The digest of a part of a row's key; none where it is no text.
-    fn digest(&self, row: usize, part: usize) -> Option<u64>
-        requires row { row < count self.now }
-        requires part { part < parts self.now }
-        ensures { result ≡ digest self.now row part };
-}
+// A table that grows has so many times the places that it had.
+const GROWTH: usize = 8;
 
 // A row that was seen, a part of its key that is a text, and the digest of the text.
 #[derive(Clone, Copy, Drop)]
@@ -60,9 +36,24 @@ pub(crate) struct SeenDigest {
 // code.
 #[derive(Drop)]
 pub(crate) struct Digests {
+    alloc: Global,
     product: Product,
     parts: usize,
+    most: usize,
+    taken: usize,
     pub(crate) texts: Vec<SeenDigest>,
+}
+
+// Places that know no digest.
+fn free_places(alloc: Global, count: usize) -> Result<Vec<SeenDigest>, AllocError>
+    ensures { IfOk result (λ texts. All (λ (at : SeenDigest). 2 ^ 32 ≤ at.row + 1) texts.items) }
+{
+    let none = SeenDigest {
+        row: u32::MAX,
+        part: 0,
+        digest: 0,
+    };
+    Ok(vec![in alloc; none; count]?)
 }
 
 impl Digests {
@@ -71,14 +62,17 @@ impl Digests {
         ensures { result.texts.items ≡ [] }
     {
         Digests {
+            alloc,
             product: Product::one(),
             parts: 1,
+            most: 0,
+            taken: 0,
             texts: Vec::new(alloc),
         }
     }
 
-    // A table with a place of 16 bytes for each of so many codes in each of so many parts, or as many places as a table has at
-    // most.
+    // A table that grows to a place of 16 bytes for each of so many codes in each of so many parts, or to as many places as a table
+    // has at most.
     pub(crate) fn new(
         alloc: Global,
         hashing: &Hashing,
@@ -91,18 +85,34 @@ impl Digests {
             return Ok(Digests::none(alloc));
         }
         let wanted = parts.min(MOST_DIGESTS) * codes.min(MOST_DIGESTS);
-        let places = wanted.min(MOST_DIGESTS).next_power_of_two();
-        let none = SeenDigest {
-            row: u32::MAX,
-            part: 0,
-            digest: 0,
-        };
-        let texts = vec![in alloc; none; places]?;
+        let most = wanted.min(MOST_DIGESTS).next_power_of_two();
+        let places = most.min(FIRST_DIGESTS);
         Ok(Digests {
+            alloc,
             product: Product::of_hasher(hashing.begun, places - 1),
             parts,
-            texts,
+            most,
+            taken: 0,
+            texts: free_places(alloc, places)?,
         })
+    }
+
+    // Makes more places where half of them were taken. They know nothing yet. Where memory is refused, there are none from then on.
+    fn make_room(&mut self, hashing: &Hashing)
+        ensures { (digests : ℕ → ℕ → Option ℕ) (count : ℕ) → count < 2 ^ 32 → AreDigests digests count self.old.texts.items →
+            AreDigests digests count self.new.texts.items }
+    {
+        let places = self.texts.len();
+        if places == 0 || places >= self.most || self.taken <= places / 2 {
+            return;
+        }
+        let more = self.most.min(GROWTH * places);
+        self.taken = 0;
+        self.texts = Vec::new(self.alloc);
+        if let Ok(texts) = free_places(self.alloc, more) {
+            self.product = Product::of_hasher(hashing.begun, more - 1);
+            self.texts = texts;
+        }
     }
 
     // The hash of a row's key; none where a part of it is null. The text of a code that was seen is not looked at.
@@ -117,17 +127,17 @@ impl Digests {
         requires few { R.count rows.now < 2 ^ 32 }
         requires at { IsKeyRow at.now }
         requires parts { length at.now.key.now ≡ R.parts rows.now }
-        requires same { (part : ℕ) → R.digest rows.now row part ≡ digest_of (parted.Hashed hashing.now) (get_or (key_of at.now) part Null) }
-        requires seen { AreDigests (R.digest rows.now) (R.count rows.now) self.old.texts.items }
+        requires key { R.key rows.now row ≡ key_of at.now }
+        requires seen { AreDigests (key_digest (parted.Hashed hashing.now) (R.key rows.now)) (R.count rows.now) self.old.texts.items }
         ensures hash { result ≡ hash_of hashing.now.begun (key_of at.now) }
-        ensures seen { AreDigests (R.digest rows.now) (R.count rows.now) self.new.texts.items }
+        ensures seen { AreDigests (key_digest (parted.Hashed hashing.now) (R.key rows.now)) (R.count rows.now) self.new.texts.items }
     {
         if self.texts.is_empty() || at.key.len() == 1 {
             return at.hash_from(hashing.begun);
         }
         let mut hasher = hashing.begun;
         for part in 0..at.key.len() {
-            let fed = match self.digest(rows, row, part) {
+            let fed = match self.digest(hashing, rows, row, part) {
                 Some(digest) => {
                     digest.hash(&mut hasher);
                     true
@@ -142,13 +152,19 @@ impl Digests {
     }
 
     // The digest of a part of a row's key, where it has a code.
-    fn digest<R: PartRows>(&mut self, rows: &R, row: usize, part: usize) -> Option<u64>
+    fn digest<R: PartRows>(
+        &mut self,
+        hashing: &Hashing,
+        rows: &R,
+        row: usize,
+        part: usize,
+    ) -> Option<u64>
         requires row { row < R.count rows.now }
         requires few { R.count rows.now < 2 ^ 32 }
         requires part { part < R.parts rows.now }
-        requires seen { AreDigests (R.digest rows.now) (R.count rows.now) self.old.texts.items }
-        ensures digest { IfSome result (λ digest. R.digest rows.now row part ≡ Some digest) }
-        ensures seen { AreDigests (R.digest rows.now) (R.count rows.now) self.new.texts.items }
+        requires seen { AreDigests (key_digest (parted.Hashed hashing.now) (R.key rows.now)) (R.count rows.now) self.old.texts.items }
+        ensures digest { IfSome result (λ digest. key_digest (parted.Hashed hashing.now) (R.key rows.now) row part ≡ Some digest) }
+        ensures seen { AreDigests (key_digest (parted.Hashed hashing.now) (R.key rows.now)) (R.count rows.now) self.new.texts.items }
     {
         let Some(code) = rows.part_code(row, part) else {
             return None;
@@ -157,9 +173,10 @@ impl Digests {
         if let Some(digest) = self.digest_at(rows, place, row, part) {
             return Some(digest);
         }
-        let found = rows.digest(row, part);
+        let found = hashing.digest(rows.part(row, part));
         if let Some(digest) = found {
-            self.keep(place, row, part, digest);
+            self.make_room(hashing);
+            self.keep(self.place(code, part), row, part, digest);
         }
         found
     }
@@ -179,8 +196,8 @@ impl Digests {
     fn digest_at<R: PartRows>(&self, rows: &R, place: usize, row: usize, part: usize) -> Option<u64>
         requires row { row < R.count rows.now }
         requires part { part < R.parts rows.now }
-        requires seen { AreDigests (R.digest rows.now) (R.count rows.now) self.now.texts.items }
-        ensures { IfSome result (λ digest. R.digest rows.now row part ≡ Some digest) }
+        ensures { (buckets : BucketsAt) → AreDigests (key_digest buckets (R.key rows.now)) (R.count rows.now) self.now.texts.items →
+            IfSome result (λ digest. key_digest buckets (R.key rows.now) row part ≡ Some digest) }
     {
         if place >= self.texts.len() {
             return None;
@@ -207,6 +224,7 @@ impl Digests {
             return;
         };
         if place < self.texts.len() {
+            self.taken = self.taken.saturating_add(1);
             self.texts[place] = SeenDigest {
                 row: row as u32,
                 part: number,

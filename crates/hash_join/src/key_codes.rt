@@ -106,8 +106,8 @@ pub(crate) fn has_codes(batch: &Batch, key: &[usize]) -> bool
     found
 }
 
-// How many values the largest dictionary has of those that parts of the key have; none where the key has one part.
-pub(crate) fn most_codes(batch: &Batch, key: &[usize]) -> usize
+// How many values the largest dictionary has of those that parts of the key have.
+fn largest(batch: &Batch, key: &[usize]) -> usize
     requires { IsTrue (list_all (λ column. nat_lt column (length batch.now.columns)) key.now) }
 {
     let columns = batch.columns();
@@ -117,7 +117,25 @@ pub(crate) fn most_codes(batch: &Batch, key: &[usize]) -> usize
             most = cells.dictionary().len().max(most);
         }
     }
-    if key.len() == 1 { 0 } else { most }
+    most
+}
+
+// Whether a part of the key has a dictionary with a value.
+pub(crate) fn any_codes(batch: &Batch, key: &[usize]) -> bool
+    requires { IsTrue (list_all (λ column. nat_lt column (length batch.now.columns)) key.now) }
+{
+    largest(batch, key) > 0
+}
+
+// How many values the largest dictionary has of those that several parts have; none where the key has one part.
+pub(crate) fn most_codes(batch: &Batch, key: &[usize]) -> usize
+    requires { IsTrue (list_all (λ column. nat_lt column (length batch.now.columns)) key.now) }
+{
+    if key.len() == 1 {
+        0
+    } else {
+        largest(batch, key)
+    }
 }
 
 // The same of the largest of these batches.
@@ -129,6 +147,18 @@ pub(crate) fn any_most_codes(batches: &[Batch], key: &[usize]) -> usize
         most = most_codes(batch, key).max(most);
     }
     most
+}
+
+// Whether a part of the key has a dictionary with a value in one of these batches.
+pub(crate) fn any_batch_codes(batches: &[Batch], key: &[usize]) -> bool
+    requires { All (λ (batch : BatchAt). IsTrue (list_all (λ column. nat_lt column (length batch.columns)) key.now)) batches.now }
+{
+    for batch in batches {
+        if any_codes(batch, key) {
+            return true;
+        }
+    }
+    false
 }
 
 // Whether rows of one of these batches may be told by their codes.

@@ -1,7 +1,7 @@
 //! A row of a batch by its key.
 
-ghost use Rattle.std.specs.Prelude.{◌≡◌, ◌<◌, get_or, length, not, true};
-ghost use Rattle.std.specs.List.{list_any};
+ghost use Rattle.std.specs.Prelude.{◌≡◌, ◌<◌, IsTrue, get_or, length, nat_lt, not, true};
+ghost use Rattle.std.specs.List.{list_all, list_any};
 ghost use Rattle.scan_base.specs.Comparison.{compared};
 ghost use Rattle.scan_base.specs.Truth.{keeps};
 ghost use Rattle.scan_base.specs.Value.{value_of, is_null};
@@ -17,7 +17,7 @@ use scan_base::{Comparison, Truth, ValueRef};
 use std::hash::{DefaultHasher, Hash, Hasher};
 
 // What the code of a part weighs against that of the next one, so that both halves of a sum tell of both. No contract rests on it.
-const PART_WEIGHT: i128 = 0x1_9E37_79B9_7F4A_7C15;
+pub(crate) const PART_WEIGHT: i128 = 0x1_9E37_79B9_7F4A_7C15;
 
 // A row of a batch, and the numbers of the columns that are its key.
 #[derive(Clone, Copy, Drop)]
@@ -29,13 +29,23 @@ pub(crate) struct KeyRow<'a> {
 
 impl<'a> KeyRow<'a> {
     // The value of a part of the key, where it lies.
-    pub(crate) fn part(&self, number: usize) -> ValueRef<'_>
+    pub(crate) fn part(&self, number: usize) -> ValueRef<'a>
         requires row { IsKeyRow self.now }
         requires there { number < length self.now.key.now }
         ensures { value_of result ≡ get_or (key_of self.now) number Null }
     {
+        self.part_in(self.row, number)
+    }
+
+    // The same in another row of the batch.
+    pub(crate) fn part_in(&self, row: usize, number: usize) -> ValueRef<'a>
+        requires columns { IsTrue (list_all (λ column. nat_lt column (length self.now.batch.now.columns)) self.now.key.now) }
+        requires row { row < self.now.batch.now.rows }
+        requires there { number < length self.now.key.now }
+        ensures { value_of result ≡ get_or (key_beside self.now row) number Null }
+    {
         let columns = self.batch.columns();
-        columns[self.key[number]].value_at(self.row)
+        columns[self.key[number]].value_at(row)
     }
 
     // Whether a part of the key is null.
@@ -236,7 +246,7 @@ fn feed(hasher: &mut DefaultHasher, value: ValueRef<'_>) -> bool
 }
 
 // Whether two values are equal in SQL.
-fn are_equal(left: ValueRef<'_>, right: ValueRef<'_>) -> bool
+pub(crate) fn are_equal(left: ValueRef<'_>, right: ValueRef<'_>) -> bool
     ensures { result ≡ keeps (compared Equal (value_of left.entry) (value_of right.entry)) }
 {
     match left.compare(Comparison::Equal, right) {

@@ -2,13 +2,14 @@
 
 ghost use Rattle.std.specs.Prelude.{◌≡◌, ◌≤◌, ◌<◌, ◌+◌, ◌-◌, ◌++◌, ◌^◌, [], All, IfOk, OnOk, length, map, take, true};
 ghost use Rattle.std.specs.List.{filter, range_with_len};
-ghost use Rattle.hash_join.specs.Searches.{ahead_of, probe_at, start_at, first_left, AreHeads, AreStarts, IsSearch, Passes};
+ghost use Rattle.hash_join.specs.Searches.{ahead_of, probe_at, start_at, first_left, walk_at, AreHeads, AreStarts, IsSearch, Passes};
+ghost use Rattle.hash_join.specs.Compared.{HasCompared};
 ghost use Rattle.hash_join.specs.Seen.{AreKept};
 ghost use Rattle.hash_join.specs.Words.{set_bits};
 
 use crate::build::Probe;
+use crate::compared::Made;
 use crate::key_row::KeyRow;
-use crate::pair::Pair;
 use crate::search::Search;
 use crate::seen::SeenRows;
 use crate::sieve::Sieve;
@@ -109,17 +110,18 @@ impl<'a> Search<'a> {
         sieve: &S,
         from: usize,
         most: usize,
-        pairs: &mut Vec<Pair>,
+        made: &mut Made,
     ) -> Result<Probe, AllocError>
         requires whole { IsSearch self.now }
         requires row { from ≤ (self.now).left.batch.now.rows }
         requires all { (self.now).left.batch.now.rows ≤ S.count sieve.now }
         requires sound { Passes self.now (S.passes sieve.now) }
         requires heads { AreHeads self.now (S.passes sieve.now) (S.head sieve.now) (S.own sieve.now) }
-        requires few { length pairs.old.items ≤ most }
-        ensures given { IfOk result (λ stop. pairs.new.items ++ ahead_of self.now stop ≡ pairs.old.items ++ ahead_of self.now (probe_at from 0)) }
-        ensures few { IfOk result (λ _. length pairs.new.items ≤ most) }
-        ensures ended { IfOk result (λ stop. length pairs.new.items < most → ahead_of self.now stop ≡ []) }
+        requires few { length made.old.pairs.items ≤ most }
+        requires compared { HasCompared (walk_at self.now 0) made.old.compared }
+        ensures given { IfOk result (λ stop. made.new.pairs.items ++ ahead_of self.now stop ≡ made.old.pairs.items ++ ahead_of self.now (probe_at from 0)) }
+        ensures few { IfOk result (λ _. length made.new.pairs.items ≤ most) }
+        ensures ended { IfOk result (λ stop. length made.new.pairs.items < most → ahead_of self.now stop ≡ []) }
     {
         let rows = self.left.batch.rows();
         let room = (rows - from).min(PIECE_ROWS);
@@ -142,8 +144,8 @@ impl<'a> Search<'a> {
                 own: sieve.is_own(),
                 to,
             };
-            at = self.push_piece(&piece, most, pairs)?;
-            if pairs.len() >= most {
+            at = self.push_piece(&piece, most, made)?;
+            if made.pairs.len() >= most {
                 return Ok(at);
             }
         }
@@ -156,15 +158,17 @@ impl<'a> Search<'a> {
         &self,
         piece: &Piece<'_>,
         most: usize,
-        pairs: &mut Vec<Pair>,
+        made: &mut Made,
     ) -> Result<Probe, AllocError>
         requires whole { IsSearch self.now }
         requires starts { AreStarts self.now piece.now.own piece.now.to piece.now.starts.now }
-        requires few { length pairs.old.items ≤ most }
-        ensures given { IfOk result (λ stop. pairs.new.items ++ ahead_of self.now stop
-            ≡ pairs.old.items ++ ahead_of self.now (probe_at (first_left piece.now.to piece.now.starts.now) 0)) }
-        ensures few { IfOk result (λ _. length pairs.new.items ≤ most) }
-        ensures ended { IfOk result (λ stop. length pairs.new.items < most → stop ≡ probe_at piece.now.to 0) }
+        requires few { length made.old.pairs.items ≤ most }
+        requires compared { HasCompared (walk_at self.now 0) made.old.compared }
+        ensures given { IfOk result (λ stop. made.new.pairs.items ++ ahead_of self.now stop
+            ≡ made.old.pairs.items ++ ahead_of self.now (probe_at (first_left piece.now.to piece.now.starts.now) 0)) }
+        ensures few { IfOk result (λ _. length made.new.pairs.items ≤ most) }
+        ensures compared { IfOk result (λ _. HasCompared (walk_at self.now 0) made.new.compared) }
+        ensures ended { IfOk result (λ stop. length made.new.pairs.items < most → stop ≡ probe_at piece.now.to 0) }
     {
         for start in piece.starts {
             let left = start.left as usize;
@@ -177,7 +181,7 @@ impl<'a> Search<'a> {
                     row: left,
                 },
             };
-            let stop = walk.push_from(piece.own, start.head as usize, most, pairs)?;
+            let stop = walk.push_from(piece.own, start.head as usize, most, made)?;
             if stop < self.rights.places.len() {
                 return Ok(Probe { left, from: stop });
             }

@@ -2,11 +2,13 @@
 
 ghost use Rattle.std.specs.Prelude.{length};
 ghost use Rattle.hash_join.specs.Hashes.{last_of};
-ghost use Rattle.hash_join.specs.Rights.{bucket_at, digest_at, AreRights};
+ghost use Rattle.hash_join.specs.Rights.{bucket_at, digest_at, key_at, AreRights};
 
-use crate::digests::{Digests, PartRows};
+use crate::digests::Digests;
+use crate::part_rows::PartRows;
 use crate::rights::Rights;
 use crate::seen::BucketRows;
+use scan_base::ValueRef;
 
 // The rows of a right side by their numbers.
 #[derive(Clone, Copy, Drop)]
@@ -22,7 +24,7 @@ impl<'a> BucketRows for RightRows<'a> {
 
     ghost last = { λ rows. last_of rows.rights.now.buckets };
 
-    ghost digest = { λ rows number part. digest_at rows.rights.now number part };
+    ghost digest = { λ rows. digest_at rows.rights.now };
 
     fn count(&self) -> usize {
         self.rights.places.len()
@@ -47,10 +49,22 @@ impl<'a> PartRows for RightRows<'a> {
 
     ghost parts = { λ rows. length rows.rights.now.key.items };
 
-    ghost digest = { λ rows number part. digest_at rows.rights.now number part };
+    ghost key = { λ rows. key_at rows.rights.now };
 
     fn row_count(&self) -> usize {
         self.rights.places.len()
+    }
+
+    fn part_count(&self) -> usize {
+        self.rights.key.len()
+    }
+
+    fn batch_number(&self, row: usize) -> usize {
+        self.rights.places[row].0 as usize
+    }
+
+    fn part(&self, row: usize, part: usize) -> ValueRef<'_> {
+        self.rights.key_row(row).part(part)
     }
 
     fn part_code(&self, row: usize, part: usize) -> Option<i128> {
@@ -59,10 +73,5 @@ impl<'a> PartRows for RightRows<'a> {
 
     fn have_part_code(&self, row: usize, other: usize, part: usize) -> bool {
         self.rights.have_part_code(row, other, part)
-    }
-
-    fn digest(&self, row: usize, part: usize) -> Option<u64> {
-        let right = self.rights.key_row(row);
-        self.rights.buckets.digest(right.part(part))
     }
 }

@@ -9,14 +9,17 @@ ghost use Rattle.hash_join.specs.Hashes.{last_of};
 ghost use Rattle.hash_join.specs.KeyRows.{key_beside, key_of, IsKeyRow};
 ghost use Rattle.scan_base.specs.declared.value.Value.TheVariants.{Null};
 ghost use Rattle.hash_join.specs.Rights.{key_at, key_from, bucket_at, digest_at, place_at, AreRights};
+ghost use Rattle.hash_join.specs.Compared.{HaveCompared};
 ghost use Rattle.hash_join.specs.Seen.{AreKept};
 
 use crate::buckets::{Buckets, Hashing};
-use crate::key_codes::{any_has_codes, any_most_codes};
+use crate::compared::Compared;
+use crate::key_codes::{any_batch_codes, any_has_codes, any_most_codes};
 use crate::key_row::KeyRow;
 use crate::numbers::are_numbers;
 use crate::product::Product;
 use crate::ranks::Ranks;
+use crate::right_rows::RightRows;
 use crate::seen::{SeenRows, Wanted};
 use crate::spans::Span;
 use arrays::Batch;
@@ -126,15 +129,34 @@ impl Rights {
 
     // Whether another row is there and surely has the same key: the same codes of dictionaries, which takes no look at their
     // texts, or the same values.
-    pub(crate) fn is_repeat(&self, number: usize, other: usize) -> bool
+    pub(crate) fn is_repeat(&self, number: usize, other: usize, compared: &mut Compared) -> bool
         requires whole { AreRights self.now }
         requires within { number < length self.now.places.items }
-        ensures { result ≡ true → key_at self.now number ≡ key_at self.now other }
+        requires compared { HaveCompared self.now compared.old }
+        ensures same { result ≡ true → key_at self.now number ≡ key_at self.now other }
+        ensures compared { HaveCompared self.now compared.new }
     {
         if other >= self.places.len() {
             return false;
         }
-        self.have_one_code(number, other) || self.key_row(number).joins(&self.key_row(other))
+        if self.have_one_code(number, other) {
+            return true;
+        }
+        let rows = RightRows { rights: self };
+        compared.keys_join(&rows, &rows, number, other)
+    }
+
+    // A table for what is compared of two rows, without a pair yet. It has places where keys are hashed, and some batch has codes.
+    pub(crate) fn compared(&self, alloc: Global) -> Compared
+        requires { AreRights self.now }
+        ensures { HaveCompared self.now result }
+    {
+        match &self.buckets {
+            Buckets::Hashed(hashing) if any_batch_codes(&self.batches, &self.key) => {
+                Compared::new(alloc, hashing, self.places.len())
+            }
+            _ => Compared::none(alloc),
+        }
     }
 
     // Whether two rows of one batch have a key of the same code, or of several parts with the same codes and numbers.
@@ -159,11 +181,12 @@ impl Rights {
         requires part { part < length self.now.key.items }
         ensures { result ≡ true → get_or (key_at self.now number) part Null ≡ get_or (key_at self.now other) part Null }
     {
-        if self.places[number].0 != self.places[other].0 {
+        let (batch, _) = self.places[number];
+        let (other_batch, row) = self.places[other];
+        if batch != other_batch {
             return false;
         }
-        self.key_row(number)
-            .has_part_of(part, self.places[other].1 as usize)
+        self.key_row(number).has_part_of(part, row as usize)
     }
 
     // The bucket of the row of this number; none where a part of its key is null.

@@ -4,6 +4,7 @@ ghost use Rattle.std.specs.Prelude.{◌≡◌, ◌≤◌, ◌<◌, ◌++◌, ◌
 ghost use Rattle.hash_join.specs.declared.buckets.Buckets.TheVariants as parted;
 ghost use Rattle.hash_join.specs.Hashes.{last_of};
 ghost use Rattle.hash_join.specs.KeyRows.{IsKeyRow};
+ghost use Rattle.hash_join.specs.Compared.{HasCompared};
 ghost use Rattle.hash_join.specs.Walks.{pairs_past};
 ghost use Rattle.hash_join.specs.Searches.{ahead_of, walk_at, AreHeads, AreKeysOf, IsSearch, Passes, Tells, TellsNumbers};
 
@@ -11,10 +12,10 @@ use crate::all_rows::AllRows;
 use crate::buckets::Buckets;
 use crate::build::{LeftSide, Probe};
 use crate::chains::Chains;
+use crate::compared::Made;
 use crate::key_element::KeyElement;
 use crate::key_row::KeyRow;
 use crate::look::{Look, ProductHeads, RankHeads, Told};
-use crate::pair::Pair;
 use crate::product::Product;
 use crate::ranks::Ranks;
 use crate::rights::Rights;
@@ -48,22 +49,22 @@ impl<'a> Search<'a> {
         &self,
         probe: &Probe,
         most: usize,
-        pairs: &mut Vec<Pair>,
+        made: &mut Made,
     ) -> Result<Probe, AllocError>
         requires whole { IsSearch self.now }
-        requires few { length pairs.old.items ≤ most }
-        ensures given { IfOk result (λ stop. pairs.new.items ++ ahead_of self.now stop ≡ pairs.old.items ++ ahead_of self.now probe.now) }
-        ensures few { IfOk result (λ _. length pairs.new.items ≤ most) }
-        ensures ended { IfOk result (λ stop. length pairs.new.items < most → ahead_of self.now stop ≡ []) }
+        requires few { length made.old.pairs.items ≤ most }
+        ensures given { IfOk result (λ stop. made.new.pairs.items ++ ahead_of self.now stop ≡ made.old.pairs.items ++ ahead_of self.now probe.now) }
+        ensures few { IfOk result (λ _. length made.new.pairs.items ≤ most) }
+        ensures ended { IfOk result (λ stop. length made.new.pairs.items < most → ahead_of self.now stop ≡ []) }
     {
         match &self.rights.buckets {
             Buckets::Ranked(ranks) if self.has_one_part() && self.is_empty(ranks.last) => {
-                self.push_ranks(ranks, probe, most, pairs)
+                self.push_ranks(ranks, probe, most, made)
             }
             Buckets::Multiplied(product) if self.has_one_part() => {
-                self.push_products(*product, probe, most, pairs)
+                self.push_products(*product, probe, most, made)
             }
-            _ => self.push_all(probe, most, pairs),
+            _ => self.push_all(probe, most, made),
         }
     }
 
@@ -84,20 +85,15 @@ impl<'a> Search<'a> {
     }
 
     // The same, where each row is looked up.
-    fn push_all(
-        &self,
-        probe: &Probe,
-        most: usize,
-        pairs: &mut Vec<Pair>,
-    ) -> Result<Probe, AllocError>
+    fn push_all(&self, probe: &Probe, most: usize, made: &mut Made) -> Result<Probe, AllocError>
         requires whole { IsSearch self.now }
-        requires few { length pairs.old.items ≤ most }
-        ensures given { IfOk result (λ stop. pairs.new.items ++ ahead_of self.now stop ≡ pairs.old.items ++ ahead_of self.now probe.now) }
-        ensures few { IfOk result (λ _. length pairs.new.items ≤ most) }
-        ensures ended { IfOk result (λ stop. length pairs.new.items < most → ahead_of self.now stop ≡ []) }
+        requires few { length made.old.pairs.items ≤ most }
+        ensures given { IfOk result (λ stop. made.new.pairs.items ++ ahead_of self.now stop ≡ made.old.pairs.items ++ ahead_of self.now probe.now) }
+        ensures few { IfOk result (λ _. length made.new.pairs.items ≤ most) }
+        ensures ended { IfOk result (λ stop. length made.new.pairs.items < most → ahead_of self.now stop ≡ []) }
     {
         let sieve = AllRows { search: *self };
-        self.push_pieces(&sieve, probe, most, pairs)
+        self.push_pieces(&sieve, probe, most, made)
     }
 
     // The same, where the right keys are parted by ranks, the left key is one column, and all right keys have their own bucket.
@@ -106,22 +102,22 @@ impl<'a> Search<'a> {
         ranks: &Ranks,
         probe: &Probe,
         most: usize,
-        pairs: &mut Vec<Pair>,
+        made: &mut Made,
     ) -> Result<Probe, AllocError>
         requires whole { IsSearch self.now }
         requires parted { (self.now).rights.now.buckets ≡ parted.Ranked ranks.now }
         requires own { length (self.now).rights.now.places.items ≤ get_or (self.now).chains.now.heads.items ranks.now.last 0 }
         requires single { length (self.now).left.key.now ≡ 1 }
-        requires few { length pairs.old.items ≤ most }
-        ensures given { IfOk result (λ stop. pairs.new.items ++ ahead_of self.now stop ≡ pairs.old.items ++ ahead_of self.now probe.now) }
-        ensures few { IfOk result (λ _. length pairs.new.items ≤ most) }
-        ensures ended { IfOk result (λ stop. length pairs.new.items < most → ahead_of self.now stop ≡ []) }
+        requires few { length made.old.pairs.items ≤ most }
+        ensures given { IfOk result (λ stop. made.new.pairs.items ++ ahead_of self.now stop ≡ made.old.pairs.items ++ ahead_of self.now probe.now) }
+        ensures few { IfOk result (λ _. length made.new.pairs.items ≤ most) }
+        ensures ended { IfOk result (λ stop. length made.new.pairs.items < most → ahead_of self.now stop ≡ []) }
     {
         let heads = RankHeads {
             ranks,
             heads: self.chains.heads.as_slice(),
         };
-        self.push_numbers(&heads, probe, most, pairs)
+        self.push_numbers(&heads, probe, most, made)
     }
 
     // The same, where the right keys are parted by a product, and the left key is one column.
@@ -130,22 +126,22 @@ impl<'a> Search<'a> {
         product: Product,
         probe: &Probe,
         most: usize,
-        pairs: &mut Vec<Pair>,
+        made: &mut Made,
     ) -> Result<Probe, AllocError>
         requires whole { IsSearch self.now }
         requires parted { (self.now).rights.now.buckets ≡ parted.Multiplied product }
         requires single { length (self.now).left.key.now ≡ 1 }
-        requires few { length pairs.old.items ≤ most }
-        ensures given { IfOk result (λ stop. pairs.new.items ++ ahead_of self.now stop ≡ pairs.old.items ++ ahead_of self.now probe.now) }
-        ensures few { IfOk result (λ _. length pairs.new.items ≤ most) }
-        ensures ended { IfOk result (λ stop. length pairs.new.items < most → ahead_of self.now stop ≡ []) }
+        requires few { length made.old.pairs.items ≤ most }
+        ensures given { IfOk result (λ stop. made.new.pairs.items ++ ahead_of self.now stop ≡ made.old.pairs.items ++ ahead_of self.now probe.now) }
+        ensures few { IfOk result (λ _. length made.new.pairs.items ≤ most) }
+        ensures ended { IfOk result (λ stop. length made.new.pairs.items < most → ahead_of self.now stop ≡ []) }
     {
         let heads = ProductHeads {
             product,
             heads: self.chains.heads.as_slice(),
             count: self.rights.places.len(),
         };
-        self.push_numbers(&heads, probe, most, pairs)
+        self.push_numbers(&heads, probe, most, made)
     }
 
     // The same, where the left key is one column, whose numbers are looked at.
@@ -154,15 +150,15 @@ impl<'a> Search<'a> {
         look: &L,
         probe: &Probe,
         most: usize,
-        pairs: &mut Vec<Pair>,
+        made: &mut Made,
     ) -> Result<Probe, AllocError>
         requires whole { IsSearch self.now }
         requires look { TellsNumbers self.now (L.passes look.now) (L.told look.now) (L.head look.now) (L.own look.now) }
         requires single { length (self.now).left.key.now ≡ 1 }
-        requires few { length pairs.old.items ≤ most }
-        ensures given { IfOk result (λ stop. pairs.new.items ++ ahead_of self.now stop ≡ pairs.old.items ++ ahead_of self.now probe.now) }
-        ensures few { IfOk result (λ _. length pairs.new.items ≤ most) }
-        ensures ended { IfOk result (λ stop. length pairs.new.items < most → ahead_of self.now stop ≡ []) }
+        requires few { length made.old.pairs.items ≤ most }
+        ensures given { IfOk result (λ stop. made.new.pairs.items ++ ahead_of self.now stop ≡ made.old.pairs.items ++ ahead_of self.now probe.now) }
+        ensures few { IfOk result (λ _. length made.new.pairs.items ≤ most) }
+        ensures ended { IfOk result (λ stop. length made.new.pairs.items < most → ahead_of self.now stop ≡ []) }
     {
         let column = &self.left.batch.columns()[self.left.key[0]];
         let _count = column.len();
@@ -173,9 +169,9 @@ impl<'a> Search<'a> {
                     first: column.first(),
                     look,
                 };
-                self.push_keys(keys, probe, most, pairs)
+                self.push_keys(keys, probe, most, made)
             }
-            _ => self.push_all(probe, most, pairs),
+            _ => self.push_all(probe, most, made),
         }
     }
 
@@ -185,25 +181,25 @@ impl<'a> Search<'a> {
         keys: NumberKeys<'_, L>,
         probe: &Probe,
         most: usize,
-        pairs: &mut Vec<Pair>,
+        made: &mut Made,
     ) -> Result<Probe, AllocError>
         requires whole { IsSearch self.now }
         requires keys { AreKeysOf self.now keys.cells keys.first }
         requires look { TellsNumbers self.now (L.passes keys.look.now) (L.told keys.look.now) (L.head keys.look.now) (L.own keys.look.now) }
-        requires few { length pairs.old.items ≤ most }
-        ensures given { IfOk result (λ stop. pairs.new.items ++ ahead_of self.now stop ≡ pairs.old.items ++ ahead_of self.now probe.now) }
-        ensures few { IfOk result (λ _. length pairs.new.items ≤ most) }
-        ensures ended { IfOk result (λ stop. length pairs.new.items < most → ahead_of self.now stop ≡ []) }
+        requires few { length made.old.pairs.items ≤ most }
+        ensures given { IfOk result (λ stop. made.new.pairs.items ++ ahead_of self.now stop ≡ made.old.pairs.items ++ ahead_of self.now probe.now) }
+        ensures few { IfOk result (λ _. length made.new.pairs.items ≤ most) }
+        ensures ended { IfOk result (λ stop. length made.new.pairs.items < most → ahead_of self.now stop ≡ []) }
     {
         match keys.cells.integer_type() {
-            IntegerType::Int8 => self.push_as::<i8, L>(keys, probe, most, pairs),
-            IntegerType::Int16 => self.push_as::<i16, L>(keys, probe, most, pairs),
-            IntegerType::Int32 => self.push_as::<i32, L>(keys, probe, most, pairs),
-            IntegerType::Int64 => self.push_as::<i64, L>(keys, probe, most, pairs),
-            IntegerType::UInt8 => self.push_as::<u8, L>(keys, probe, most, pairs),
-            IntegerType::UInt16 => self.push_as::<u16, L>(keys, probe, most, pairs),
-            IntegerType::UInt32 => self.push_as::<u32, L>(keys, probe, most, pairs),
-            IntegerType::UInt64 => self.push_as::<u64, L>(keys, probe, most, pairs),
+            IntegerType::Int8 => self.push_as::<i8, L>(keys, probe, most, made),
+            IntegerType::Int16 => self.push_as::<i16, L>(keys, probe, most, made),
+            IntegerType::Int32 => self.push_as::<i32, L>(keys, probe, most, made),
+            IntegerType::Int64 => self.push_as::<i64, L>(keys, probe, most, made),
+            IntegerType::UInt8 => self.push_as::<u8, L>(keys, probe, most, made),
+            IntegerType::UInt16 => self.push_as::<u16, L>(keys, probe, most, made),
+            IntegerType::UInt32 => self.push_as::<u32, L>(keys, probe, most, made),
+            IntegerType::UInt64 => self.push_as::<u64, L>(keys, probe, most, made),
         }
     }
 
@@ -213,16 +209,16 @@ impl<'a> Search<'a> {
         keys: NumberKeys<'_, L>,
         probe: &Probe,
         most: usize,
-        pairs: &mut Vec<Pair>,
+        made: &mut Made,
     ) -> Result<Probe, AllocError>
         requires whole { IsSearch self.now }
         requires keys { AreKeysOf self.now keys.cells keys.first }
         requires look { TellsNumbers self.now (L.passes keys.look.now) (L.told keys.look.now) (L.head keys.look.now) (L.own keys.look.now) }
         requires kind { E.kind ≡ keys.cells.integer }
-        requires few { length pairs.old.items ≤ most }
-        ensures given { IfOk result (λ stop. pairs.new.items ++ ahead_of self.now stop ≡ pairs.old.items ++ ahead_of self.now probe.now) }
-        ensures few { IfOk result (λ _. length pairs.new.items ≤ most) }
-        ensures ended { IfOk result (λ stop. length pairs.new.items < most → ahead_of self.now stop ≡ []) }
+        requires few { length made.old.pairs.items ≤ most }
+        ensures given { IfOk result (λ stop. made.new.pairs.items ++ ahead_of self.now stop ≡ made.old.pairs.items ++ ahead_of self.now probe.now) }
+        ensures few { IfOk result (λ _. length made.new.pairs.items ≤ most) }
+        ensures ended { IfOk result (λ stop. length made.new.pairs.items < most → ahead_of self.now stop ≡ []) }
     {
         let sieve: NumberRows<'_, E, L> = NumberRows {
             cells: keys.cells,
@@ -231,7 +227,7 @@ impl<'a> Search<'a> {
             look: keys.look,
             kind: PhantomData,
         };
-        self.push_pieces(&sieve, probe, most, pairs)
+        self.push_pieces(&sieve, probe, most, made)
     }
 
     // The same, where rows that a sieve stops join nothing. The row where the probe is may be within its chain; all later
@@ -241,29 +237,30 @@ impl<'a> Search<'a> {
         sieve: &S,
         probe: &Probe,
         most: usize,
-        pairs: &mut Vec<Pair>,
+        made: &mut Made,
     ) -> Result<Probe, AllocError>
         requires whole { IsSearch self.now }
         requires all { (self.now).left.batch.now.rows ≤ S.count sieve.now }
         requires sound { Passes self.now (S.passes sieve.now) }
         requires told { Tells self.now (S.told sieve.now) }
         requires heads { AreHeads self.now (S.passes sieve.now) (S.head sieve.now) (S.own sieve.now) }
-        requires few { length pairs.old.items ≤ most }
-        ensures given { IfOk result (λ stop. pairs.new.items ++ ahead_of self.now stop ≡ pairs.old.items ++ ahead_of self.now probe.now) }
-        ensures few { IfOk result (λ _. length pairs.new.items ≤ most) }
-        ensures ended { IfOk result (λ stop. length pairs.new.items < most → ahead_of self.now stop ≡ []) }
+        requires few { length made.old.pairs.items ≤ most }
+        ensures given { IfOk result (λ stop. made.new.pairs.items ++ ahead_of self.now stop ≡ made.old.pairs.items ++ ahead_of self.now probe.now) }
+        ensures few { IfOk result (λ _. length made.new.pairs.items ≤ most) }
+        ensures ended { IfOk result (λ stop. length made.new.pairs.items < most → ahead_of self.now stop ≡ []) }
     {
         if probe.left >= self.left.batch.rows() {
             return Ok(*probe);
         }
-        let stop = self.push_row(sieve, probe, most, pairs)?;
+        made.compared = sieve.compared(self.alloc);
+        let stop = self.push_row(sieve, probe, most, made)?;
         if stop < self.rights.places.len() {
             return Ok(Probe {
                 left: probe.left,
                 from: stop,
             });
         }
-        self.push_rows(sieve, probe.left + 1, most, pairs)
+        self.push_rows(sieve, probe.left + 1, most, made)
     }
 
     // Adds the pairs of one left row with right rows from one on, until there are `most`, and gives the right row where it
@@ -273,18 +270,20 @@ impl<'a> Search<'a> {
         sieve: &S,
         probe: &Probe,
         most: usize,
-        pairs: &mut Vec<Pair>,
+        made: &mut Made,
     ) -> Result<usize, AllocError>
         requires whole { IsSearch self.now }
         requires row { probe.now.left < (self.now).left.batch.now.rows }
         requires all { (self.now).left.batch.now.rows ≤ S.count sieve.now }
         requires sound { Passes self.now (S.passes sieve.now) }
         requires told { Tells self.now (S.told sieve.now) }
-        requires few { length pairs.old.items ≤ most }
-        ensures given { IfOk result (λ stop. pairs.new.items ++ pairs_past (walk_at self.now probe.now.left) stop
-            ≡ pairs.old.items ++ pairs_past (walk_at self.now probe.now.left) probe.now.from) }
-        ensures few { IfOk result (λ _. length pairs.new.items ≤ most) }
-        ensures stop { IfOk result (λ stop. stop < length (self.now).rights.now.places.items → most ≤ length pairs.new.items) }
+        requires few { length made.old.pairs.items ≤ most }
+        requires compared { HasCompared (walk_at self.now 0) made.old.compared }
+        ensures given { IfOk result (λ stop. made.new.pairs.items ++ pairs_past (walk_at self.now probe.now.left) stop
+            ≡ made.old.pairs.items ++ pairs_past (walk_at self.now probe.now.left) probe.now.from) }
+        ensures few { IfOk result (λ _. length made.new.pairs.items ≤ most) }
+        ensures compared { IfOk result (λ _. HasCompared (walk_at self.now 0) made.new.compared) }
+        ensures stop { IfOk result (λ stop. stop < length (self.now).rights.now.places.items → most ≤ length made.new.pairs.items) }
     {
         if !sieve.passes(probe.left) {
             return Ok(self.rights.places.len());
@@ -299,9 +298,9 @@ impl<'a> Search<'a> {
             },
         };
         match sieve.tell(probe.left) {
-            Told::Nothing => walk.push_pairs(probe.from, most, pairs),
-            Told::Shared(bucket) => walk.push_bucket(bucket, probe.from, most, pairs),
-            Told::Own(bucket) => walk.push_chain(bucket, probe.from, most, pairs),
+            Told::Nothing => walk.push_pairs(probe.from, most, made),
+            Told::Shared(bucket) => walk.push_bucket(bucket, probe.from, most, made),
+            Told::Own(bucket) => walk.push_chain(bucket, probe.from, most, &mut made.pairs),
         }
     }
 

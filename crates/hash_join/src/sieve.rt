@@ -1,6 +1,6 @@
 //! Left rows, of which those that join nothing are mostly told by one look.
 
-ghost use Rattle.std.specs.Prelude.{◌≡◌, ◌≤◌, ◌<◌, ◌+◌, ◌&&◌, ℕ, Bool, IfOk, None, Option, if◌then◌else◌, true};
+ghost use Rattle.std.specs.Prelude.{◌≡◌, ◌≤◌, ◌<◌, ◌+◌, ◌&&◌, ℕ, [], Bool, IfOk, None, Option, if◌then◌else◌, true};
 ghost use Rattle.arrays.specs.Integers.{AreIntegers};
 ghost use Rattle.arrays.specs.Number.{integer_at};
 ghost use Rattle.arrays.specs.Validity.{is_valid};
@@ -9,6 +9,7 @@ ghost use Rattle.hash_join.specs.declared.look.Told.TheVariants as known;
 ghost use Rattle.hash_join.specs.Seen.{AreKept};
 ghost use Rattle.hash_join.specs.Words.{passing_word};
 
+use crate::compared::Compared;
 use crate::key_element::{KeyElement, is_known, known_word, number_word};
 use crate::look::{Look, Told};
 use crate::seen::SeenRows;
@@ -53,6 +54,10 @@ pub(crate) trait Sieve {
     // Tables for the buckets and the digests of rows that are seen, without a row yet.
     fn seen_rows(&self, alloc: Global) -> Result<SeenRows, AllocError>
         ensures { IfOk result (λ seen. AreKept (bucket self.now) (last self.now) (count self.now) (digest self.now) seen) };
+
+    // A table for what is compared of left and right rows, without a pair yet.
+    fn compared(&self, alloc: Global) -> Compared
+        ensures { result.pairs.items ≡ [] };
 
     // The first right row of the chain of a row that passes; the number of right rows where it has none.
     fn head(&self, row: usize, seen: &mut SeenRows) -> u32
@@ -128,6 +133,10 @@ impl<'a, E: KeyElement, L: Look> Sieve for NumberRows<'a, E, L> {
 
     fn seen_rows(&self, alloc: Global) -> Result<SeenRows, AllocError> {
         Ok(SeenRows::none(alloc))
+    }
+
+    fn compared(&self, alloc: Global) -> Compared {
+        Compared::none(alloc)
     }
 
     fn head(&self, row: usize, _seen: &mut SeenRows) -> u32 {

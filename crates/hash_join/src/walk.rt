@@ -4,11 +4,15 @@ ghost use Rattle.std.specs.Prelude.{◌≡◌, ◌≤◌, ◌<◌, ◌++◌, [],
 ghost use Rattle.hash_join.specs.Rights.{place_at};
 ghost use Rattle.hash_join.specs.Hashes.{last_of};
 ghost use Rattle.hash_join.specs.Chains.{Leads};
+ghost use Rattle.hash_join.specs.Compared.{HasCompared};
 ghost use Rattle.hash_join.specs.Walks.{bucket_left, in_chain, joins_at, pair_at, pairs_past, IsWalk, JoinsChain};
 
 use crate::chains::Chains;
+use crate::compared::{Compared, Made};
 use crate::key_row::KeyRow;
 use crate::pair::Pair;
+use crate::part_rows::BatchRows;
+use crate::right_rows::RightRows;
 use crate::rights::Rights;
 use std::alloc::AllocError;
 
@@ -27,17 +31,19 @@ impl<'a> Walk<'a> {
         &self,
         from: usize,
         most: usize,
-        pairs: &mut Vec<Pair>,
+        made: &mut Made,
     ) -> Result<usize, AllocError>
         requires whole { IsWalk self.now }
-        requires few { length pairs.old.items ≤ most }
-        ensures given { IfOk result (λ stop. pairs.new.items ++ pairs_past self.now stop ≡ pairs.old.items ++ pairs_past self.now from) }
-        ensures few { IfOk result (λ _. length pairs.new.items ≤ most) }
-        ensures stop { IfOk result (λ stop. stop < length (self.now).rights.now.places.items → most ≤ length pairs.new.items) }
+        requires few { length made.old.pairs.items ≤ most }
+        requires compared { HasCompared self.now made.old.compared }
+        ensures given { IfOk result (λ stop. made.new.pairs.items ++ pairs_past self.now stop ≡ made.old.pairs.items ++ pairs_past self.now from) }
+        ensures few { IfOk result (λ _. length made.new.pairs.items ≤ most) }
+        ensures compared { IfOk result (λ _. HasCompared self.now made.new.compared) }
+        ensures stop { IfOk result (λ stop. stop < length (self.now).rights.now.places.items → most ≤ length made.new.pairs.items) }
     {
         match self.rights.buckets.bucket(&self.left) {
             None => Ok(self.rights.places.len()),
-            Some(bucket) => self.push_bucket(bucket, from, most, pairs),
+            Some(bucket) => self.push_bucket(bucket, from, most, made),
         }
     }
 
@@ -47,17 +53,19 @@ impl<'a> Walk<'a> {
         bucket: usize,
         from: usize,
         most: usize,
-        pairs: &mut Vec<Pair>,
+        made: &mut Made,
     ) -> Result<usize, AllocError>
         requires whole { IsWalk self.now }
         requires bucket { bucket_left self.now ≡ Some bucket }
         requires within { bucket ≤ last_of (self.now).rights.now.buckets }
-        requires few { length pairs.old.items ≤ most }
-        ensures given { IfOk result (λ stop. pairs.new.items ++ pairs_past self.now stop ≡ pairs.old.items ++ pairs_past self.now from) }
-        ensures few { IfOk result (λ _. length pairs.new.items ≤ most) }
-        ensures stop { IfOk result (λ stop. stop < length (self.now).rights.now.places.items → most ≤ length pairs.new.items) }
+        requires few { length made.old.pairs.items ≤ most }
+        requires compared { HasCompared self.now made.old.compared }
+        ensures given { IfOk result (λ stop. made.new.pairs.items ++ pairs_past self.now stop ≡ made.old.pairs.items ++ pairs_past self.now from) }
+        ensures few { IfOk result (λ _. length made.new.pairs.items ≤ most) }
+        ensures compared { IfOk result (λ _. HasCompared self.now made.new.compared) }
+        ensures stop { IfOk result (λ stop. stop < length (self.now).rights.now.places.items → most ≤ length made.new.pairs.items) }
     {
-        self.follow(self.first_in(bucket, from), most, pairs)
+        self.follow(self.first_in(bucket, from), most, made)
     }
 
     // The first right row from one on that stands in the left row's chain. Where a walk has stopped, that is the row itself.
@@ -98,40 +106,44 @@ impl<'a> Walk<'a> {
         own: bool,
         first: usize,
         most: usize,
-        pairs: &mut Vec<Pair>,
+        made: &mut Made,
     ) -> Result<usize, AllocError>
         requires whole { IsWalk self.now }
         requires all { own ≡ true → JoinsChain self.now }
         requires there { first < length (self.now).rights.now.places.items → in_chain self.now first ≡ true }
-        requires few { length pairs.old.items ≤ most }
-        ensures given { IfOk result (λ stop. pairs.new.items ++ pairs_past self.now stop ≡ pairs.old.items ++ pairs_past self.now first) }
-        ensures few { IfOk result (λ _. length pairs.new.items ≤ most) }
-        ensures stop { IfOk result (λ stop. stop < length (self.now).rights.now.places.items → most ≤ length pairs.new.items) }
+        requires few { length made.old.pairs.items ≤ most }
+        requires compared { HasCompared self.now made.old.compared }
+        ensures given { IfOk result (λ stop. made.new.pairs.items ++ pairs_past self.now stop ≡ made.old.pairs.items ++ pairs_past self.now first) }
+        ensures few { IfOk result (λ _. length made.new.pairs.items ≤ most) }
+        ensures compared { IfOk result (λ _. HasCompared self.now made.new.compared) }
+        ensures stop { IfOk result (λ stop. stop < length (self.now).rights.now.places.items → most ≤ length made.new.pairs.items) }
     {
         if own {
-            self.take_chain(first, most, pairs)
+            self.take_chain(first, most, &mut made.pairs)
         } else {
             let walk = *self;
-            walk.follow(first, most, pairs)
+            walk.follow(first, most, made)
         }
     }
 
     // Adds the pairs with the rows of the chain from one of them on, where the two join, until there are `most`. Of right rows
     // one behind another with the same key only the first is compared.
-    fn follow(&self, first: usize, most: usize, pairs: &mut Vec<Pair>) -> Result<usize, AllocError>
+    fn follow(&self, first: usize, most: usize, made: &mut Made) -> Result<usize, AllocError>
         requires whole { IsWalk self.now }
         requires there { first < length (self.now).rights.now.places.items → in_chain self.now first ≡ true }
-        requires few { length pairs.old.items ≤ most }
-        ensures given { IfOk result (λ stop. pairs.new.items ++ pairs_past self.now stop ≡ pairs.old.items ++ pairs_past self.now first) }
-        ensures few { IfOk result (λ _. length pairs.new.items ≤ most) }
-        ensures stop { IfOk result (λ stop. stop < length (self.now).rights.now.places.items → most ≤ length pairs.new.items) }
+        requires few { length made.old.pairs.items ≤ most }
+        requires compared { HasCompared self.now made.old.compared }
+        ensures given { IfOk result (λ stop. made.new.pairs.items ++ pairs_past self.now stop ≡ made.old.pairs.items ++ pairs_past self.now first) }
+        ensures few { IfOk result (λ _. length made.new.pairs.items ≤ most) }
+        ensures compared { IfOk result (λ _. HasCompared self.now made.new.compared) }
+        ensures stop { IfOk result (λ stop. stop < length (self.now).rights.now.places.items → most ≤ length made.new.pairs.items) }
     {
         let mut at = first;
-        let mut joins = self.joins(at);
-        'chain: while at < self.rights.places.len() && pairs.len() < most {
-            self.push_pair(joins, at, pairs)?;
+        let mut joins = self.joins(at, &mut made.compared);
+        'chain: while at < self.rights.places.len() && made.pairs.len() < most {
+            self.push_pair(joins, at, &mut made.pairs)?;
             let next = self.chains.links[at] as usize;
-            joins = self.joins_next(joins, at, next);
+            joins = self.joins_next(joins, at, next, &mut made.compared);
             at = next;
         }
         Ok(at)
@@ -195,21 +207,43 @@ impl<'a> Walk<'a> {
     }
 
     // Whether the left row joins a right row; never one that is not there.
-    fn joins(&self, at: usize) -> bool
+    fn joins(&self, at: usize, compared: &mut Compared) -> bool
         requires whole { IsWalk self.now }
-        ensures { at < length (self.now).rights.now.places.items → result ≡ joins_at self.now (place_at (self.now).rights.now at) }
+        requires compared { HasCompared self.now compared.old }
+        ensures joins { at < length (self.now).rights.now.places.items → result ≡ joins_at self.now (place_at (self.now).rights.now at) }
+        ensures compared { HasCompared self.now compared.new }
     {
-        at < self.rights.places.len() && self.left.joins(&self.rights.key_row(at))
+        at < self.rights.places.len() && self.joins_row(at, compared)
+    }
+
+    // Whether the left row joins a right row that is there. Texts are compared where they lie if the table is to have no place.
+    fn joins_row(&self, at: usize, compared: &mut Compared) -> bool
+        requires whole { IsWalk self.now }
+        requires within { at < length (self.now).rights.now.places.items }
+        requires compared { HasCompared self.now compared.old }
+        ensures joins { result ≡ joins_at self.now (place_at (self.now).rights.now at) }
+        ensures compared { HasCompared self.now compared.new }
+    {
+        if compared.places == 0 {
+            return self.left.joins(&self.rights.key_row(at));
+        }
+        let lefts = BatchRows { at: self.left };
+        let rights = RightRows {
+            rights: self.rights,
+        };
+        compared.keys_join(&lefts, &rights, self.left.row, at)
     }
 
     // Whether the left row joins the next right row of a chain, where it is known whether it joins this one. The values of a
     // next row that has the same key are not compared.
-    fn joins_next(&self, joins: bool, at: usize, next: usize) -> bool
+    fn joins_next(&self, joins: bool, at: usize, next: usize, compared: &mut Compared) -> bool
         requires whole { IsWalk self.now }
         requires within { at < length (self.now).rights.now.places.items }
         requires next { next ≡ get_or (self.now).chains.now.links.items at next }
         requires told { joins ≡ joins_at self.now (place_at (self.now).rights.now at) }
-        ensures { next < length (self.now).rights.now.places.items → result ≡ joins_at self.now (place_at (self.now).rights.now next) }
+        requires compared { HasCompared self.now compared.old }
+        ensures joins { next < length (self.now).rights.now.places.items → result ≡ joins_at self.now (place_at (self.now).rights.now next) }
+        ensures compared { HasCompared self.now compared.new }
     {
         if next >= self.rights.places.len() {
             return false;
@@ -217,7 +251,7 @@ impl<'a> Walk<'a> {
         if self.chains.repeats[at] {
             joins
         } else {
-            self.left.joins(&self.rights.key_row(next))
+            self.joins_row(next, compared)
         }
     }
 

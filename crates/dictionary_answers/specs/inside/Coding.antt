@@ -4,6 +4,10 @@ use Rattle.scan_base.specs.declared.value.Value.{Value}
 use Rattle.dictionary_answers.specs.Coded.{FoundAt, held}
 use Rattle.dictionary_answers.specs.Firsts.{firsts_behind, bytes_in, Leads}
 
+-- how many bytes the texts that were found and all to come may have
+abbrev pub room_of : FoundAt → ℕ
+room_of found = bytes_in found.texts + found.left
+
 -- a value is among the texts then, and this is its place
 pub record Finds (old new : FoundAt) (place : ℕ) (value : Value) : Type 0 where
   pub texts : new.texts ≡ firsts_behind old.texts (value ∷ [])

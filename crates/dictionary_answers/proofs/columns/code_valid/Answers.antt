@@ -1,68 +1,16 @@
-use Rattle.std.proofs.Common.{◌<◌, ◌+◌, ◌∷◌, [], List, sym, subst, take, get_or, rules, arith}
-use Rattle.scan_base.specs.declared.value.Value.{Value}
-use Rattle.scan_base.specs.declared.value.Value.TheVariants.{Null}
-use Rattle.arrays.specs.Column.{slot_of, values_of}
-use Rattle.dictionary_answers.specs.Firsts.{bytes_in, firsts, firsts_behind}
-use Rattle.dictionary_answers.specs.Coded.{coded_at}
-use Rattle.dictionary_answers.specs.inside.Coding.{Finds}
+use Rattle.std.proofs.Common.{ℕ, map, take, subst, arith}
+use Rattle.std.specs.List.{range_with_len}
+use Rattle.arrays.specs.Column.{slot_of}
+use Rattle.dictionary_answers.specs.Coded.{AreCoded, coded_at}
 use Rattle.dictionary_answers.specs.inside.Packed.{numbers_in}
-use Rattle.dictionary_answers.specs.inside.Table.{IsTable}
-use Rattle.dictionary_answers.proofs.Indexed.{index_led, room_for, slot_within}
-use Rattle.dictionary_answers.proofs.Slots.{slot_more, slots_all, few_texts, none_fit}
+use Rattle.dictionary_answers.proofs.Slots.{slots_all}
 use Rattle.dictionary_answers.proofs.columns.code_valid.Goals as goal
-
-pub place_of_index-requires-clause-few : goal.place_of_index-requires-clause-few
-place_of_index-requires-clause-few g c =
-    omega (arith, few_texts (slot_of c.args.of.now.column.now) c.loop-place.place c.args.found.now.left (coded_at c.loop-place.found (take c.loop-place.place (numbers_in c.loop-place.packed))) c.loop-place.invariant.coded, c.loop-place-test.true, c.requires.long, c.requires.small)
-
-pub index_at-index-requires : goal.index_at-index-requires
-index_at-index-requires g c =
-    let column = c.args.of.now.column.now in
-    let low : c.loop-place.place < column.len = omega (arith, c.loop-place-test.true, c.requires.long) in
-    room_for c.args.of.now.cells g.E.IndexElement.WIDTH (c.first-first.result + c.loop-place.place) c.values-values.result.now c.requires.width c.values-values.ensures c.len-slots.ensures.stands
-    (slot_within column c.args.of.now.cells c.first-first.result c.loop-place.place c.requires.cells c.first-first.ensures c.len-count.ensures.stands low)
-
-pub place_of_index-requires-clause-table : goal.place_of_index-requires-clause-table
-place_of_index-requires-clause-table g c = subst (λ (d : List Value). IsTable d c.loop-place.found.texts c.loop-place.table) (sym c.dictionary-dictionary.ensures) c.loop-place.invariant.table
-
-pub place_of_index-requires-clause-within : goal.place_of_index-requires-clause-within
-place_of_index-requires-clause-within g c =
-    let column = c.args.of.now.column.now in
-    let place = c.loop-place.place in
-    let low : place < column.len = omega (arith, c.loop-place-test.true, c.requires.long) in
-    let led = index_led column c.args.of.now.cells g.E.IndexElement.WIDTH c.first-first.result place c.index_at-index.result c.values-values.result.now c.dictionary-dictionary.result.now c.requires.cells c.requires.width
-    c.values-values.ensures c.dictionary-dictionary.ensures c.first-first.ensures c.len-slots.ensures.stands c.len-count.ensures.stands c.requires.valid low c.index_at-index.ensures in
-    led.0
-
-pub returns-in_err-number-clause-full : goal.returns-in_err-number-clause-full
-returns-in_err-number-clause-full g c =
-    let found = c.loop-place.found in
-    let column = c.args.of.now.column.now in
-    let place = c.loop-place.place in
-    let low : place < column.len = omega (arith, c.loop-place-test.true, c.requires.long) in
-    let led = index_led column c.args.of.now.cells g.E.IndexElement.WIDTH c.first-first.result place c.index_at-index.result c.values-values.result.now c.dictionary-dictionary.result.now c.requires.cells c.requires.width
-    c.values-values.ensures c.dictionary-dictionary.ensures c.first-first.ensures c.len-slots.ensures.stands c.len-count.ensures.stands c.requires.valid low c.index_at-index.ensures in
-    let step : bytes_in found.texts + found.left < bytes_in (firsts_behind found.texts (get_or c.dictionary-dictionary.result.now c.index_at-index.result Null ∷ [])) → c.args.found.now.left < bytes_in (firsts (values_of column)) =
-    λ full. none_fit (slot_of column) place column.len c.args.found.now.left (coded_at found (take place (numbers_in c.loop-place.packed))) c.loop-place.invariant.coded low
-    (subst (λ (v : Value). bytes_in found.texts + found.left < bytes_in (firsts_behind found.texts (v ∷ []))) led.1 full) in
-    search (rules, step)
-
-pub loop-place-preserved : goal.loop-place-preserved
-loop-place-preserved g c =
-    let column = c.args.of.now.column.now in
-    let place = c.loop-place.place in
-    let low : place < column.len = omega (arith, c.loop-place-test.true, c.requires.long) in
-    let led = index_led column c.args.of.now.cells g.E.IndexElement.WIDTH c.first-first.result place c.index_at-index.result c.values-values.result.now c.dictionary-dictionary.result.now c.requires.cells c.requires.width
-    c.values-values.ensures c.dictionary-dictionary.ensures c.first-first.ensures c.len-slots.ensures.stands c.len-count.ensures.stands c.requires.valid low c.index_at-index.ensures in
-    record {
-      coded = slot_more (slot_of column) place c.args.found.now.left c.loop-place.found c.place_of_index.new.self c.loop-place.packed c.put_number.new.bytes c.in_ok-number.number
-          (omega (arith, c.loop-place-test.true, c.requires.long)) c.put_number.ensures c.loop-place.invariant.coded
-          (subst (λ (v : Value). Finds c.loop-place.found c.place_of_index.new.self c.in_ok-number.number v) led.1 c.in_ok-number.ensures.found);
-      table = subst (λ (d : List Value). IsTable d c.place_of_index.new.self.texts c.place_of_index.new.table) c.dictionary-dictionary.ensures c.in_ok-number.ensures.table;
-    }
 
 pub returns-clause-coded : goal.returns-clause-coded
 returns-clause-coded g c =
     let column = c.args.of.now.column.now in
-    slots_all (slot_of column) c.loop-place.place column.len c.args.found.now.left c.loop-place.found c.loop-place.packed
-    (omega (arith, c.requires.long)) (omega (arith, c.loop-place-test.false)) (omega arith) c.loop-place.invariant.coded
+    let from = c.loop-from.from in
+    slots_all (slot_of column) from column.len c.args.found.now.left c.loop-from.found c.loop-from.packed
+    (omega (arith, c.requires.long, c.loop-from.auto.packed)) (omega (arith, c.loop-from-test.false, c.len-count.ensures.count)) (omega (arith, c.loop-from.invariant.within, c.len-count.ensures.count))
+    (subst (λ (room : ℕ). AreCoded (map (slot_of column) (range_with_len 0 from)) room (coded_at c.loop-from.found (take from (numbers_in c.loop-from.packed))))
+    c.loop-from.invariant.room c.loop-from.invariant.coded)

@@ -1,14 +1,17 @@
-use Rattle.std.proofs.Common.{map, take}
-use Rattle.std.specs.List.{range_with_len}
-use Rattle.arrays.specs.Column.{slot_of}
-use Rattle.dictionary_answers.specs.Coded.{AreCoded, coded_at}
-use Rattle.dictionary_answers.specs.inside.Packed.{numbers_in}
+use Rattle.std.proofs.Common.{◌≡◌, ◌≤◌, ◌-◌}
+use Rattle.dictionary_answers.specs.inside.Blocks.{AreCodedTo}
+use Rattle.dictionary_answers.specs.inside.Coding.{room_of}
 use Rattle.dictionary_answers.specs.inside.Table.{IsTable}
 use Rattle.dictionary_answers.proofs.columns.code_valid.Given as goal
 
--- the slots so far are coded, and the table leads to their texts
-abbrev pub invariant-loop-place : goal.invariant-loop-place
-invariant-loop-place g l = record {
-  coded : AreCoded (map (slot_of l.of.column.now) (range_with_len 0 l.place)) l.initial.found.left (coded_at l.found (take l.place (numbers_in l.packed)));
+-- the slots of the blocks so far are coded, and the table leads to their texts
+abbrev pub invariant-loop-from : goal.invariant-loop-from
+invariant-loop-from g l = record {
+  within : l.from ≤ l.count;
+  coded : AreCodedTo l.of.column.now l.from l.found l.packed;
+  room : room_of l.found ≡ l.initial.found.left;
   table : IsTable l.of.cells.dictionary l.found.texts l.table;
 }
+
+abbrev pub decreases-loop-from : goal.decreases-loop-from
+decreases-loop-from g l = l.count - l.from

@@ -22,11 +22,11 @@ returns-then-stop-len-clause-given c =
     let piece = c.args.piece.now in
     let starts = piece.starts.now in
     let number = c.loop-start.start-index in
-    let made = c.loop-start.pairs.items in
+    let made = c.loop-start.made.pairs.items in
     let other : Start = record { left = 0; head = 0 } in
     let next = next_start search c.requires.whole piece.own piece.to starts number other c.loop-start-test.true c.loop-start.invariant.starts in
-    start_stopped search c.requires.whole piece.own piece.to _ (get_or starts number other) next.here c.in_ok-stop.stop c.args.most made c.push_from.new.pairs.items
-    (c.args.pairs.now.items ++ ahead_of search (probe_at (first_left piece.to starts) 0))
+    start_stopped search c.requires.whole piece.own piece.to _ (get_or starts number other) next.here c.in_ok-stop.stop c.args.most made c.push_from.new.made.pairs.items
+    (c.args.made.now.pairs.items ++ ahead_of search (probe_at (first_left piece.to starts) 0))
     (record {
       all = ap (λ (left : ℕ). made ++ ahead_of search (probe_at left 0)) (sym next.first) ∙ c.loop-start.invariant.all;
       few = c.loop-start.invariant.few;
@@ -38,17 +38,18 @@ loop-start-preserved c =
     let piece = c.args.piece.now in
     let starts = piece.starts.now in
     let number = c.loop-start.start-index in
-    let made = c.loop-start.pairs.items in
+    let made = c.loop-start.made.pairs.items in
     let other : Start = record { left = 0; head = 0 } in
     let next = next_start search c.requires.whole piece.own piece.to starts number other c.loop-start-test.true c.loop-start.invariant.starts in
     let past : length search.rights.now.places.items ≤ c.in_ok-stop.stop = omega (arith, c.if-stop-len.false, c.len.ensures, search.rights.now.places.ok) in
     record {
       starts = next.later;
-      all = start_passed search c.requires.whole piece.own piece.to _ (get_or starts number other) next.here c.in_ok-stop.stop c.args.most made c.push_from.new.pairs.items
-          (c.args.pairs.now.items ++ ahead_of search (probe_at (first_left piece.to starts) 0))
+      all = start_passed search c.requires.whole piece.own piece.to _ (get_or starts number other) next.here c.in_ok-stop.stop c.args.most made c.push_from.new.made.pairs.items
+          (c.args.made.now.pairs.items ++ ahead_of search (probe_at (first_left piece.to starts) 0))
           (record {
             all = ap (λ (left : ℕ). made ++ ahead_of search (probe_at left 0)) (sym next.first) ∙ c.loop-start.invariant.all;
             few = c.loop-start.invariant.few;
           }) c.in_ok-stop.ensures.given past;
+      compared = c.in_ok-stop.ensures.compared;
       few = c.in_ok-stop.ensures.few;
     }

@@ -8,19 +8,19 @@ pub returns-then-stop-len-clause-given : goal.returns-then-stop-len-clause-given
 returns-then-stop-len-clause-given g c =
     let search = c.args.self.now in
     let probe = c.args.probe.now in
-    let made = c.args.pairs.now.items in
+    let made = c.args.made.now.pairs.items in
     let low : probe.left < search.left.batch.now.rows = omega (arith, c.if-probe-rows.false, c.rows.ensures) in
-    stopped search c.requires.whole probe.left probe.from c.in_ok-stop.stop c.args.most made c.push_row.new.pairs.items (made ++ ahead_of search probe) low
+    stopped search c.requires.whole probe.left probe.from c.in_ok-stop.stop c.args.most made c.push_row.new.made.pairs.items (made ++ ahead_of search probe) low
     (record { all = refl; few = c.requires.few }) c.in_ok-stop.ensures.given
 
 pub returns-clause-given : goal.returns-clause-given
 returns-clause-given g c =
     let search = c.args.self.now in
     let probe = c.args.probe.now in
-    let made = c.args.pairs.now.items in
+    let made = c.args.made.now.pairs.items in
     let low : probe.left < search.left.batch.now.rows = omega (arith, c.if-probe-rows.false, c.rows.ensures) in
     let past : length search.rights.now.places.items ≤ c.in_ok-stop.stop = omega (arith, c.if-stop-len.false, c.len.ensures, search.rights.now.places.ok) in
-    subst (λ (whole : List Pair). IfOk c.push_rows.result (λ stop. c.push_rows.new.pairs.items ++ ahead_of search stop ≡ whole))
-    (passed search c.requires.whole probe.left probe.from c.in_ok-stop.stop c.args.most made c.push_row.new.pairs.items (made ++ ahead_of search probe) low
+    subst (λ (whole : List Pair). IfOk c.push_rows.result (λ stop. c.push_rows.new.made.pairs.items ++ ahead_of search stop ≡ whole))
+    (passed search c.requires.whole probe.left probe.from c.in_ok-stop.stop c.args.most made c.push_row.new.made.pairs.items (made ++ ahead_of search probe) low
     (record { all = refl; few = c.requires.few }) c.in_ok-stop.ensures.given past)
     c.push_rows.ensures.given

@@ -80,8 +80,8 @@ returns-then-len-most-clause-given g c =
     let found : c.find_heads.new.starts.items ≡ map (start_at head) (take count c.deref.result.now) = c.in_ok-find_heads.ensures.starts in
     let it = piece_begins search passes head own c.requires.sound c.requires.heads left to (take count c.deref.result.now) c.as_slice.result.now low within
     (ap (take count) value ∙ kept) (c.as_slice.ensures.value ∙ found) in
-    went_on search c.requires.whole own c.pieces.at c.in_ok-at.at to c.as_slice.result.now c.pieces.pairs.items c.push_piece.new.pairs.items
-    (c.args.pairs.now.items ++ ahead_of search (probe_at c.args.from 0)) c.pieces.invariant.first within it c.in_ok-at.ensures.given c.pieces.invariant.all
+    went_on search c.requires.whole own c.pieces.at c.in_ok-at.at to c.as_slice.result.now c.pieces.made.pairs.items c.push_piece.new.made.pairs.items
+    (c.args.made.now.pairs.items ++ ahead_of search (probe_at c.args.from 0)) c.pieces.invariant.first within it c.in_ok-at.ensures.given c.pieces.invariant.all
 
 pub pieces-preserved : goal.pieces-preserved
 pieces-preserved g c =
@@ -103,7 +103,7 @@ pieces-preserved g c =
     let found : c.find_heads.new.starts.items ≡ map (start_at head) (take count c.deref.result.now) = c.in_ok-find_heads.ensures.starts in
     let it = piece_begins search passes head own c.requires.sound c.requires.heads left to (take count c.deref.result.now) c.as_slice.result.now low within
     (ap (take count) value ∙ kept) (c.as_slice.ensures.value ∙ found) in
-    let less : length c.push_piece.new.pairs.items < c.args.most = omega (arith, c.if-len-most.false, c.len.ensures, c.push_piece.new.pairs.ok) in
+    let less : length c.push_piece.new.made.pairs.items < c.args.most = omega (arith, c.if-len-most.false, c.len.ensures, c.push_piece.new.made.pairs.ok) in
     let at_end : c.in_ok-at.at ≡ probe_at to 0 = c.in_ok-at.ensures.ended less in
     let at_left : c.in_ok-at.at.left ≡ to = ap (λ (probe : Probe). probe.left) at_end in
     let room : length new ≡ c.min-room.result = omega (arith, long, c.pieces.kept.ok, c.pieces.invariant.kept) in
@@ -112,10 +112,11 @@ pieces-preserved g c =
       after = omega (arith, at_left, low, c.pieces.invariant.after);
       first = ap (λ (probe : Probe). probe.from) at_end;
       kept = ap length front ∙ room;
-      all = went_on search c.requires.whole own c.pieces.at c.in_ok-at.at to c.as_slice.result.now c.pieces.pairs.items c.push_piece.new.pairs.items
-          (c.args.pairs.now.items ++ ahead_of search (probe_at c.args.from 0)) c.pieces.invariant.first within it c.in_ok-at.ensures.given c.pieces.invariant.all;
+      all = went_on search c.requires.whole own c.pieces.at c.in_ok-at.at to c.as_slice.result.now c.pieces.made.pairs.items c.push_piece.new.made.pairs.items
+          (c.args.made.now.pairs.items ++ ahead_of search (probe_at c.args.from 0)) c.pieces.invariant.first within it c.in_ok-at.ensures.given c.pieces.invariant.all;
       few = c.in_ok-at.ensures.few;
       some = omega (arith, c.min-next.ensures, c.pieces.invariant.some);
       room = omega (arith, c.min-next.ensures);
+      compared = c.in_ok-at.ensures.compared;
       seen = c.find_heads.ensures.seen;
     }

@@ -6,8 +6,8 @@ use Rattle.hash_join.specs.Pairs.{keys_join}
 use Rattle.hash_join.specs.Rights.{key_at}
 use Rattle.hash_join.proofs.walk.Walk.joins_next.Goals as goal
 
-pub returns-then-index : goal.returns-then-index
-returns-then-index c =
+pub returns-then-index-clause-joins : goal.returns-then-index-clause-joins
+returns-then-index-clause-joins c =
     let walk = c.args.self.now in
     let links = walk.chains.now.links.items in
     let repeats = walk.chains.now.repeats.items in

@@ -7,5 +7,5 @@ use Rattle.hash_join.proofs.walk.Walk.push_bucket.Goals as goal
 pub returns-clause-given : goal.returns-clause-given
 returns-clause-given c =
     let walk = c.args.self.now in
-    subst (λ (rest : List Pair). IfOk c.follow.result (λ stop. c.follow.new.pairs.items ++ pairs_past walk stop ≡ c.args.pairs.now.items ++ rest))
+    subst (λ (rest : List Pair). IfOk c.follow.result (λ stop. c.follow.new.made.pairs.items ++ pairs_past walk stop ≡ c.args.made.now.pairs.items ++ rest))
     (sym (lead_same walk c.requires.whole c.args.from c.first_in.result c.first_in.ensures)) c.follow.ensures.given

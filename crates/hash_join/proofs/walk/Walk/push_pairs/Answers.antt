@@ -6,5 +6,5 @@ pub returns-in-None-clause-given : goal.returns-in-None-clause-given
 returns-in-None-clause-given c =
     let walk = c.args.self.now in
     let past : length walk.rights.now.places.items ≤ c.len.result = omega (arith, c.len.ensures, walk.rights.now.places.ok) in
-    ap (λ rest. c.args.pairs.now.items ++ rest)
+    ap (λ rest. c.args.made.now.pairs.items ++ rest)
     (sym (none_joins walk c.requires.whole c.args.from c.len.result (sym c.bucket.ensures.bucket ∙ c.in-None.is) past))
