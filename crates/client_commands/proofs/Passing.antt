@@ -9,13 +9,17 @@ use Rattle.scan_base.specs.declared.fault.Fault.TheVariants.{BadBatch, BadProto,
 use Rattle.scan_base.specs.Reading.{◌>>=◌, demand}
 use Rattle.scan_base.specs.Lists.{each}
 use Rattle.arrow_schema.specs.declared.schema.Schema.{Schema}
-use Rattle.arrow_schema.specs.Answer.{plain_schema}
+use Rattle.arrow_schema.specs.declared.data_type.DataType.{DataType}
+use Rattle.arrow_schema.specs.declared.data_type.DataType.TheVariants.{Integer, Utf8, Bool as Flags, Decimal128, Date, Dictionary}
+use Rattle.arrow_schema.specs.declared.schema.Field.{Field}
+use Rattle.arrow_schema.specs.Answer.{answered_at}
 use Rattle.arrays.specs.Batch.{BatchAt, rows_of}
 use Rattle.arrays.specs.Typed.{AreOfTypes}
-use Rattle.ipc_batch.specs.State.{State}
+use Rattle.ipc_batch.specs.State.{Known, State}
 use Rattle.ipc_batch.specs.Said.{HasColumns, Rows}
 use Rattle.ipc_batch.proofs.Lengths.{fine, both}
-use Rattle.table_versions.specs.Table.{Table, same_fields}
+use Rattle.table_versions.specs.Table.{Table, same_field, same_fields, same_name, same_type}
+use Rattle.scan_base.specs.Value.{same_flag}
 use Rattle.table_versions.proofs.Alike.{typed_alike}
 use Rattle.flight_proto.specs.FlightInfo.{EndpointSaid, InfoSaid, info_of}
 use Rattle.flight_proto.specs.Wanted.{Wanted, wanted_bytes}
@@ -25,8 +29,8 @@ use Rattle.flight_client.specs.Join.{joined, one_schema, schema_of_all}
 use Rattle.flight_client.specs.Stream.{StreamAt, schema_said}
 use Rattle.flight_client.proofs.Arrivals.{schema_there}
 use Rattle.grpc_frame.specs.Records.{Received}
-use Rattle.row_stream.specs.Stream.{CountsTransport, HasShortRows, IsCause, WritesStream}
-use Rattle.row_stream.specs.Writing.{SendsBatch, SoFar, Stopped}
+use Rattle.row_stream.specs.Stream.{numbered_from, numbered_schema, CountsTransport, HasShortRows, IsCause, WritesStream}
+use Rattle.row_stream.specs.Writing.{WriterAt, SendsBatch, SoFar, Stopped}
 use Rattle.row_stream.proofs.SoFar.{stopped_before, stopped_here}
 use Rattle.client_calls.specs.declared.call.Method.TheVariants.{GetFlightInfo}
 use Rattle.client_calls.specs.declared.failure.Failure.{Failure}
@@ -38,7 +42,7 @@ use Rattle.client_calls.specs.Taking.{FetchAt, FetchGives, HasNoSchema, IsBegun,
 use Rattle.command_ends.specs.Printing.{Said}
 use Rattle.client_commands.specs.Fetching.{Asks, FetchesEach, FetchesOne, FetchStops}
 use Rattle.client_commands.specs.Streaming.{ComeSome, SaysFirst, SaysSchema, Stops, StopsAmong, Streams, WhyNoMore, WritesSome, rows_held}
-use Rattle.client_commands.specs.inside.Passing.{HasPassed, HavePassed, IsPassing, PassingAt, StopsPassing, WhyUnwritten}
+use Rattle.client_commands.specs.inside.Passing.{FitsSchema, HasPassed, HavePassed, IsPassing, PassingAt, StopsPassing, WhyUnwritten}
 use Rattle.client_commands.proofs.Fetched.{fetched_more, front_more, quiet, split_at}
 
 -- ---- streams that came
@@ -55,19 +59,23 @@ first_stays (s ∷ ss) stream schema says = says
 writes_more : (streams : List StreamAt) (stream : StreamAt) (a b : Option (List ℕ)) → WritesSome streams a b → WritesSome (streams ++ stream ∷ []) a b
 writes_more streams stream a b (inl same) = inl same
 writes_more streams stream a b (inr (schema, says, stopped)) =
-    inr (schema, first_stays streams stream schema says, stopped_before (plain_schema schema) (rows_held (streams ++ stream ∷ [])) (rows_held streams) stream.rows a b (rows_more streams stream) stopped)
+    inr (schema, first_stays streams stream schema says, stopped_before (numbered_schema schema) (rows_held (streams ++ stream ∷ [])) (rows_held streams) stream.rows a b (rows_more streams stream) stopped)
 
 -- why what came of a stream was not written, behind others
-no_more : (streams : List StreamAt) (stream : StreamAt) (fault : Fault) → WhyUnwritten stream fault → WhyNoMore (streams ++ stream ∷ []) fault
-no_more streams stream Transport why = tt
-no_more streams stream OutOfMemory why = tt
-no_more streams stream LimitReached long = record {
-  before = rows_held streams ++ long.before;
-  batch = long.batch;
-  are = rows_more streams stream ∙ ap (λ (rows : Rows). rows_held streams ++ rows) long.are ∙ sym (append_assoc (rows_held streams) long.before (rows_of long.batch));
-  long = long.long;
-}
-no_more streams stream _ why = absurd why
+no_more : (streams : List StreamAt) (stream : StreamAt) (schema : Schema) (fault : Fault) → SaysFirst (streams ++ stream ∷ []) schema → WhyUnwritten schema stream fault → WhyNoMore (streams ++ stream ∷ []) fault
+no_more streams stream schema Transport first why = tt
+no_more streams stream schema OutOfMemory first why = tt
+no_more streams stream schema LimitReached first long = (
+  schema,
+  first,
+  record {
+    before = rows_held streams ++ long.before;
+    batch = long.batch;
+    are = rows_more streams stream ∙ ap (λ (rows : Rows). rows_held streams ++ rows) long.are ∙ sym (append_assoc (rows_held streams) long.before (rows_of long.batch));
+    long = long.long;
+  },
+)
+no_more streams stream schema _ first why = absurd why
 
 -- behind streams that came whole, more came
 come_behind : (front rest : List EndpointSaid) (streams more : List StreamAt) (old middle new : Line) → FetchesEach front streams old middle → ComeSome rest more middle new
@@ -98,21 +106,55 @@ keeps_said : (stream : StreamAt) (before after : State) (batch : Option BatchAt)
 keeps_said stream before after None own is kept says = let k : KeepsSchema (Some says.0) after = rw (← is, says.1) at kept in (k.0, k.1, k.2 ∙ says.2)
 keeps_said stream before after (Some batch) own is kept says = let k : KeepsSchema (Some says.0) after = rw (← is, says.1) at kept in (k.0, k.1, k.2 ∙ says.2)
 
--- a batch of one schema is right by one with the same columns
-typed_by : (schema own : Schema) (stream : StreamAt) (batch : BatchAt) → SaysSchema stream own → same_fields schema.fields own.fields ≡ true → HasColumns (Some batch) stream.state → AreOfTypes schema.fields batch.columns
-typed_by schema own stream batch says same has =
-    let typed : AreOfTypes (says.0).schema.fields batch.columns = rw says.1 at has in
-    let own_typed : AreOfTypes own.fields batch.columns = rw says.2 at typed in
-    All-head (λ (b : BatchAt). AreOfTypes schema.fields b.columns) batch []
-    (typed_alike schema.fields own.fields (batch ∷ []) same (All-cons (λ (b : BatchAt). AreOfTypes own.fields b.columns) batch [] own_typed (All-nil (λ (b : BatchAt). AreOfTypes own.fields b.columns))))
+same_answered : (number : ℕ) (t other : DataType) → same_type (answered_at number t) other ≡ same_type t other
+same_answered number (Integer integer) other = refl
+same_answered number Utf8 other = refl
+same_answered number Flags other = refl
+same_answered number Decimal128 other = refl
+same_answered number Date other = refl
+same_answered number (Dictionary encoding) (Integer integer) = refl
+same_answered number (Dictionary encoding) Utf8 = refl
+same_answered number (Dictionary encoding) Flags = refl
+same_answered number (Dictionary encoding) Decimal128 = refl
+same_answered number (Dictionary encoding) Date = refl
+same_answered number (Dictionary encoding) (Dictionary other) = refl
+
+-- with other ids of their dictionaries they are the same columns
+same_numbered : (number : ℕ) (fields others : List Field) → same_fields (numbered_from number fields) others ≡ same_fields fields others
+same_numbered number [] [] = refl
+same_numbered number [] (other ∷ others) = refl
+same_numbered number (field ∷ fields) [] = refl
+same_numbered number (field ∷ fields) (other ∷ others) =
+    ap (λ (b : Bool). (same_name field other && b && same_flag field.nullable other.nullable) && same_fields (numbered_from (number + 1) fields) others) (same_answered number field.data_type other.data_type)
+    ∙ ap (λ (b : Bool). same_field field other && b) (same_numbered (number + 1) fields others)
+
+-- what comes of a stream has the columns of the schema that is written
+pub fits_written : (state : State) (known : Known) (schema own written : Schema) → state ≡ Some known → known.schema ≡ own → same_fields schema.fields own.fields ≡ true → written ≡ numbered_schema schema → FitsSchema state written
+fits_written state known schema own written is says same as_written =
+    let numbered : same_fields (numbered_schema schema).fields own.fields ≡ true = same_numbered 0 schema.fields own.fields ∙ same in
+    (known, is, rw (as_written, says) numbered)
+
+-- and so has what comes next
+pub fits_next : (before after : State) (written next : Schema) → FitsSchema before written → KeepsSchema before after → next ≡ written → FitsSchema after next
+fits_next before after written next fits kept same =
+    let k : KeepsSchema (Some fits.0) after = rw fits.1 at kept in
+    (k.0, k.1, rw (same, k.2) fits.2)
+
+-- its batches have a column for each field of that
+pub typed_by : (state : State) (written : Schema) (batch : BatchAt) → FitsSchema state written → HasColumns (Some batch) state → AreOfTypes written.fields batch.columns
+typed_by state written batch fits has =
+    let own = (fits.0).schema in
+    let typed : AreOfTypes own.fields batch.columns = rw fits.1 at has in
+    All-head (λ (b : BatchAt). AreOfTypes written.fields b.columns) batch []
+    (typed_alike written.fields own.fields (batch ∷ []) fits.2 (All-cons (λ (b : BatchAt). AreOfTypes own.fields b.columns) batch [] typed (All-nil (λ (b : BatchAt). AreOfTypes own.fields b.columns))))
 
 -- why a batch was not written
-unwritten_by : (stream : StreamAt) (before : Rows) (batch : BatchAt) (fault : Fault) → stream.rows ≡ before ++ rows_of batch → IsCause (batch ∷ []) fault → WhyUnwritten stream fault
-unwritten_by stream before batch Transport are cause = tt
-unwritten_by stream before batch OutOfMemory are cause = tt
-unwritten_by stream before batch LimitReached are cause =
-    record { before = before; batch = batch; are = are; long = λ short. cause (All-cons HasShortRows batch [] short (All-nil HasShortRows)) }
-unwritten_by stream before batch _ are cause = absurd cause
+unwritten_by : (schema : Schema) (stream : StreamAt) (before : Rows) (batch : BatchAt) (fault : Fault) → stream.rows ≡ before ++ rows_of batch → IsCause (numbered_schema schema) (batch ∷ []) fault → WhyUnwritten schema stream fault
+unwritten_by schema stream before batch Transport are cause = tt
+unwritten_by schema stream before batch OutOfMemory are cause = tt
+unwritten_by schema stream before batch LimitReached are cause =
+    record { before = before; batch = batch; are = are; long = λ short. cause (All-cons (HasShortRows (numbered_schema schema)) batch [] short (All-nil (HasShortRows (numbered_schema schema)))) }
+unwritten_by schema stream before batch _ are cause = absurd cause
 
 -- ---- a stream more joins
 
@@ -184,62 +226,68 @@ says_ended stream own end says = schema_there stream says.0 end says.1 ∙ ap (�
 -- ---- the batches of a stream
 
 -- a stream that begins has the columns of the schema that is written
-pub at_begin : (ticket : Payload) (schema own : Schema) (rows : Rows) (start : Option (List ℕ)) (begun : Line) (now : FetchAt) (out : Said) (waiting : List ℕ) (it : IsBegun ticket now.state begun now.line) → (it.known).schema ≡ own
-    → same_fields schema.fields own.fields ≡ true → SoFar (plain_schema schema) rows start out.bytes waiting → IsPassing ticket schema own rows start begun it.stream now out waiting
-at_begin ticket schema own rows start begun now out waiting it is same so = record {
+pub at_begin : (ticket : Payload) (schema own : Schema) (rows : Rows) (start : Option (List ℕ)) (begun : Line) (now : FetchAt) (out : Said) (writer : WriterAt) (it : IsBegun ticket now.state begun now.line) → (it.known).schema ≡ own
+    → same_fields schema.fields own.fields ≡ true → writer.schema ≡ numbered_schema schema → SoFar (numbered_schema schema) rows start out.bytes writer.waiting → IsPassing ticket schema own rows start begun it.stream now out writer
+at_begin ticket schema own rows start begun now out writer it is same written so = record {
   fetching = it.fetching;
   state = it.state_is;
   says = (it.known, it.state_is ∙ it.has_schema, is);
   same = same;
-  so = subst (λ (all : Rows). SoFar (plain_schema schema) all start out.bytes waiting) (sym (ap (λ (more : Rows). rows ++ more) it.no_rows ∙ append-nil rows)) so;
+  written = written;
+  so = subst (λ (all : Rows). SoFar (numbered_schema schema) all start out.bytes writer.waiting) (sym (ap (λ (more : Rows). rows ++ more) it.no_rows ∙ append-nil rows)) so;
 }
 
-module _ (ticket : Payload) (schema own : Schema) (rows : Rows) (start : Option (List ℕ)) (begun : Line) (stream : StreamAt) (now : FetchAt) (out : Said) (waiting : List ℕ)
-    (passing : IsPassing ticket schema own rows start begun stream now out waiting) where
+module _ (ticket : Payload) (schema own : Schema) (rows : Rows) (start : Option (List ℕ)) (begun : Line) (stream : StreamAt) (now : FetchAt) (out : Said) (writer : WriterAt)
+    (passing : IsPassing ticket schema own rows start begun stream now out writer) where
   -- a batch came
-  module _ (state : State) (line : Line) (batch : BatchAt) (fetching : IsFetching ticket (with_batch stream state (Some batch)) begun line) (kept : KeepsSchema now.state state) (has : HasColumns (Some batch) state) where
+  module _ (state : State) (line : Line) (batch : BatchAt) (fetching : IsFetching ticket (with_batch stream state (Some batch)) begun line) (kept : KeepsSchema now.state state) where
     abbrev with_it : StreamAt
     with_it = with_batch stream state (Some batch)
 
     says : SaysSchema with_it own
     says = keeps_said stream now.state state (Some batch) own passing.state kept passing.says
 
-    typed : AreOfTypes schema.fields batch.columns
-    typed = typed_by schema own with_it batch says passing.same has
-
     -- and was written
-    pub batch_passed : (next : FetchAt) (out' : Said) (after : List ℕ) → next.state ≡ state → next.line ≡ line → SendsBatch {A = Unit {0}} {E = Fault} (Ok tt) batch out.bytes out'.bytes waiting after
-        → IsPassing ticket schema own rows start begun with_it next out' after
-    batch_passed next out' after state_is line_is sends = record {
-      fetching = subst (λ (l : Line). IsFetching ticket with_it begun l) (sym line_is) fetching;
-      state = sym state_is;
-      says = says;
-      same = passing.same;
-      so = subst (λ (all : Rows). SoFar (plain_schema schema) all start out'.bytes after) (append_assoc rows stream.rows (rows_of batch)) (sends schema (rows ++ stream.rows) start typed passing.so);
-    }
+    pub batch_passed : (next : FetchAt) (out' : Said) (after : WriterAt) → next.state ≡ state → next.line ≡ line → after.schema ≡ writer.schema
+        → SendsBatch {A = Unit {0}} {E = Fault} (Ok tt) writer.schema batch out.bytes out'.bytes writer.waiting after.waiting → IsPassing ticket schema own rows start begun with_it next out' after
+    batch_passed next out' after state_is line_is kept_schema sends =
+        let sends : SendsBatch {A = Unit {0}} {E = Fault} (Ok tt) (numbered_schema schema) batch out.bytes out'.bytes writer.waiting after.waiting = rw passing.written at sends in
+        record {
+          fetching = subst (λ (l : Line). IsFetching ticket with_it begun l) (sym line_is) fetching;
+          state = sym state_is;
+          says = says;
+          same = passing.same;
+          written = kept_schema ∙ passing.written;
+          so = subst (λ (all : Rows). SoFar (numbered_schema schema) all start out'.bytes after.waiting) (append_assoc rows stream.rows (rows_of batch)) (sends (rows ++ stream.rows) start passing.so);
+        }
 
     -- or not
-    pub batch_stopped : (fault : Fault) (failure : Failure) (first out' : Said) (after : List ℕ) → failure ≡ Found fault → SendsBatch {A = Unit {0}} {E = Fault} (Err fault) batch out.bytes out'.bytes waiting after
-        → IsCause (batch ∷ []) fault → CountsTransport {A = Unit {0}} (Err fault) first.failures out'.failures
+    pub batch_stopped : (fault : Fault) (failure : Failure) (first out' : Said) (after : List ℕ) → failure ≡ Found fault
+        → SendsBatch {A = Unit {0}} {E = Fault} (Err fault) writer.schema batch out.bytes out'.bytes writer.waiting after
+        → IsCause writer.schema (batch ∷ []) fault → CountsTransport {A = Unit {0}} (Err fault) first.failures out'.failures
         → StopsPassing ticket schema own rows start begun failure line first out'
-    batch_stopped fault failure first out' after is sends cause counted = record {
-      stream = with_it;
-      some = line;
-      fetching = fetching;
-      says = says;
-      wrote = subst (λ (all : Rows). Stopped (plain_schema schema) all start out'.bytes) (append_assoc rows stream.rows (rows_of batch)) (sends schema (rows ++ stream.rows) start typed passing.so);
-      why = inr (fault, is, unwritten_by with_it stream.rows batch fault refl cause, counted, refl);
-    }
+    batch_stopped fault failure first out' after is sends cause counted =
+        let sends : SendsBatch {A = Unit {0}} {E = Fault} (Err fault) (numbered_schema schema) batch out.bytes out'.bytes writer.waiting after = rw passing.written at sends in
+        let cause : IsCause (numbered_schema schema) (batch ∷ []) fault = rw passing.written at cause in
+        record {
+          stream = with_it;
+          some = line;
+          fetching = fetching;
+          says = says;
+          wrote = subst (λ (all : Rows). Stopped (numbered_schema schema) all start out'.bytes) (append_assoc rows stream.rows (rows_of batch)) (sends (rows ++ stream.rows) start passing.so);
+          why = inr (fault, is, unwritten_by schema with_it stream.rows batch fault refl cause, counted, refl);
+        }
 
   -- the stream ended
   pub all_passed : (next : FetchAt) (first : Said) → FetchGives ticket (Ok (ended (with_batch stream next.state None))) begun next.line → KeepsSchema now.state next.state → out.failures ≡ first.failures
-      → HasPassed ticket schema own rows start begun next first out waiting
+      → HasPassed ticket schema own rows start begun next first out writer
   all_passed next first fetched kept quiet = record {
     stream = ended (with_batch stream next.state None);
     fetched = fetched;
     ended = refl;
     state = refl;
     says = keeps_said stream now.state next.state None own passing.state kept passing.says;
+    written = passing.written;
     so = passing.so;
     quiet = quiet;
   }
@@ -252,7 +300,7 @@ module _ (ticket : Payload) (schema own : Schema) (rows : Rows) (start : Option 
     some = now.line;
     fetching = passing.fetching;
     says = passing.says;
-    wrote = stopped_here (plain_schema schema) (rows ++ stream.rows) (rows ++ stream.rows) [] start out.bytes waiting (sym (append-nil (rows ++ stream.rows))) passing.so;
+    wrote = stopped_here (numbered_schema schema) (rows ++ stream.rows) (rows ++ stream.rows) [] start out.bytes writer.waiting (sym (append-nil (rows ++ stream.rows))) passing.so;
     why = inl (fetched, quiet);
   }
 
@@ -316,27 +364,28 @@ module _ (front behind : List EndpointSaid) (endpoint : EndpointSaid) (streams :
     streams = streams ++ stops.stream ∷ [];
     some = stops.some;
     came = came_next stops.stream stops.some stops.fetching;
-    wrote = inr (schema, says stops.stream stops.says, subst (λ (rows : Rows). Stopped (plain_schema schema) rows begun.bytes out.bytes) (sym (rows_more streams stops.stream)) stops.wrote);
+    wrote = inr (schema, says stops.stream stops.says, subst (λ (rows : Rows). Stopped (numbered_schema schema) rows begun.bytes out.bytes) (sym (rows_more streams stops.stream)) stops.wrote);
     why = by stops.why;
   }
     where
       by : ((FetchGives endpoint.ticket (Err failure) middle last × (out.failures ≡ mid.failures))
-          ⊎ ((fault : Fault) × (failure ≡ Found fault) × WhyUnwritten stops.stream fault × CountsTransport {A = Unit {0}} (Err fault) mid.failures out.failures × (last ≡ stops.some)))
+          ⊎ ((fault : Fault) × (failure ≡ Found fault) × WhyUnwritten schema stops.stream fault × CountsTransport {A = Unit {0}} (Err fault) mid.failures out.failures × (last ≡ stops.some)))
           → Stops (front ++ endpoint ∷ behind) (streams ++ stops.stream ∷ []) failure first stops.some last begun out
       by (inl (gives, still)) = inl (fetch_stops failure last gives, still ∙ quiet)
       by (inr (fault, is, why, counted, same)) =
-          inr (fault, is, no_more streams stops.stream fault why, subst (λ (n : ℕ). CountsTransport {A = Unit {0}} (Err fault) n out.failures) quiet counted, same)
+          inr (fault, is, no_more streams stops.stream schema fault (says stops.stream stops.says) why, subst (λ (n : ℕ). CountsTransport {A = Unit {0}} (Err fault) n out.failures) quiet counted, same)
 
   -- it came whole
-  pub stream_passed : (schema own : Schema) (now : FetchAt) (begun mid out : Said) (waiting : List ℕ) → ((stream : StreamAt) → SaysSchema stream own → SaysFirst (streams ++ stream ∷ []) schema) → mid.failures ≡ begun.failures
+  pub stream_passed : (schema own : Schema) (now : FetchAt) (begun mid out : Said) (writer : WriterAt) → ((stream : StreamAt) → SaysSchema stream own → SaysFirst (streams ++ stream ∷ []) schema) → mid.failures ≡ begun.failures
       → ((stream : StreamAt) → schema_said stream ≡ Ok own → joined (streams ++ stream ∷ []) ≡ Ok (held_table schema (streams ++ stream ∷ [])))
-      → HasPassed endpoint.ticket schema own (rows_held streams) begun.bytes middle now mid out waiting → HavePassed (front ++ endpoint ∷ []) first begun (record { line = now.line; schema = schema; waiting = waiting }) out
-  stream_passed schema own now begun mid out waiting says quiet join passed = record {
+      → HasPassed endpoint.ticket schema own (rows_held streams) begun.bytes middle now mid out writer → HavePassed (front ++ endpoint ∷ []) first begun (record { line = now.line; schema = schema; writer = writer }) out
+  stream_passed schema own now begun mid out writer says quiet join passed = record {
     streams = streams ++ passed.stream ∷ [];
     fetched = fetched_more front streams endpoint passed.stream first middle now.line fetched passed.fetched;
     says = says passed.stream passed.says;
     join = join passed.stream (says_ended passed.stream own passed.ended passed.says);
-    so = subst (λ (rows : Rows). SoFar (plain_schema schema) rows begun.bytes out.bytes waiting) (sym (rows_more streams passed.stream)) passed.so;
+    written = passed.written;
+    so = subst (λ (rows : Rows). SoFar (numbered_schema schema) rows begun.bytes out.bytes writer.waiting) (sym (rows_more streams passed.stream)) passed.so;
     quiet = passed.quiet ∙ quiet;
   }
 
@@ -344,19 +393,19 @@ module _ (front behind : List EndpointSaid) (endpoint : EndpointSaid) (streams :
 
 -- its schema was not sent
 pub schema_unsent : (endpoint : EndpointSaid) (behind : List EndpointSaid) (state : State) (schema : Schema) (fault : Fault) (first line : Line) (begun out : Said) (it : IsBegun endpoint.ticket state first line) → (it.known).schema ≡ schema
-    → Stopped (plain_schema schema) [] begun.bytes out.bytes → IsCause [] fault → CountsTransport {A = Unit {0}} (Err fault) begun.failures out.failures → StopsAmong (endpoint ∷ behind) (Found fault) first line begun out
+    → Stopped (numbered_schema schema) [] begun.bytes out.bytes → IsCause (numbered_schema schema) [] fault → CountsTransport {A = Unit {0}} (Err fault) begun.failures out.failures → StopsAmong (endpoint ∷ behind) (Found fault) first line begun out
 schema_unsent endpoint behind state schema fault first line begun out it is stopped cause counted = record {
   streams = it.stream ∷ [];
   some = line;
   came = inl (refl, it.fetching);
-  wrote = inr (schema, (it.known, it.state_is ∙ it.has_schema, is), subst (λ (rows : Rows). Stopped (plain_schema schema) rows begun.bytes out.bytes) (sym (append-nil it.stream.rows ∙ it.no_rows)) stopped);
+  wrote = inr (schema, (it.known, it.state_is ∙ it.has_schema, is), subst (λ (rows : Rows). Stopped (numbered_schema schema) rows begun.bytes out.bytes) (sym (append-nil it.stream.rows ∙ it.no_rows)) stopped);
   why = inr (fault, refl, by fault cause, counted, refl);
 }
   where
-    by : (fault : Fault) → IsCause [] fault → WhyNoMore (it.stream ∷ []) fault
+    by : (fault : Fault) → IsCause (numbered_schema schema) [] fault → WhyNoMore (it.stream ∷ []) fault
     by Transport cause = tt
     by OutOfMemory cause = tt
-    by LimitReached cause = absurd (cause (All-nil HasShortRows))
+    by LimitReached cause = absurd (cause (All-nil (HasShortRows (numbered_schema schema))))
     by _ cause = absurd cause
 
 -- ---- all streams
@@ -370,11 +419,11 @@ come_all (e ∷ es) (s ∷ ss) old new fetched = inr (fetched.0, fetched.1, come
 -- what was sent so far is written, or a beginning of it
 pub have_written : (endpoints : List EndpointSaid) (first : Line) (begun out : Said) (now : PassingAt) (passed : HavePassed endpoints first begun now out) → WritesSome passed.streams begun.bytes out.bytes
 have_written endpoints first begun out now passed =
-    inr (now.schema, passed.says, stopped_here (plain_schema now.schema) (rows_held passed.streams) (rows_held passed.streams) [] begun.bytes out.bytes now.waiting (sym (append-nil (rows_held passed.streams))) passed.so)
+    inr (now.schema, passed.says, stopped_here (numbered_schema now.schema) (rows_held passed.streams) (rows_held passed.streams) [] begun.bytes out.bytes (now.writer).waiting (sym (append-nil (rows_held passed.streams))) passed.so)
 
 module _ (wanted : Wanted) (endpoints : List EndpointSaid) (old middle : Line) (asked : Asks wanted (Ok endpoints) old middle) (begun out out' : Said) (now : PassingAt) (passed : HavePassed endpoints middle begun now out) where
   -- the end was written
-  pub all_streamed : WritesStream {A = Unit {0}} {E = Fault} (Ok tt) (plain_schema now.schema) (rows_held passed.streams) begun.bytes out'.bytes → out'.failures ≡ out.failures → Streams wanted (Ok tt) old now.line begun out'
+  pub all_streamed : WritesStream {A = Unit {0}} {E = Fault} (Ok tt) (numbered_schema now.schema) (rows_held passed.streams) begun.bytes out'.bytes → out'.failures ≡ out.failures → Streams wanted (Ok tt) old now.line begun out'
   all_streamed (stream, whole, wrote) quiet = record {
     table = held_table now.schema passed.streams;
     fetched = record { endpoints = endpoints; middle = middle; asked = asked; streams = passed.streams; fetched = passed.fetched; rows_are = passed.join };
@@ -385,7 +434,7 @@ module _ (wanted : Wanted) (endpoints : List EndpointSaid) (old middle : Line) (
   }
 
   -- or not
-  pub not_ended : (fault : Fault) → WritesStream {A = Unit {0}} {E = Fault} (Err fault) (plain_schema now.schema) (rows_held passed.streams) begun.bytes out'.bytes → fault ≡ Transport
+  pub not_ended : (fault : Fault) → WritesStream {A = Unit {0}} {E = Fault} (Err fault) (numbered_schema now.schema) (rows_held passed.streams) begun.bytes out'.bytes → fault ≡ Transport
       → CountsTransport {A = Unit {0}} (Err fault) out.failures out'.failures → Streams wanted (Err (Found fault)) old now.line begun out'
   not_ended fault stopped is counted = inr (record {
     endpoints = endpoints;

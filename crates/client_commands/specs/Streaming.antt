@@ -5,7 +5,6 @@ use Rattle.std.specs.Io.KnownBytes.{Appends}
 use Rattle.scan_base.specs.declared.fault.Fault.{Fault}
 use Rattle.scan_base.specs.declared.fault.Fault.TheVariants.{BadBatch, LimitReached, OutOfMemory, SchemaMismatch, Transport}
 use Rattle.arrow_schema.specs.declared.schema.Schema.{Schema}
-use Rattle.arrow_schema.specs.Answer.{plain_schema}
 use Rattle.arrays.specs.Batch.{BatchAt, rows_of}
 use Rattle.ipc_batch.specs.State.{Known}
 use Rattle.ipc_batch.specs.Said.{Rows}
@@ -13,7 +12,7 @@ use Rattle.table_versions.specs.Table.{Table, same_fields}
 use Rattle.flight_proto.specs.FlightInfo.{EndpointSaid}
 use Rattle.flight_proto.specs.Wanted.{Wanted}
 use Rattle.flight_client.specs.Stream.{StreamAt, schema_said}
-use Rattle.row_stream.specs.Stream.{CountsTransport, HasShortRows, IsWhole}
+use Rattle.row_stream.specs.Stream.{numbered_schema, CountsTransport, HasShortRows, IsWhole}
 use Rattle.row_stream.specs.Writing.{Stopped}
 use Rattle.client_calls.specs.declared.failure.Failure.{Failure}
 use Rattle.client_calls.specs.declared.failure.Failure.TheVariants.{Found}
@@ -50,7 +49,7 @@ SaysFirst (stream ∷ streams) schema = SaysSchema stream schema
 -- nothing; or a beginning of the Arrow IPC stream of these rows behind the first schema, which says some of them
 abbrev pub WritesSome : List StreamAt → Option (List ℕ) → Option (List ℕ) → Type 0
 WritesSome streams old new =
-    (new ≡ old) ⊎ ((schema : Schema) × SaysFirst streams schema × Stopped (plain_schema schema) (rows_held streams) old new)
+    (new ≡ old) ⊎ ((schema : Schema) × SaysFirst streams schema × Stopped (numbered_schema schema) (rows_held streams) old new)
 
 -- ---- why no more was, though no fetch failed
 
@@ -72,17 +71,17 @@ pub record SaysOther (streams : List StreamAt) : Type 0 where
   pub says : SaysSchema last other
   pub differ : same_fields schema.fields other.fields ≡ false
 
--- the last batch that came has a row of 2 to the 31 bytes or more
-pub record HasLongRow (rows : Rows) : Type 0 where
+-- the last batch that came has a row that takes 2 to the 31 bytes or more behind the schema that is written of these columns
+pub record HasLongRow (schema : Schema) (rows : Rows) : Type 0 where
   pub before : Rows
   pub batch : BatchAt
   pub are : rows ≡ before ++ rows_of batch
-  pub long : ¬ HasShortRows batch
+  pub long : ¬ HasShortRows (numbered_schema schema) batch
 
 abbrev pub WhyNoMore : List StreamAt → Fault → Type 0
 WhyNoMore streams BadBatch = LacksSchema streams
 WhyNoMore streams SchemaMismatch = SaysOther streams
-WhyNoMore streams LimitReached = HasLongRow (rows_held streams)
+WhyNoMore streams LimitReached = (schema : Schema) × SaysFirst streams schema × HasLongRow schema (rows_held streams)
 WhyNoMore streams OutOfMemory = Unit {0}
 WhyNoMore streams Transport = Unit {0}
 WhyNoMore streams _ = ⊥
@@ -94,7 +93,7 @@ pub record IsStreamed (wanted : Wanted) (old new : Line) (out out' : Said) : Typ
   pub table : Table
   pub fetched : IsFetched wanted table old new
   pub stream : List ℕ
-  pub whole : IsWhole (plain_schema table.schema) table.rows stream
+  pub whole : IsWhole (numbered_schema table.schema) table.rows stream
   pub wrote : Appends out.bytes out'.bytes stream
   pub quiet : out'.failures ≡ out.failures
 

@@ -12,7 +12,7 @@ ghost use Rattle.client_commands.specs.inside.Forms.{text_in};
 use crate::connecting::{end_unconnected, open};
 use crate::lost::Lost;
 use crate::spreading::fetch_spread;
-use crate::streaming::stream_rows;
+use crate::streaming::{Writing, stream_rows};
 use crate::telling::{end_by_failure, end_by_printing};
 use client_calls::Failure;
 use command_ends::{Connect, ExitStatus};
@@ -20,13 +20,14 @@ use command_line::Format;
 use csv_rows::write_csv;
 use flight_client::Rows;
 use grpc_frame::Output;
+use hash_seed::HashSeed;
 use row_lines::write_rows;
 use row_table::write_table;
 use std::alloc::Global;
 use std::thread::Threads;
 
 /// A query, and where the server listens.
-#[derive(Clone, Copy, Debug, PartialEq, Eq)]
+#[derive(Clone, Copy)]
 pub struct Querying<'a> {
     /// The server's port.
     pub port: u16,
@@ -36,6 +37,8 @@ pub struct Querying<'a> {
     pub sql: &'a str,
     /// How its rows are printed.
     pub format: Format,
+    /// What the hashes begin with by which the texts of dictionaries are looked up, where they are written.
+    pub seed: HashSeed,
 }
 
 /// Prints the rows that a query answers, in the order of the endpoints: a line of the columns' names, and a line for each
@@ -72,7 +75,11 @@ where
         Err(error) => return end_unconnected(alloc, faults, query.port, &error),
     };
     let Some(form) = text_form(query.format) else {
-        let streamed = stream_rows(alloc, connection, output, query.sql);
+        let writing = Writing {
+            alloc,
+            seed: query.seed,
+        };
+        let streamed = stream_rows(writing, connection, output, query.sql);
         return end_by_streaming(faults, streamed);
     };
     match fetch_spread(rt, alloc, network, connection, query) {

@@ -8,23 +8,32 @@ ghost use Rattle.flight_info.specs.Payloads.{Payload};
 ghost use Rattle.flight_proto.specs.FlightInfo.{EndpointSaid, endpoint_said};
 ghost use Rattle.flight_proto.specs.Wanted.{rows_of};
 ghost use Rattle.flight_client.specs.Stream.{StreamAt};
+ghost use Rattle.row_stream.specs.Stream.{numbered_schema};
 ghost use Rattle.client_calls.specs.Outcome.{Line};
 ghost use Rattle.command_ends.specs.Printing.{Said, said_of};
 ghost use Rattle.client_commands.specs.Lines.{CanCount};
 ghost use Rattle.client_commands.specs.Streaming.{Streams};
-ghost use Rattle.client_commands.specs.inside.Passing.{HavePassed, IsPassing, Passes, PassesBatches};
+ghost use Rattle.client_commands.specs.inside.Passing.{FitsSchema, HavePassed, IsPassing, Passes, PassesBatches};
 
 use arrow_schema::Schema;
 use client_calls::{Connection, Failure, Fetching, info};
 use flight_proto::{FlightEndpoint, Wanted};
 use grpc_frame::{Input, Output};
+use hash_seed::HashSeed;
 use row_stream::StreamWriter;
 use scan_base::Fault;
 use std::alloc::Global;
 use std::marker::Model;
 use table_versions::same_fields;
 
-// What goes on from one stream to the next: the connection, the schema of the first stream, and what is written.
+/// Whence memory is taken, and what the hashes of texts begin with.
+#[derive(Clone, Copy)]
+pub(crate) struct Writing {
+    pub(crate) alloc: Global,
+    pub(crate) seed: HashSeed,
+}
+
+// What goes on from one stream to the next: the connection, the schema of the first stream, and who writes.
 struct Passing<R: Input, W: Output> {
     connection: Connection<R, W>,
     schema: Schema,
@@ -36,11 +45,12 @@ impl<R: Input, W: Output> Model for Passing<R, W> {
 
     ghost Value = { PassingAt };
 
-    ghost view = { λ p. record { line = p.connection; schema = p.schema; waiting = p.writer } };
+    ghost view = { λ p. record { line = p.connection; schema = p.schema; writer = p.writer } };
 }
 
 /// Writes the rows that a query answers as an Arrow IPC stream, batch by batch as they come: asks where they are, and fetches
-/// the stream of each endpoint in turn. Memory holds one payload at a time, and dictionaries.
+/// the stream of each endpoint in turn. Each batch is written behind dictionaries of its own texts, whatever dictionaries came.
+/// Memory holds one payload at a time, and dictionaries.
 ///
 /// # Errors
 ///
@@ -51,7 +61,7 @@ impl<R: Input, W: Output> Model for Passing<R, W> {
 /// - F11 (`Fault::SchemaMismatch`) where one has other columns than the first. None of its rows is written.
 /// - F12 (`Fault::LimitReached`), F21 and F22 as `StreamWriter` gives them.
 pub(crate) fn stream_rows<R: Input + Drop, W: Output + Drop, O: Output>(
-    alloc: Global,
+    writing: Writing,
     mut connection: Connection<R, W>,
     output: &mut O,
     sql: &str,
@@ -61,13 +71,13 @@ pub(crate) fn stream_rows<R: Input + Drop, W: Output + Drop, O: Output>(
     ensures { (last : Line) × Streams (rows_of sql.now) result connection last
         (said_of O.Output output.old) (said_of O.Output output.new) }
 {
-    let endpoints = info(alloc, &mut connection, Wanted::Rows(sql))?;
+    let endpoints = info(writing.alloc, &mut connection, Wanted::Rows(sql))?;
     let [first, others @ ..] = endpoints.as_slice() else {
         unreachable!()
     };
-    let mut passing = pass_first(alloc, connection, output, first)?;
+    let mut passing = pass_first(writing, connection, output, first)?;
     for endpoint in others {
-        passing = pass_next(alloc, passing, output, endpoint)?;
+        passing = pass_next(writing.alloc, passing, output, endpoint)?;
     }
     let Passing {
         connection: _,
@@ -79,7 +89,7 @@ pub(crate) fn stream_rows<R: Input + Drop, W: Output + Drop, O: Output>(
 
 // Passes the stream of the first endpoint on.
 fn pass_first<R: Input + Drop, W: Output + Drop, O: Output>(
-    alloc: Global,
+    writing: Writing,
     connection: Connection<R, W>,
     output: &mut O,
     endpoint: &FlightEndpoint,
@@ -89,8 +99,9 @@ fn pass_first<R: Input + Drop, W: Output + Drop, O: Output>(
     ensures { Passes (λ passing. passing) result [] (endpoint_said endpoint.now) connection
         (said_of O.Output output.old) (said_of O.Output output.new) }
 {
+    let Writing { alloc, seed } = writing;
     let mut fetching = Fetching::begin(alloc, connection, &endpoint.ticket)?;
-    let mut writer = StreamWriter::begin(alloc, output, fetching.schema())?;
+    let mut writer = StreamWriter::begin(alloc, seed, output, fetching.schema())?;
     pass_batches(alloc, &mut fetching, &mut writer, output)?;
     let (connection, schema) = fetching.end();
     Ok(Passing {
@@ -108,6 +119,7 @@ fn pass_next<R: Input + Drop, W: Output + Drop, O: Output>(
     endpoint: &FlightEndpoint,
 ) -> Result<Passing<R, W>, Failure>
     requires calls { CanCount passing.line }
+    requires written { passing.writer.schema ≡ numbered_schema passing.schema }
     requires writes { CanFail (O.failures output.old) }
     ensures { (front : List EndpointSaid) (first : Line) (begun : Said) →
         HavePassed front first begun passing (said_of O.Output output.old) →
@@ -141,6 +153,7 @@ fn pass_batches<R: Input + Drop, W: Output + Drop, O: Output>(
 ) -> Result<(), Failure>
     requires reads { CanFail (fetching.old.line.incoming.failed) }
     requires writes { CanFail (O.failures output.old) }
+    requires fits { FitsSchema fetching.old.state writer.old.schema }
     ensures { (ticket : Payload) (schema own : Schema) (rows : Rows) (start : Option (List ℕ)) (begun : Line) (stream : StreamAt) →
         stream.rows ≡ [] →
         IsPassing ticket schema own rows start begun stream fetching.old (said_of O.Output output.old) writer.old →
@@ -148,7 +161,7 @@ fn pass_batches<R: Input + Drop, W: Output + Drop, O: Output>(
         (said_of O.Output output.old) (said_of O.Output output.new) writer.new }
 {
     while let Some(batch) = fetching.next(alloc)? {
-        writer.write_batch(alloc, output, &batch)?;
+        writer.write_batch(output, &batch)?;
     }
     Ok(())
 }

@@ -7,7 +7,7 @@ use Rattle.dictionary_answers.specs.declared.batches.ColumnDictionary.{ColumnDic
 use Rattle.dictionary_answers.specs.Answer.{dictionary_seen}
 use Rattle.ipc_batch.specs.Said.{Sent}
 use Rattle.ipc_batch.specs.Written.{most_header_bytes, SaysValues}
-use Rattle.dressed_batches.specs.Dress.{IsMessageOf}
+use Rattle.dressed_batches.specs.Dress.{ClaimsAll, IsMessageOf}
 use Rattle.dressed_batches.specs.Lengths.{bodies_length}
 use Rattle.dressed_batches.specs.inside.Written.{written_length, all_written}
 
@@ -32,6 +32,13 @@ messages_said [] [] all = tt
 messages_said (d ∷ dictionaries) (s ∷ sents) all = (all.0.said, messages_said dictionaries sents all.1)
 messages_said [] (s ∷ sents) all = absurd all
 messages_said (d ∷ dictionaries) [] all = absurd all
+
+-- which claim all of their bodies
+pub messages_claim : (dictionaries : List ColumnDictionary) (sents : List Sent) → AllZip IsMessageOf dictionaries sents → All ClaimsAll sents
+messages_claim [] [] all = All-nil ClaimsAll
+messages_claim (d ∷ dictionaries) (s ∷ sents) all = All-cons ClaimsAll s sents all.0.claims (messages_claim dictionaries sents all.1)
+messages_claim [] (s ∷ sents) all = absurd all
+messages_claim (d ∷ dictionaries) [] all = absurd all
 
 -- in short headers
 pub messages_short : (dictionaries : List ColumnDictionary) (sents : List Sent) → AllZip IsMessageOf dictionaries sents → All (λ (sent : Sent). length sent.header ≤ most_header_bytes) sents

@@ -14,7 +14,7 @@ use Rattle.dressed_batches.specs.declared.dressed.DressedBatch.{DressedBatch}
 use Rattle.dressed_batches.specs.Dress.{AreDressable, AreNumbered, IsDressedBatch, IsMessageOf}
 use Rattle.dressed_batches.proofs.Dressing.{adds_rows, batch_cells, dictionaries_whole, dressable_coded}
 use Rattle.dressed_batches.proofs.Lengths.{written_short}
-use Rattle.dressed_batches.proofs.Sent.{messages_length, messages_said, messages_short}
+use Rattle.dressed_batches.proofs.Sent.{messages_claim, messages_length, messages_said, messages_short}
 
 -- there are as many columns
 answered_many : (fields : List Field) (columns made : List ColumnAt) → AreAnswered fields columns made → length made ≡ length columns
@@ -37,6 +37,7 @@ dressed_whole typed schema batch made dictionaries long few numbered are stand s
       coded = dictionaries_whole schema 0 fields columns (map dictionary_seen dictionaries) sents (rows_of batch) batch.rows (λ id any. any)
           (dressable_coded typed fields columns stand are) numbered (batch_cells batch long) long few seen (messages_said dictionaries sents all);
       adds = λ sent says. adds_rows schema batch made.batch sent long numbered are answered same says;
+      claim = messages_claim dictionaries sents all;
       short = messages_short dictionaries sents all;
       sized = omega (arith, messages_length dictionaries sents all, written_short 0 fields columns made.batch.columns dictionaries answered seen);
       many = answered_many fields columns made.batch.columns answered;

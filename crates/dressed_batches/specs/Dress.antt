@@ -1,11 +1,12 @@
 -- Batches over their own texts, behind the messages of these.
-use Rattle.std.specs.Prelude.{◌≡◌, ◌≤◌, ℕ, ◌+◌, false, List, [], ◌∷◌, All, length, map}
+use Rattle.std.specs.Prelude.{◌≡◌, ◌≤◌, ℕ, ◌+◌, false, List, [], ◌∷◌, All, length, map, Ok}
 use Rattle.std.specs.List.{AllZip}
 use Rattle.arrow_schema.specs.declared.data_type.IntegerType.TheVariants.{Int32}
 use Rattle.arrow_schema.specs.declared.data_type.DataType.{DataType}
 use Rattle.arrow_schema.specs.declared.data_type.DataType.TheVariants.{Dictionary}
 use Rattle.arrow_schema.specs.declared.schema.Field.{Field}
 use Rattle.arrow_schema.specs.declared.schema.Schema.{Schema}
+use Rattle.arrow_schema.specs.Header.{MessageAt, message_of, body_length_of}
 use Rattle.arrays.specs.declared.layout.Layout.{Layout}
 use Rattle.arrays.specs.declared.layout.Layout.TheVariants as layout
 use Rattle.arrays.specs.Batch.{BatchAt, rows_of}
@@ -48,9 +49,16 @@ AreDressable [] [] = Unit {0}
 AreDressable (field ∷ fields) (column ∷ columns) = IsDressable field.data_type column × AreDressable fields columns
 AreDressable _ _ = ⊥
 
+-- the header of a message claims all of its body
+pub record ClaimsAll (sent : Sent) : Type 0 where
+  pub message : MessageAt
+  pub found : message_of sent.header ≡ Ok message
+  pub claimed : body_length_of message ≡ Ok (length sent.body)
+
 -- a message that is written of a dictionary says all of it, in a header and a body of so many bytes
 pub record IsMessageOf (dictionary : ColumnDictionary) (sent : Sent) : Type 0 where
   pub said : SaysValues sent dictionary.number (texts_values dictionary.texts) false
+  pub claims : ClaimsAll sent
   pub short : length sent.header ≤ most_header_bytes
   pub sized : length sent.body ≡ body_length (values_batch dictionary.texts)
 
@@ -60,6 +68,7 @@ pub record IsDressedBatch (schema : Schema) (batch : BatchAt) (made : DressedBat
   pub coded : AllZip (λ number sent. SaysWhole schema number (firsts (cells_in number (rows_of batch))) sent)
       (coded_from 0 schema.fields) (map written_seen made.dictionaries.items)
   pub adds : (sent : Sent) → SaysBatch sent made.batch → AddsRows schema (rows_of batch) sent
+  pub claim : All ClaimsAll (map written_seen made.dictionaries.items)
   pub short : All (λ (sent : Sent). length sent.header ≤ most_header_bytes) (map written_seen made.dictionaries.items)
   pub sized : bodies_length (map written_seen made.dictionaries.items) + body_length made.batch
       ≤ dressed_length schema.fields batch.columns

@@ -76,7 +76,8 @@ where
     }
 }
 
-// Runs a command. A client connects by this network.
+// Runs a command. A client connects by this network. Where the system gives no random bytes to one that needs them, this end
+// fails, as where it does not read or write.
 fn run<R, C: Connect + Drop + Send, I: Input, W: Output, E: Output>(
     rt: &R,
     network: &mut C,
@@ -121,11 +122,15 @@ where
             sql,
             progress: _,
         } => {
+            let Ok(seed) = HashSeed::new(rt) else {
+                return end_by_fault(faults, Fault::Transport);
+            };
             let querying = Querying {
                 port,
                 streams,
                 sql,
                 format,
+                seed,
             };
             query(rt, rt.alloc(), network, output, faults, querying)
         }

@@ -1,10 +1,10 @@
 -- A batch that is sent cut by cut.
 use Rattle.std.proofs.Common.{◌≡◌, ◌≤◌, ℕ, zero, suc, ◌+◌, ◌-◌, List, [], ◌∷◌, ◌++◌, length, map, take, drop, Option, refl, sym, ap, subst, ◌∙◌, append-nil, append_assoc, arith}
+use Rattle.std.specs.List.{flat_map}
 use Rattle.std.proofs.Math.Seq.{take-add}
 use Rattle.std.proofs.lemmas.List.{take_all}
 use Rattle.arrow_schema.specs.declared.schema.Field.{Field}
 use Rattle.arrow_schema.specs.declared.schema.Schema.{Schema}
-use Rattle.arrow_schema.specs.Answer.{plain_schema}
 use Rattle.arrays.specs.Column.{ColumnAt, cut}
 use Rattle.arrays.specs.Batch.{BatchAt, rows_of, cut_batch}
 use Rattle.arrays.specs.Typed.{AreOfTypes}
@@ -55,7 +55,7 @@ cut_none : (batch : BatchAt) → rows_of (cut_batch batch 0 0) ≡ []
 cut_none batch = batches_keep batch 0 0 (omega arith) (omega arith)
 
 -- slices of columns are of their types
-cut_typed : (fields : List Field) (columns : List ColumnAt) (from to : ℕ) → AreOfTypes fields columns → AreOfTypes fields (map (λ column. cut column from to) columns)
+pub cut_typed : (fields : List Field) (columns : List ColumnAt) (from to : ℕ) → AreOfTypes fields columns → AreOfTypes fields (map (λ column. cut column from to) columns)
 cut_typed [] [] from to typed = tt
 cut_typed (field ∷ fields) (column ∷ columns) from to typed = (typed.0, cut_typed fields columns from to typed.1)
 cut_typed [] (column ∷ columns) from to typed = absurd typed
@@ -64,27 +64,27 @@ cut_typed (field ∷ fields) [] from to typed = absurd typed
 -- ---- what was sent of it
 
 -- the rows of a batch up to one were sent
-abbrev pub SentTo : BatchAt → ℕ → Option (List ℕ) → Option (List ℕ) → List ℕ → List ℕ → Type 0
-SentTo batch at old new before after = SentBehind batch (rows_of (cut_batch batch 0 at)) old new before after
+abbrev pub SentTo : Schema → BatchAt → ℕ → Option (List ℕ) → Option (List ℕ) → List ℕ → List ℕ → Type 0
+SentTo schema batch at old new before after = SentBehind schema (rows_of (cut_batch batch 0 at)) old new before after
 
-pub sent_none : (batch : BatchAt) (old : Option (List ℕ)) (before : List ℕ) → SentTo batch 0 old old before before
-sent_none batch old before schema rows start typed so =
-    subst (λ (r : Rows). SoFar (plain_schema schema) r start old before) (sym (ap (λ (l : Rows). rows ++ l) (cut_none batch) ∙ append-nil rows)) so
+pub sent_none : (schema : Schema) (batch : BatchAt) (old : Option (List ℕ)) (before : List ℕ) → SentTo schema batch 0 old old before before
+sent_none schema batch old before rows start so =
+    subst (λ (r : Rows). SoFar schema r start old before) (sym (ap (λ (l : Rows). rows ++ l) (cut_none batch) ∙ append-nil rows)) so
 
-pub sent_all : (batch : BatchAt) (at : ℕ) (old new : Option (List ℕ)) (before after : List ℕ) → at ≡ batch.rows → SentTo batch at old new before after → SentBehind batch (rows_of batch) old new before after
-sent_all batch at old new before after all sent schema rows start typed so =
-    subst (λ (l : Rows). SoFar (plain_schema schema) (rows ++ l) start new after) (cut_whole batch at all) (sent schema rows start typed so)
+pub sent_all : (schema : Schema) (batch : BatchAt) (at : ℕ) (old new : Option (List ℕ)) (before after : List ℕ) → at ≡ batch.rows → SentTo schema batch at old new before after → SentBehind schema (rows_of batch) old new before after
+sent_all schema batch at old new before after all sent rows start so =
+    subst (λ (l : Rows). SoFar schema (rows ++ l) start new after) (cut_whole batch at all) (sent rows start so)
 
 -- a cut more
-pub sent_cut : (batch : BatchAt) (at most : ℕ) (cut : Cut) (a b c : Option (List ℕ)) (before mid after : List ℕ) → IsCut batch at most cut → SentTo batch at a b before mid
-    → Sent b c mid after (frame cut.message) → SentTo batch cut.end a c before after
-sent_cut batch at most cut a b c before mid after is sent more schema rows start typed so =
+pub sent_cut : (schema : Schema) (batch : BatchAt) (at most : ℕ) (cut : Cut) (a b c : Option (List ℕ)) (before mid after : List ℕ) → IsCut schema batch at most cut → SentTo schema batch at a b before mid
+    → Sent b c mid after (flat_map frame cut.parcel) → SentTo schema batch cut.end a c before after
+sent_cut schema batch at most cut a b c before mid after is sent more rows start so =
     let some = rows ++ rows_of (cut_batch batch 0 at) in
     let part = cut_batch batch at cut.end in
     let join : some ++ rows_of part ≡ rows ++ rows_of (cut_batch batch 0 cut.end) =
     append_assoc rows (rows_of (cut_batch batch 0 at)) (rows_of part) ∙ ap (λ (l : Rows). rows ++ l) (cuts_join batch 0 at cut.end (omega arith) (omega (arith, is.forth)) is.within) in
-    subst (λ (r : Rows). SoFar (plain_schema schema) r start c after) join
-    (went_on schema some part start b c mid after (sent schema rows start typed so) (cut_typed schema.fields batch.columns at cut.end typed) (record { message = cut.message; fits = is.fits; tells = is.says; sent = more }))
+    subst (λ (r : Rows). SoFar schema r start c after) join
+    (went_on schema some part start b c mid after (sent rows start so) cut.parcel is.says more)
 
 -- what is left behind the rows up to one
 left_behind : (batch : BatchAt) (at : ℕ) (rows : Rows) → at ≤ batch.rows → rows ++ rows_of batch ≡ (rows ++ rows_of (cut_batch batch 0 at)) ++ rows_of (cut_batch batch at batch.rows)
@@ -93,20 +93,20 @@ left_behind batch at rows within =
     ∙ ap (λ (l : Rows). rows ++ l) (cuts_join batch 0 at batch.rows (omega arith) within (omega arith) ∙ cut_whole batch batch.rows refl))
 
 -- no more was sent
-pub sent_no_more : (batch : BatchAt) (at : ℕ) (old new : Option (List ℕ)) (before after : List ℕ) → at ≤ batch.rows → SentTo batch at old new before after
-    → (schema : Schema) (rows : Rows) (start : Option (List ℕ)) → AreOfTypes schema.fields batch.columns → SoFar (plain_schema schema) rows start old before → Stopped (plain_schema schema) (rows ++ rows_of batch) start new
-sent_no_more batch at old new before after within sent schema rows start typed so =
-    stopped_here (plain_schema schema) (rows ++ rows_of batch) (rows ++ rows_of (cut_batch batch 0 at)) (rows_of (cut_batch batch at batch.rows)) start new after (left_behind batch at rows within) (sent schema rows start typed so)
+pub sent_no_more : (schema : Schema) (batch : BatchAt) (at : ℕ) (old new : Option (List ℕ)) (before after : List ℕ) → at ≤ batch.rows → SentTo schema batch at old new before after
+    → (rows : Rows) (start : Option (List ℕ)) → SoFar schema rows start old before → Stopped schema (rows ++ rows_of batch) start new
+sent_no_more schema batch at old new before after within sent rows start so =
+    stopped_here schema (rows ++ rows_of batch) (rows ++ rows_of (cut_batch batch 0 at)) (rows_of (cut_batch batch at batch.rows)) start new after (left_behind batch at rows within) (sent rows start so)
 
 -- a cut more of which a write failed
-pub cut_not_sent : (batch : BatchAt) (at most : ℕ) (cut : Cut) (a b c : Option (List ℕ)) (before mid after : List ℕ) → IsCut batch at most cut → SentTo batch at a b before mid
-    → NotSent b c mid after (frame cut.message)
-    → (schema : Schema) (rows : Rows) (start : Option (List ℕ)) → AreOfTypes schema.fields batch.columns → SoFar (plain_schema schema) rows start a before → Stopped (plain_schema schema) (rows ++ rows_of batch) start c
-cut_not_sent batch at most cut a b c before mid after is sent failed schema rows start typed so =
+pub cut_not_sent : (schema : Schema) (batch : BatchAt) (at most : ℕ) (cut : Cut) (a b c : Option (List ℕ)) (before mid after : List ℕ) → IsCut schema batch at most cut → SentTo schema batch at a b before mid
+    → NotSent b c mid after (flat_map frame cut.parcel)
+    → (rows : Rows) (start : Option (List ℕ)) → SoFar schema rows start a before → Stopped schema (rows ++ rows_of batch) start c
+cut_not_sent schema batch at most cut a b c before mid after is sent failed rows start so =
     let some = rows ++ rows_of (cut_batch batch 0 at) in
     let part = cut_batch batch at cut.end in
     let others = rows_of (cut_batch batch cut.end batch.rows) in
     let join : rows_of part ++ others ≡ rows_of (cut_batch batch at batch.rows) = cuts_join batch at cut.end batch.rows (omega (arith, is.forth)) is.within (omega arith) in
     let splits : rows ++ rows_of batch ≡ (some ++ rows_of part) ++ others =
     left_behind batch at rows (omega (arith, is.forth, is.within)) ∙ ap (λ (l : Rows). some ++ l) (sym join) ∙ sym (append_assoc some (rows_of part) others) in
-    stopped schema (rows ++ rows_of batch) some others part start b c mid after splits (sent schema rows start typed so) (cut_typed schema.fields batch.columns at cut.end typed) cut.message is.fits is.says failed
+    stopped schema (rows ++ rows_of batch) some others part start b c mid after splits (sent rows start so) cut.parcel is.says failed

@@ -1,6 +1,7 @@
 pub mod Parts
 pub mod Messages
-pub mod Plain
+pub mod Numbers
+pub mod Dressed
 pub mod Causes
 pub mod SoFar
 pub mod Cuts

@@ -1,5 +1,5 @@
 -- Written messages may stand in a stream, and what they say.
-use Rattle.std.proofs.Common.{◌≡◌, ◌⊎◌, inl, inr, ◌==◌, ◌<◌, ◌≤◌, ◌^◌, ℕ, List, [], ◌∷◌, ◌++◌, length, map, None, Some, Ok, refl, sym, ap, subst, ◌∙◌, append-nil, arith}
+use Rattle.std.proofs.Common.{◌≡◌, inl, ◌==◌, ◌<◌, ◌≤◌, ◌^◌, ℕ, List, [], ◌∷◌, ◌++◌, length, map, None, Some, Ok, refl, sym, ap, subst, ◌∙◌, arith}
 use Rattle.std.specs.List.{range_with_len}
 use Rattle.std.proofs.lemmas.List.{map-append, length-map}
 use Rattle.std.proofs.lemmas.List.FromFn.{length-range_with_len}
@@ -8,28 +8,24 @@ use Rattle.scan_base.specs.declared.fault.Fault.TheVariants.{UnsupportedArrow}
 use Rattle.flatbuf.specs.Layout.{TableAt}
 use Rattle.flatbuf.specs.Place.{root_of, scalar_of}
 use Rattle.arrow_schema.specs.declared.header.HeaderKind.TheVariants as kinds
-use Rattle.arrow_schema.specs.declared.schema.Field.{Field}
 use Rattle.arrow_schema.specs.declared.schema.Schema.{Schema}
-use Rattle.arrow_schema.specs.Answer.{copied_type, plain_schema}
 use Rattle.arrow_schema.specs.Header.{MessageAt, header_kind, message_of, body_length_of, schema_in, schema_message_of, schema_of}
 use Rattle.arrow_schema.specs.Schema.{IsSchema}
 use Rattle.arrow_schema.specs.Written.{schema_part, schema_bytes}
 use Rattle.arrow_schema.proofs.Messages.{messages_read}
 use Rattle.arrow_schema.proofs.Again.{whole_schema, short_schema, schemas_read}
-use Rattle.arrays.specs.Column.{ColumnAt}
 use Rattle.arrays.specs.Batch.{BatchAt, row_of, rows_of}
-use Rattle.arrays.specs.Typed.{AreOfTypes}
 use Rattle.ipc_batch.specs.State.{Known}
 use Rattle.ipc_batch.specs.Parts.{body_claimed}
 use Rattle.ipc_batch.specs.Said.{Sent, News, Rows, schema_sent, news_of, Follows, Says}
+use Rattle.ipc_batch.specs.Dressed.{AreDressed}
 use Rattle.ipc_batch.specs.Written.{WrittenParts, SaysParts, most_header_bytes}
-use Rattle.plain_batches.specs.Plain.{SaysAnswered}
 use Rattle.ipc_batch.proofs.Lengths.{fine, both}
 use Rattle.ipc_batch.proofs.Messages.{joined}
+use Rattle.ipc_batch.proofs.Dressing.{dressed_say}
 use Rattle.ipc_stream.specs.declared.message.IpcMessage.{IpcMessage}
 use Rattle.ipc_stream.specs.Stream.{announced, frame, IsMessage}
-use Rattle.row_stream.specs.Stream.{sent_in, most_body_bytes, HasShortBody}
-use Rattle.row_stream.specs.inside.Cuts.{SaysShort}
+use Rattle.row_stream.specs.Stream.{sent_in, HasShortBody}
 use Rattle.row_stream.specs.inside.Frames.{SaysSchema}
 
 -- the table of a message is the root of its buffer
@@ -79,13 +75,6 @@ pub batch_fits : (header body : List ℕ) (parts : WrittenParts) → SaysParts (
     → IsMessage (record { header = header; body = body })
 batch_fits header body parts says short small = claims header body says.message says.found says.claimed (omega (arith, short)) (omega (arith, small))
 
--- there are as many columns as fields
-pub columns_many : (fields : List Field) (columns : List ColumnAt) → AreOfTypes fields columns → length columns ≡ length fields
-columns_many [] [] typed = refl
-columns_many [] (column ∷ columns) typed = absurd typed
-columns_many (field ∷ fields) [] typed = absurd typed
-columns_many (field ∷ fields) (column ∷ columns) typed = omega (arith, columns_many fields columns typed.1)
-
 -- ---- what messages say
 
 -- a schema alone says no rows
@@ -95,24 +84,14 @@ first_said message schema tells =
     let news : News = record { state = Some known; batch = None } in
     (known, refl, (news, [], tells.said, refl, (refl, refl)))
 
-types_answered : (fields : List Field) → map (λ (field : Field). field.data_type) (plain_schema (record { fields = fields })).fields ≡ map (λ (field : Field). copied_type field.data_type) fields
-types_answered [] = refl
-types_answered (field ∷ fields) = ap (λ l. copied_type field.data_type ∷ l) (types_answered fields)
-
--- one batch more says its rows behind the others
-pub more_said : (messages : List IpcMessage) (message : IpcMessage) (schema : Schema) (rows : Rows) (batch : BatchAt) → SaysAnswered (sent_in message) batch → AreOfTypes schema.fields batch.columns
-    → Says (map sent_in messages) (plain_schema schema) rows → Says (map sent_in (messages ++ message ∷ [])) (plain_schema schema) (rows ++ rows_of batch)
-more_said messages message schema rows batch tells typed said =
-    let sent = map sent_in messages in
+-- a batch more says its rows behind the others
+pub more_said : (front more : List IpcMessage) (schema : Schema) (rows new : Rows) → AreDressed schema (map sent_in more) new → Says (map sent_in front) schema rows → Says (map sent_in (front ++ more)) schema (rows ++ new)
+more_said front more schema rows new dressed said =
     let known = said.0 in
-    let same : map (λ (field : Field). field.data_type) known.schema.fields ≡ map (λ (field : Field). copied_type field.data_type) schema.fields =
-    rw said.1 (types_answered schema.fields) in
-    let read = tells known schema.fields typed same in
-    let news : News = record { state = Some known; batch = Some read.0 } in
-    let one : Follows (Some known) (sent_in message ∷ []) (Some known) (rows_of read.0) = (news, [], read.1, sym (append-nil (rows_of read.0)), (refl, refl)) in
-    let all : Follows None (sent ++ sent_in message ∷ []) (Some known) (rows ++ rows_of read.0) = joined None sent (sent_in message ∷ []) (Some known) (Some known) rows (rows_of read.0) said.2 one in
-    subst (λ (l : List Sent). Says l (plain_schema schema) (rows ++ rows_of batch)) (sym (map-append sent_in messages (message ∷ [])))
-    (known, said.1, subst (λ (more : Rows). Follows None (sent ++ sent_in message ∷ []) (Some known) (rows ++ more)) read.2 all)
+    let all = dressed_say schema (map sent_in more) new dressed known said.1 in
+    let follows : Follows None (map sent_in front ++ map sent_in more) (Some all.0) (rows ++ new) =
+    joined None (map sent_in front) (map sent_in more) (Some known) (Some all.0) rows new said.2 all.2 in
+    subst (λ (l : List Sent). Says l schema (rows ++ new)) (sym (map-append sent_in front more)) (all.0, all.1, follows)
 
 -- ---- how long bodies are
 
@@ -122,20 +101,6 @@ schema_short message schema tells = inl (omega (arith, ap (λ (l : List ℕ). le
 
 pub length-rows_of : (batch : BatchAt) → length (rows_of batch) ≡ batch.rows
 length-rows_of batch = length-map (range_with_len 0 batch.rows) (row_of batch.columns) ∙ length-range_with_len 0 batch.rows
-
--- that of a batch has few, or says one row
-pub batch_short : (message : IpcMessage) (schema : Schema) (batch : BatchAt) → SaysShort batch (sent_in message) → AreOfTypes schema.fields batch.columns → HasShortBody (plain_schema schema) message
-batch_short message schema batch tells typed = by tells.short
-  where
-    by : (length message.body ≤ most_body_bytes) ⊎ (batch.rows ≡ 1) → HasShortBody (plain_schema schema) message
-    by (inl few) = inl few
-    by (inr one) = inr (λ known same.
-        let types : map (λ (field : Field). field.data_type) known.schema.fields ≡ map (λ (field : Field). copied_type field.data_type) schema.fields =
-        rw same (types_answered schema.fields) in
-        let read = tells.says known schema.fields typed types in
-        let news : News = record { state = Some known; batch = Some read.0 } in
-        let long : length (rows_of read.0) ≡ 1 = ap (λ (rows : Rows). length rows) read.2 ∙ length-rows_of batch ∙ one in
-        (news, read.1, long))
 
 -- ---- a frame
 

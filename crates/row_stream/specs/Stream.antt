@@ -1,16 +1,29 @@
 -- What is written of rows as an Arrow IPC stream.
-use Rattle.std.specs.Prelude.{◌≡◌, ◌⊎◌, ◌≤◌, ◌<◌, ◌^◌, ℕ, ◌+◌, List, [], ◌++◌, All, length, map, Option, Some, Result, Ok, Err}
+use Rattle.std.specs.Prelude.{◌≡◌, ◌⊎◌, ◌≤◌, ◌<◌, ◌^◌, ℕ, ◌+◌, List, [], ◌∷◌, ◌++◌, All, length, map, Option, Some, Result, Ok, Err}
 use Rattle.std.specs.Io.KnownBytes.{Appends}
 use Rattle.scan_base.specs.declared.fault.Fault.{Fault}
 use Rattle.scan_base.specs.declared.fault.Fault.TheVariants.{LimitReached, OutOfMemory, Transport}
+use Rattle.scan_base.specs.declared.value.Value.{Value}
+use Rattle.arrow_schema.specs.declared.schema.Field.{Field}
 use Rattle.arrow_schema.specs.declared.schema.Schema.{Schema}
+use Rattle.arrow_schema.specs.Answer.{answered_field}
 use Rattle.arrays.specs.Batch.{BatchAt, cut_batch}
-use Rattle.ipc_batch.specs.State.{Known}
-use Rattle.ipc_batch.specs.Said.{Sent, News, Rows, Says, news_of, rows_in}
-use Rattle.plain_batches.specs.Plain.{plain_length}
+use Rattle.ipc_batch.specs.Said.{Sent, Rows, Says}
+use Rattle.ipc_batch.specs.Dressed.{SaysWhole, AddsRows, AreDressed}
+use Rattle.dressed_batches.specs.Lengths.{dressed_length}
 use Rattle.ipc_stream.specs.declared.message.IpcMessage.{IpcMessage}
 use Rattle.ipc_stream.specs.Stream.{Framed, end_marker}
 use Rattle.grpc_frame.specs.Ends.{AppendsBeginning}
+
+-- the columns of a stream, of which the first has this number: each dictionary of texts is the one of its column's number, with
+-- indices of 32 bits
+abbrev pub numbered_from : ℕ → List Field → List Field
+numbered_from number [] = []
+numbered_from number (field ∷ fields) = answered_field number field ∷ numbered_from (number + 1) fields
+
+-- the schema that is written of these columns
+abbrev pub numbered_schema : Schema → Schema
+numbered_schema schema = record { fields = numbered_from 0 schema.fields }
 
 -- a message of a stream, as a reader of messages takes it
 abbrev pub sent_in : IpcMessage → Sent
@@ -20,20 +33,34 @@ sent_in message = record { header = message.header; body = message.body }
 abbrev pub most_body_bytes : ℕ
 most_body_bytes = 8388608
 
--- behind a schema, a message says one row
-abbrev pub SaysOneRow : Schema → Sent → Type 0
-SaysOneRow schema sent = (known : Known) → known.schema ≡ schema →
-    (news : News) × (news_of (Some known) sent ≡ Ok news) × (length (rows_in news.batch) ≡ 1)
+-- a message says a dictionary of one text at most
+pub record SaysOneText (schema : Schema) (sent : Sent) : Type 0 where
+  pub id : ℕ
+  pub texts : List (List ℕ)
+  pub one : length texts ≤ 1
+  pub says : SaysWhole schema id texts sent
 
--- the body of a message behind a schema is not too long, or it is that of one row
+-- a message says one row, to whoever has the dictionaries of its texts
+pub record SaysOneRow (schema : Schema) (sent : Sent) : Type 0 where
+  pub row : List Value
+  pub adds : AddsRows schema (row ∷ []) sent
+
+-- the body of a message behind a schema is not too long, or it is that of one row, or of the one text of a column of it
 abbrev pub HasShortBody : Schema → IpcMessage → Type 0
-HasShortBody schema message = (length message.body ≤ most_body_bytes) ⊎ SaysOneRow schema (sent_in message)
+HasShortBody schema message =
+    (length message.body ≤ most_body_bytes) ⊎ (SaysOneText schema (sent_in message) ⊎ SaysOneRow schema (sent_in message))
+
+-- behind the first message each batch stands right behind the dictionaries of its own texts, and the batches say these rows
+abbrev pub AreDressedBehind : Schema → List Sent → Rows → Type 0
+AreDressedBehind schema [] rows = ⊥
+AreDressedBehind schema (first ∷ behind) rows = AreDressed schema behind rows
 
 -- the bytes are an Arrow IPC stream, which this rest ends, and its messages say this schema and these rows
 pub record StreamSays (stream rest : List ℕ) (schema : Schema) (rows : Rows) : Type 0 where
   pub messages : List IpcMessage
   pub framed : Framed stream messages rest
   pub said : Says (map sent_in messages) schema rows
+  pub dressed : AreDressedBehind schema (map sent_in messages) rows
   pub short : All (HasShortBody schema) messages
 
 -- the whole stream of these rows, with its end marker
@@ -60,13 +87,13 @@ CountsTransport (Ok done) old new = new ≡ old
 CountsTransport (Err Transport) old new = new ≡ old + 1
 CountsTransport (Err fault) old new = new ≡ old
 
--- each row of a batch alone has a body of fewer than 2 to the 31 bytes
-abbrev pub HasShortRows : BatchAt → Type 0
-HasShortRows batch = (row : ℕ) → row < batch.rows → plain_length (cut_batch batch row (row + 1)) < 2 ^ 31
+-- each row of a batch alone, and its dictionaries, have bodies of fewer than 2 to the 31 bytes together
+abbrev pub HasShortRows : Schema → BatchAt → Type 0
+HasShortRows schema batch = (row : ℕ) → row < batch.rows → dressed_length schema.fields (cut_batch batch row (row + 1)).columns < 2 ^ 31
 
--- Why a stream was not written: a write failed, memory was refused, or one row has a body of 2 to the 31 bytes or more.
-abbrev pub IsCause : List BatchAt → Fault → Type 0
-IsCause batches Transport = Unit {0}
-IsCause batches OutOfMemory = Unit {0}
-IsCause batches LimitReached = ¬ All HasShortRows batches
-IsCause batches _ = ⊥
+-- Why a stream was not written: a write failed, memory was refused, or one row has bodies of 2 to the 31 bytes or more.
+abbrev pub IsCause : Schema → List BatchAt → Fault → Type 0
+IsCause schema batches Transport = Unit {0}
+IsCause schema batches OutOfMemory = Unit {0}
+IsCause schema batches LimitReached = ¬ All (HasShortRows schema) batches
+IsCause schema batches _ = ⊥

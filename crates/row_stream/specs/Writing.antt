@@ -2,21 +2,25 @@
 use Rattle.std.specs.Prelude.{◌≡◌, ◌⊎◌, ℕ, List, [], ◌++◌, All, map, Option, Result, Ok, Err}
 use Rattle.std.specs.List.{flat_map}
 use Rattle.arrow_schema.specs.declared.schema.Schema.{Schema}
-use Rattle.arrow_schema.specs.Answer.{plain_schema}
 use Rattle.arrays.specs.Batch.{BatchAt, rows_of}
-use Rattle.arrays.specs.Typed.{AreOfTypes}
 use Rattle.ipc_batch.specs.Said.{Rows, Says}
 use Rattle.ipc_stream.specs.declared.message.IpcMessage.{IpcMessage}
 use Rattle.ipc_stream.specs.Stream.{frame, IsMessage}
 use Rattle.grpc_frame.specs.Ends.{AppendsBeginning}
 use Rattle.grpc_frame.specs.Sending.{Sent as Outgone}
-use Rattle.row_stream.specs.Stream.{sent_in, HasShortBody, SaysSome}
+use Rattle.row_stream.specs.Stream.{sent_in, AreDressedBehind, HasShortBody, SaysSome}
+
+-- who writes a stream: the schema that was sent, and the bytes that wait for the next write
+pub record WriterAt : Type 0 where
+  pub schema : Schema
+  pub waiting : List ℕ
 
 -- messages that say these rows were sent: what is written of them, and behind it the bytes that wait for the next write
 pub record SoFar (schema : Schema) (rows : Rows) (a b : Option (List ℕ)) (waiting : List ℕ) : Type 0 where
   pub messages : List IpcMessage
   pub each : All IsMessage messages
   pub said : Says (map sent_in messages) schema rows
+  pub dressed : AreDressedBehind schema (map sent_in messages) rows
   pub short : All (HasShortBody schema) messages
   pub sent : Outgone a b [] waiting (flat_map frame messages)
 
@@ -24,20 +28,18 @@ pub record SoFar (schema : Schema) (rows : Rows) (a b : Option (List ℕ)) (wait
 abbrev pub Stopped : Schema → Rows → Option (List ℕ) → Option (List ℕ) → Type 0
 Stopped schema rows a b = (stream : List ℕ) × ((stream ≡ []) ⊎ SaysSome schema rows stream) × AppendsBeginning a b stream
 
--- behind a stream of some rows, these rows of a batch were sent
-abbrev pub SentBehind : BatchAt → Rows → Option (List ℕ) → Option (List ℕ) → List ℕ → List ℕ → Type 0
-SentBehind batch more old new before after = (schema : Schema) (rows : Rows) (start : Option (List ℕ)) →
-    AreOfTypes schema.fields batch.columns → SoFar (plain_schema schema) rows start old before →
-    SoFar (plain_schema schema) (rows ++ more) start new after
+-- behind a stream of some rows, these rows were sent
+abbrev pub SentBehind : Schema → Rows → Option (List ℕ) → Option (List ℕ) → List ℕ → List ℕ → Type 0
+SentBehind schema more old new before after =
+    (rows : Rows) (start : Option (List ℕ)) → SoFar schema rows start old before → SoFar schema (rows ++ more) start new after
 
 -- behind a stream of some rows, all rows of a batch were sent, or some of them
-abbrev pub SendsBatch : {A E : Type 0} → Result A E → BatchAt → Option (List ℕ) → Option (List ℕ) → List ℕ → List ℕ → Type 0
-SendsBatch (Ok done) batch old new before after = SentBehind batch (rows_of batch) old new before after
-SendsBatch (Err fault) batch old new before after = (schema : Schema) (rows : Rows) (start : Option (List ℕ)) →
-    AreOfTypes schema.fields batch.columns → SoFar (plain_schema schema) rows start old before →
-    Stopped (plain_schema schema) (rows ++ rows_of batch) start new
+abbrev pub SendsBatch : {A E : Type 0} → Result A E → Schema → BatchAt → Option (List ℕ) → Option (List ℕ) → List ℕ → List ℕ → Type 0
+SendsBatch (Ok done) schema batch old new before after = SentBehind schema (rows_of batch) old new before after
+SendsBatch (Err fault) schema batch old new before after =
+    (rows : Rows) (start : Option (List ℕ)) → SoFar schema rows start old before → Stopped schema (rows ++ rows_of batch) start new
 
 -- a stream was begun: its schema was sent, and no row; or not
-abbrev pub Begins : {A E : Type 0} → (A → List ℕ) → Result A E → Schema → Option (List ℕ) → Option (List ℕ) → Type 0
-Begins waiting (Ok writer) schema old new = SoFar schema [] old new (waiting writer)
-Begins waiting (Err fault) schema old new = Stopped schema [] old new
+abbrev pub Begins : {A E : Type 0} → (A → WriterAt) → Result A E → Schema → Option (List ℕ) → Option (List ℕ) → Type 0
+Begins view (Ok writer) schema old new = ((view writer).schema ≡ schema) × SoFar schema [] old new (view writer).waiting
+Begins view (Err fault) schema old new = Stopped schema [] old new

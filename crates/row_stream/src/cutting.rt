@@ -1,71 +1,75 @@
 //! Cutting a batch into messages.
 
-ghost use Rattle.std.specs.Prelude.{◌≡◌, ◌≤◌, ◌<◌, ◌+◌, ◌^◌, length, IfNone, IfOk, IfSome};
-ghost use Rattle.scan_base.specs.Limits.{most_columns};
+ghost use Rattle.std.specs.Prelude.{◌≡◌, ◌≤◌, ◌<◌, ◌+◌, ◌^◌, IfNone, IfOk, IfSome};
 ghost use Rattle.arrays.specs.Batch.{cut_batch};
-ghost use Rattle.plain_batches.specs.Plain.{plain_length};
+ghost use Rattle.arrays.specs.Typed.{AreOfTypes};
+ghost use Rattle.dressed_batches.specs.Lengths.{dressed_length};
 ghost use Rattle.row_stream.specs.inside.Cuts.{IsCut};
 
-use crate::message::{Ready, batch_message};
+use crate::dresser::Dresser;
+use crate::message::{Parcel, batch_parcel};
 use arrays::Batch;
-use std::alloc::{AllocError, Global};
+use std::alloc::AllocError;
 
-// The most bytes of the body of a message of two rows or more.
+// The most bytes of the bodies of two rows or more and of their dictionaries.
 const MOST_BODY_BYTES: usize = 8_388_608;
 
-// The most bytes of the body of a message of one row.
+// The most bytes of the bodies of one row and of its dictionaries.
 const MOST_ROW_BYTES: usize = (1 << 31) - 1;
 
-/// The message of some rows of a batch, and where they end.
+/// The messages of some rows of a batch, and where these end.
 #[derive(Drop)]
 pub(crate) struct Cut {
-    pub message: Ready,
+    pub parcel: Parcel,
     pub end: usize,
 }
 
-/// The message of the rows of a batch from `at` on: of as many as a message may have, or of all that are left. Where its body
-/// would have too many bytes, it has half as many rows, down to one. Nothing where one row has a body of 2 to the 31 bytes
-/// or more.
+/// The messages of the rows of a batch from `at` on: of as many as a message may have, or of all that are left. Where their
+/// bodies would have too many bytes, they are of half as many rows, down to one. Nothing where those of one row have 2 to the 31
+/// bytes or more.
 ///
 /// # Errors
 ///
 /// `AllocError` where memory is refused.
 pub(crate) fn next_cut(
-    alloc: Global,
+    dresser: &Dresser,
     batch: &Batch,
     at: usize,
     most: usize,
 ) -> Result<Option<Cut>, AllocError>
-    requires few { length batch.now.columns ≤ most_columns }
+    requires typed { AreOfTypes dresser.now.fields batch.now.columns }
     requires more { at < batch.now.rows }
     requires some { 0 < most }
-    ensures cut { IfOk result (λ found. IfSome found (λ cut. IsCut batch.now at most cut)) }
-    ensures long { IfOk result (λ found. IfNone found (2 ^ 31 ≤ plain_length (cut_batch batch.now at (at + 1)))) }
+    requires few { most ≤ 65536 }
+    ensures cut { IfOk result (λ found. IfSome found (IsCut dresser.now batch.now at most)) }
+    ensures long { IfOk result (λ found. IfNone found
+        (2 ^ 31 ≤ dressed_length dresser.now.fields (cut_batch batch.now at (at + 1)).columns)) }
 {
     let mut rows = most.min(batch.rows() - at);
     while rows > 1 {
         let end = at + rows;
-        let slice = batch.slice(alloc, at, end)?;
-        if let Some(message) = batch_message(alloc, slice, MOST_BODY_BYTES)? {
-            return Ok(Some(Cut { message, end }));
+        let slice = batch.slice(dresser.alloc, at, end)?;
+        if let Some(parcel) = batch_parcel(dresser, &slice, MOST_BODY_BYTES)? {
+            return Ok(Some(Cut { parcel, end }));
         }
         rows /= 2;
     }
-    row_cut(alloc, batch, at)
+    row_cut(dresser, batch, at)
 }
 
-// The message of one row of a batch.
-fn row_cut(alloc: Global, batch: &Batch, at: usize) -> Result<Option<Cut>, AllocError>
-    requires few { length batch.now.columns ≤ most_columns }
+// The messages of one row of a batch.
+fn row_cut(dresser: &Dresser, batch: &Batch, at: usize) -> Result<Option<Cut>, AllocError>
+    requires typed { AreOfTypes dresser.now.fields batch.now.columns }
     requires more { at < batch.now.rows }
-    ensures cut { IfOk result (λ found. IfSome found (λ cut. IsCut batch.now at 1 cut)) }
-    ensures long { IfOk result (λ found. IfNone found (2 ^ 31 ≤ plain_length (cut_batch batch.now at (at + 1)))) }
+    ensures cut { IfOk result (λ found. IfSome found (IsCut dresser.now batch.now at 1)) }
+    ensures long { IfOk result (λ found. IfNone found
+        (2 ^ 31 ≤ dressed_length dresser.now.fields (cut_batch batch.now at (at + 1)).columns)) }
 {
     let _rows = batch.rows();
     let end = at + 1;
-    let slice = batch.slice(alloc, at, end)?;
-    match batch_message(alloc, slice, MOST_ROW_BYTES)? {
-        Some(message) => Ok(Some(Cut { message, end })),
+    let slice = batch.slice(dresser.alloc, at, end)?;
+    match batch_parcel(dresser, &slice, MOST_ROW_BYTES)? {
+        Some(parcel) => Ok(Some(Cut { parcel, end })),
         None => Ok(None),
     }
 }

@@ -4,6 +4,7 @@
 #![tactic(auto)]
 
 mod cutting;
+mod dresser;
 mod message;
 mod sending;
 mod writer;

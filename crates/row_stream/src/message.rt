@@ -1,19 +1,23 @@
 //! Messages of a stream, ready to be sent.
 
-ghost use Rattle.std.specs.Prelude.{◌≡◌, ◌↔◌, ◌≤◌, ◌<◌, ◌^◌, length, IfOk, IfSome, IsSome};
+ghost use Rattle.std.specs.Prelude.{◌≡◌, ◌↔◌, ◌≤◌, ◌<◌, ◌^◌, ◌+◌, length, map, IfNone, IfOk, IfSome, IsSome, MatchOption};
 ghost use Rattle.arrow_schema.specs.Schema.{IsSchema};
-ghost use Rattle.scan_base.specs.Limits.{most_columns};
+ghost use Rattle.scan_base.specs.Limits.{most_columns, most_values};
+ghost use Rattle.arrays.specs.Typed.{AreOfTypes};
+ghost use Rattle.ipc_batch.specs.Seen.{written_seen};
 ghost use Rattle.ipc_batch.specs.Written.{body_length, SaysBatch};
-ghost use Rattle.plain_batches.specs.Plain.{plain_length, SaysAnswered};
+ghost use Rattle.dressed_batches.specs.Lengths.{bodies_length, dressed_length};
 ghost use Rattle.ipc_stream.specs.Stream.{IsMessage};
 ghost use Rattle.row_stream.specs.Stream.{sent_in};
-ghost use Rattle.row_stream.specs.inside.Frames.{SaysSchema};
+ghost use Rattle.row_stream.specs.inside.Cuts.{AreBehind, HasBodyWithin, SayBatch};
+ghost use Rattle.row_stream.specs.inside.Frames.{as_message, SaysSchema};
 
+use crate::dresser::Dresser;
 use arrays::Batch;
 use arrow_schema::{Schema, write_schema};
 use bytes::Bytes;
-use ipc_batch::SizedBatch;
-use plain_batches::plain_batch;
+use dressed_batches::{DressedBatch, dress};
+use ipc_batch::{SizedBatch, WrittenMessage};
 use std::alloc::{AllocError, Global};
 use std::marker::Model;
 
@@ -33,6 +37,23 @@ impl Model for Ready {
     ghost view = { λ ready. record { header = ready.header.items; body = body_of ready.buffers.items } };
 }
 
+/// The messages of a batch: its dictionaries, and behind them its rows. A contract sees the messages.
+#[derive(Drop)]
+pub(crate) struct Parcel {
+    pub dictionaries: Vec<WrittenMessage>,
+    pub rows: Ready,
+}
+
+impl Model for Parcel {
+    ghost use Rattle.std.specs.Prelude.{List, [], ◌∷◌, ◌++◌, map};
+    ghost use Rattle.ipc_stream.specs.declared.message.IpcMessage.{IpcMessage};
+    ghost use Rattle.row_stream.specs.inside.Frames.{as_message};
+
+    ghost Value = { List IpcMessage };
+
+    ghost view = { λ parcel. map as_message parcel.dictionaries.items ++ parcel.rows ∷ [] };
+}
+
 /// The message of a schema.
 pub(crate) fn schema_message(alloc: Global, schema: &Schema) -> Result<Ready, AllocError>
     requires { IsSchema schema.now }
@@ -45,28 +66,8 @@ pub(crate) fn schema_message(alloc: Global, schema: &Schema) -> Result<Ready, Al
     })
 }
 
-/// The message of a batch, or nothing where its body would have more bytes than there is room for. Columns of dictionaries
-/// are copied to their texts, since the schema says that these come.
-pub(crate) fn batch_message(
-    alloc: Global,
-    batch: Batch,
-    room: usize,
-) -> Result<Option<Ready>, AllocError>
-    requires few { length batch.columns ≤ most_columns }
-    requires room { room < 2 ^ 31 }
-    ensures found { IfOk result (λ found. IsSome found ↔ (plain_length batch ≤ room)) }
-    ensures fits { IfOk result (λ found. IfSome found IsMessage) }
-    ensures says { IfOk result (λ found. IfSome found (λ message. SaysAnswered (sent_in message) batch)) }
-    ensures short { IfOk result (λ found. IfSome found (λ message. length message.body ≤ room)) }
-{
-    match plain_batch(alloc, batch, room)? {
-        Some(plain) => written_message(alloc, &plain, room),
-        None => Ok(None),
-    }
-}
-
-// The message of a batch that has no dictionary, or nothing where its body would have more bytes than there is room for.
-fn written_message(alloc: Global, batch: &Batch, room: usize) -> Result<Option<Ready>, AllocError>
+// The message of a batch, or nothing where its body would have more bytes than there is room for.
+fn rows_message(alloc: Global, batch: &Batch, room: usize) -> Result<Option<Ready>, AllocError>
     requires few { length batch.now.columns ≤ most_columns }
     requires room { room < 2 ^ 31 }
     ensures found { IfOk result (λ found. IsSome found ↔ (body_length batch.now ≤ room)) }
@@ -80,5 +81,67 @@ fn written_message(alloc: Global, batch: &Batch, room: usize) -> Result<Option<R
             buffers: sized.buffers(alloc)?,
         })),
         _ => Ok(None),
+    }
+}
+
+// How many bytes a body may have beside those of these messages, where all together have room for so many: `None` where they
+// have more.
+fn room_beside(messages: &[WrittenMessage], room: usize) -> Option<usize>
+    ensures { MatchOption result (room < bodies_length (map written_seen messages.now))
+        (λ left. bodies_length (map written_seen messages.now) + left ≡ room) }
+{
+    let mut left = room;
+    for message in messages {
+        let len = message.body.len();
+        if len > left {
+            return None;
+        }
+        left -= len;
+    }
+    Some(left)
+}
+
+// The messages of a batch and of its dictionaries, or nothing where their bodies would have more bytes than there is room for.
+fn dressed_parcel(
+    alloc: Global,
+    dressed: DressedBatch,
+    room: usize,
+) -> Result<Option<Parcel>, AllocError>
+    requires few { length dressed.batch.columns ≤ most_columns }
+    requires room { room < 2 ^ 31 }
+    ensures behind { IfOk result (λ found. IfSome found
+        (AreBehind (map as_message dressed.dictionaries.items) dressed.batch room)) }
+    ensures full { IfOk result (λ found. IfNone found
+        (room < bodies_length (map written_seen dressed.dictionaries.items) + body_length dressed.batch)) }
+{
+    let DressedBatch {
+        dictionaries,
+        batch,
+    } = dressed;
+    let Some(left) = room_beside(dictionaries.as_slice(), room) else {
+        return Ok(None);
+    };
+    match rows_message(alloc, &batch, left)? {
+        Some(rows) => Ok(Some(Parcel { dictionaries, rows })),
+        None => Ok(None),
+    }
+}
+
+/// The messages of a batch: one for each column that is a dictionary, of the texts that the batch holds, and behind them that of
+/// its rows. Nothing where their bodies together would have more bytes than there is room for.
+pub(crate) fn batch_parcel(
+    dresser: &Dresser,
+    batch: &Batch,
+    room: usize,
+) -> Result<Option<Parcel>, AllocError>
+    requires rows { batch.now.rows ≤ most_values }
+    requires room { room < 2 ^ 31 }
+    requires typed { AreOfTypes dresser.now.fields batch.now.columns }
+    ensures says { IfOk result (λ found. IfSome found (SayBatch (HasBodyWithin room) dresser.now batch.now)) }
+    ensures full { IfOk result (λ found. IfNone found (room < dressed_length dresser.now.fields batch.now.columns)) }
+{
+    match dress(dresser.alloc, dresser.seed, &dresser.schema, batch, room)? {
+        Some(dressed) => dressed_parcel(dresser.alloc, dressed, room),
+        None => Ok(None),
     }
 }

@@ -1,27 +1,30 @@
 //! Sending the messages of a stream through an outbox.
 
-ghost use Rattle.std.specs.Prelude.{◌≡◌, ◌≤◌, ◌<◌, ◌^◌, [], ◌∷◌, length, MatchResult};
+ghost use Rattle.std.specs.Prelude.{◌≡◌, ◌≤◌, ◌<◌, ◌^◌, [], ◌∷◌, All, length, MatchResult};
+ghost use Rattle.std.specs.List.{flat_map};
 ghost use Rattle.flatbuf.specs.Block.{padded};
 ghost use Rattle.arrow_schema.specs.Schema.{IsSchema};
-ghost use Rattle.scan_base.specs.Limits.{most_columns};
+ghost use Rattle.arrays.specs.Typed.{AreOfTypes};
 ghost use Rattle.ipc_batch.specs.Written.{body_of};
-ghost use Rattle.ipc_stream.specs.Stream.{announced, frame};
+ghost use Rattle.ipc_stream.specs.Stream.{announced, frame, IsMessage};
 ghost use Rattle.grpc_frame.specs.Ends.{CanFail, CountsFailure, FailsByTransport};
 ghost use Rattle.grpc_frame.specs.Sending.{Sends};
 ghost use Rattle.row_stream.specs.Stream.{CountsTransport, IsCause};
 ghost use Rattle.row_stream.specs.Writing.{SendsBatch};
-ghost use Rattle.row_stream.specs.inside.Frames.{SaysSchema, SendsMessage};
+ghost use Rattle.row_stream.specs.inside.Frames.{SaysSchema, SendsMessage, written_frame};
 
 use crate::cutting::next_cut;
-use crate::message::{Ready, schema_message};
+use crate::dresser::Dresser;
+use crate::message::{Parcel, Ready, schema_message};
 use arrays::Batch;
 use arrow_schema::Schema;
 use bytes::Bytes;
 use grpc_frame::{Outbox, Output};
+use ipc_batch::WrittenMessage;
 use scan_base::Fault;
 use std::alloc::Global;
 
-// The most rows of a message. After one of few rows, the next one may have twice as many.
+// The most rows of a cut. After one of few rows, the next one may have twice as many.
 const MOST_ROWS: usize = 65_536;
 
 // Sends what stands in front of a header of so many bytes.
@@ -75,6 +78,56 @@ fn send_frame<W: Output>(writer: &mut W, outbox: &mut Outbox, message: &Ready) -
     send_body(writer, outbox, &message.buffers)
 }
 
+// Sends the message of a dictionary in its frame.
+fn send_written<W: Output>(
+    writer: &mut W,
+    outbox: &mut Outbox,
+    message: &WrittenMessage,
+) -> Result<(), Fault>
+    requires failures { CanFail (W.failures writer.old) }
+    requires fits { length message.now.header.items < 2 ^ 31 }
+    ensures bytes { Sends result (W.contents writer.old) (W.contents writer.new)
+        outbox.old outbox.new (written_frame message.now) }
+    ensures counted { CountsFailure result (W.failures writer.old) (W.failures writer.new) }
+    ensures fault { FailsByTransport result }
+{
+    send_announcement(writer, outbox, message.header.len() as u32)?;
+    outbox.send_part(writer, &message.header)?;
+    outbox.send_part(writer, &message.body)
+}
+
+// Sends the messages of dictionaries.
+fn send_dictionaries<W: Output>(
+    writer: &mut W,
+    outbox: &mut Outbox,
+    dictionaries: &[WrittenMessage],
+) -> Result<(), Fault>
+    requires failures { CanFail (W.failures writer.old) }
+    requires fit { All (λ message. length message.header.items < 2 ^ 31) dictionaries.now }
+    ensures bytes { Sends result (W.contents writer.old) (W.contents writer.new)
+        outbox.old outbox.new (flat_map written_frame dictionaries.now) }
+    ensures counted { CountsFailure result (W.failures writer.old) (W.failures writer.new) }
+    ensures fault { FailsByTransport result }
+{
+    for dictionary in dictionaries {
+        send_written(writer, outbox, dictionary)?;
+    }
+    Ok(())
+}
+
+// Sends the messages of a batch: its dictionaries, and then its rows.
+fn send_parcel<W: Output>(writer: &mut W, outbox: &mut Outbox, parcel: &Parcel) -> Result<(), Fault>
+    requires failures { CanFail (W.failures writer.old) }
+    requires fit { All IsMessage parcel.now }
+    ensures bytes { Sends result (W.contents writer.old) (W.contents writer.new)
+        outbox.old outbox.new (flat_map frame parcel.now) }
+    ensures counted { CountsFailure result (W.failures writer.old) (W.failures writer.new) }
+    ensures fault { FailsByTransport result }
+{
+    send_dictionaries(writer, outbox, &parcel.dictionaries)?;
+    send_frame(writer, outbox, &parcel.rows)
+}
+
 /// Sends the message of a schema.
 ///
 /// # Errors
@@ -91,40 +144,40 @@ pub(crate) fn send_schema<W: Output>(
     ensures bytes { SendsMessage (SaysSchema schema.now) result
         (W.contents writer.old) (W.contents writer.new) outbox.old outbox.new }
     ensures counted { CountsTransport result (W.failures writer.old) (W.failures writer.new) }
-    ensures cause { MatchResult result (λ _. Unit {0}) (IsCause []) }
+    ensures cause { MatchResult result (λ _. Unit {0}) (IsCause schema.now []) }
 {
     let message = schema_message(alloc, schema)?;
     send_frame(writer, outbox, &message)
 }
 
-/// Sends the messages of a batch: each one says the next rows, as many as it may. A body of more than 8,388,608 bytes is that
-/// of one row.
+/// Sends the messages of a batch, cut by cut: each cut has as many of the next rows as it may, behind the dictionaries of their
+/// texts. Bodies that together have more than 8,388,608 bytes are those of one row.
 ///
 /// # Errors
 ///
 /// `Fault::Transport` where a write failed. It is counted. `Fault::OutOfMemory` where memory is refused, and
-/// `Fault::LimitReached` where the body of one row would have 2 to the 31 bytes or more.
+/// `Fault::LimitReached` where the bodies of one row would have 2 to the 31 bytes or more.
 pub(crate) fn send_batch<W: Output>(
-    alloc: Global,
+    dresser: &Dresser,
     writer: &mut W,
     outbox: &mut Outbox,
     batch: &Batch,
 ) -> Result<(), Fault>
     requires failures { CanFail (W.failures writer.old) }
-    requires few { length batch.now.columns ≤ most_columns }
-    ensures bytes { SendsBatch result batch.now
+    requires typed { AreOfTypes dresser.now.fields batch.now.columns }
+    ensures bytes { SendsBatch result dresser.now batch.now
         (W.contents writer.old) (W.contents writer.new) outbox.old outbox.new }
     ensures counted { CountsTransport result (W.failures writer.old) (W.failures writer.new) }
-    ensures cause { MatchResult result (λ _. Unit {0}) (IsCause (batch.now ∷ [])) }
+    ensures cause { MatchResult result (λ _. Unit {0}) (IsCause dresser.now (batch.now ∷ [])) }
 {
     let rows = batch.rows();
     let mut at = 0;
     let mut most = MOST_ROWS;
     while at < rows {
-        let Some(cut) = next_cut(alloc, batch, at, most)? else {
+        let Some(cut) = next_cut(dresser, batch, at, most)? else {
             return Err(Fault::LimitReached);
         };
-        send_frame(writer, outbox, &cut.message)?;
+        send_parcel(writer, outbox, &cut.parcel)?;
         most = ((cut.end - at) * 2).min(MOST_ROWS);
         at = cut.end;
     }

@@ -1,19 +1,20 @@
 //! Writing a stream, batch by batch.
 
-ghost use Rattle.std.specs.Prelude.{◌≡◌, ◌≤◌, ◌∷◌, [], ℕ, List, Option, MatchResult, length};
+ghost use Rattle.std.specs.Prelude.{◌≡◌, ◌∷◌, [], ℕ, List, Option, MatchResult};
 ghost use Rattle.arrow_schema.specs.declared.schema.Schema.{Schema};
-ghost use Rattle.arrow_schema.specs.Answer.{plain_schema};
 ghost use Rattle.arrow_schema.specs.Schema.{IsSchema};
+ghost use Rattle.arrays.specs.Typed.{AreOfTypes};
 ghost use Rattle.ipc_batch.specs.Said.{Rows};
-ghost use Rattle.scan_base.specs.Limits.{most_columns};
 ghost use Rattle.grpc_frame.specs.Ends.{CanFail, FailsByTransport};
-ghost use Rattle.row_stream.specs.Stream.{CountsTransport, IsCause, WritesStream};
+ghost use Rattle.row_stream.specs.Stream.{numbered_schema, CountsTransport, IsCause, WritesStream};
 ghost use Rattle.row_stream.specs.Writing.{Begins, SendsBatch, SoFar};
 
+use crate::dresser::Dresser;
 use crate::sending::{send_batch, send_schema};
 use arrays::Batch;
 use arrow_schema::Schema;
 use grpc_frame::{Outbox, Output};
+use hash_seed::HashSeed;
 use scan_base::Fault;
 use std::alloc::Global;
 use std::marker::Model;
@@ -21,24 +22,28 @@ use std::marker::Model;
 // A header of no byte is announced.
 const END_MARKER: [u8; 8] = [0xff, 0xff, 0xff, 0xff, 0, 0, 0, 0];
 
-/// An Arrow IPC stream while it is written: up to 16,384 bytes wait for the next write. A contract sees those bytes.
+/// An Arrow IPC stream while it is written: up to 16,384 bytes wait for the next write. A contract sees those bytes, and the
+/// schema that was written.
 ///
-/// Longer buffers are written as they lie. Other values are copied only where they do not lie as they are written.
+/// Longer buffers are written as they lie. Other values are copied only where they do not lie as they are written, and so are
+/// the texts of dictionaries.
 #[derive(Drop)]
 pub struct StreamWriter {
+    dresser: Dresser,
     outbox: Outbox,
 }
 
 impl Model for StreamWriter {
-    ghost use Rattle.std.specs.Prelude.{ℕ, List};
+    ghost use Rattle.row_stream.specs.Writing.{WriterAt};
 
-    ghost Value = { List ℕ };
+    ghost Value = { WriterAt };
 
-    ghost view = { λ writer. writer.outbox };
+    ghost view = { λ writer. record { schema = writer.dresser; waiting = writer.outbox } };
 }
 
 impl StreamWriter {
-    /// Begins a stream: writes the schema of answers whose columns are these.
+    /// Begins a stream: writes the schema of these columns. Each dictionary gets the number of its column as its id, and indices
+    /// of 32 bits. With the seed the hashes begin by which texts are looked up.
     ///
     /// # Errors
     ///
@@ -47,44 +52,43 @@ impl StreamWriter {
     /// - `Fault::OutOfMemory` (F21) where memory is refused.
     pub fn begin<W: Output>(
         alloc: Global,
+        seed: HashSeed,
         output: &mut W,
         schema: &Schema,
     ) -> Result<StreamWriter, Fault>
         requires failures { CanFail (W.failures output.old) }
         requires schema { IsSchema schema.now }
-        ensures bytes { Begins (λ writer. writer) result (plain_schema schema.now)
+        ensures bytes { Begins (λ writer. writer) result (numbered_schema schema.now)
             (W.contents output.old) (W.contents output.new) }
         ensures counted { CountsTransport result (W.failures output.old) (W.failures output.new) }
-        ensures cause { MatchResult result (λ _. Unit {0}) (IsCause []) }
+        ensures cause { MatchResult result (λ _. Unit {0}) (IsCause (numbered_schema schema.now) []) }
     {
         let mut outbox = Outbox::new(alloc);
-        let answer = schema.plain(alloc)?;
-        send_schema(alloc, output, &mut outbox, &answer)?;
-        Ok(StreamWriter { outbox })
+        let dresser = Dresser::new(alloc, seed, schema)?;
+        send_schema(alloc, output, &mut outbox, &dresser.schema)?;
+        Ok(StreamWriter { dresser, outbox })
     }
 
-    /// Writes a batch: the messages of its rows. It is cut where its rows would make a body of more than 8,388,608 bytes, as
-    /// columns of dictionaries may, which are copied to their texts.
+    /// Writes a batch with a column for each field of the schema, of its type: the messages of its dictionaries, each of the
+    /// texts that the batch holds, and then that of its rows. It is cut where their bodies would have more than 8,388,608 bytes,
+    /// and behind 65,536 rows. Each cut has its own dictionaries.
     ///
     /// # Errors
     ///
     /// A beginning of a stream is written then, which says some of the rows.
     /// - `Fault::Transport` (F22) where a write failed. It is counted.
     /// - `Fault::OutOfMemory` (F21) where memory is refused.
-    /// - `Fault::LimitReached` (F12) where one row of the batch would have a body of 2 to the 31 bytes or more.
-    pub fn write_batch<W: Output>(
-        &mut self,
-        alloc: Global,
-        output: &mut W,
-        batch: &Batch,
-    ) -> Result<(), Fault>
+    /// - `Fault::LimitReached` (F12) where the bodies of one row would have 2 to the 31 bytes or more.
+    pub fn write_batch<W: Output>(&mut self, output: &mut W, batch: &Batch) -> Result<(), Fault>
         requires failures { CanFail (W.failures output.old) }
-        requires few { length batch.now.columns ≤ most_columns }
-        ensures bytes { SendsBatch result batch.now (W.contents output.old) (W.contents output.new) self.old self.new }
+        requires typed { AreOfTypes (self.old.schema).fields batch.now.columns }
+        ensures bytes { SendsBatch result self.old.schema batch.now
+            (W.contents output.old) (W.contents output.new) self.old.waiting self.new.waiting }
+        ensures kept { self.new.schema ≡ self.old.schema }
         ensures counted { CountsTransport result (W.failures output.old) (W.failures output.new) }
-        ensures cause { MatchResult result (λ _. Unit {0}) (IsCause (batch.now ∷ [])) }
+        ensures cause { MatchResult result (λ _. Unit {0}) (IsCause self.old.schema (batch.now ∷ [])) }
     {
-        send_batch(alloc, output, &mut self.outbox, batch)
+        send_batch(&self.dresser, output, &mut self.outbox, batch)
     }
 
     /// Ends the stream: writes the end marker, and what waits.
@@ -95,7 +99,7 @@ impl StreamWriter {
     pub fn end<W: Output>(self, output: &mut W) -> Result<(), Fault>
         requires { CanFail (W.failures output.old) }
         ensures bytes { (schema : Schema) (rows : Rows) (start : Option (List ℕ)) →
-            SoFar schema rows start (W.contents output.old) self → WritesStream result schema rows start (W.contents output.new) }
+            SoFar schema rows start (W.contents output.old) self.waiting → WritesStream result schema rows start (W.contents output.new) }
         ensures counted { CountsTransport result (W.failures output.old) (W.failures output.new) }
         ensures cause { FailsByTransport result }
     {

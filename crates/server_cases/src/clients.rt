@@ -10,11 +10,13 @@ use client_commands::tables::tables;
 use command_ends::{Connect, Listen};
 use command_line::Format;
 use grpc_frame::{MemoryInput, MemoryOutput};
+use hash_seed::HashSeed;
 use loopback::{Loopback, Port};
-use scan_base::PutMode;
+use scan_base::{Fault, PutMode};
 use std::alloc::{AllocError, AllocGlobal, Global};
 use std::io;
 use std::net::{Net, TcpListener, TcpStream};
+use std::random::RandomSource;
 use std::thread::Threads;
 
 // An Arrow IPC stream of one nullable column `s` of texts: 'b', NULL, 'a', NULL, 'b'. Its headers are laid out by
@@ -115,6 +117,14 @@ where
     add_heard(told, status.number(), &lines, &said)
 }
 
+// What the hashes of a client begin with. Where the system gives no random bytes, this end fails.
+pub(crate) fn seed(rt: &impl RandomSource) -> Result<HashSeed, Failure> {
+    match HashSeed::new(rt) {
+        Ok(seed) => Ok(seed),
+        Err(_) => Err(Failure::Found(Fault::Transport)),
+    }
+}
+
 // A query over two connections at most, which prints on these lines.
 pub(crate) fn ask_rows<R>(
     rt: &R,
@@ -137,7 +147,8 @@ where
 // One connection is made for each of them but the query of all rows, for which two are.
 pub(crate) fn run_commands<R>(rt: &R, port: u16, told: &mut String) -> Result<(), Failure>
 where
-    R: Net<Listener = TcpListener, Stream = TcpStream> + AllocGlobal + Threads + Sync,
+    R: Net<Listener = TcpListener, Stream = TcpStream> + RandomSource + AllocGlobal,
+    R: Threads + Sync,
 {
     let alloc = rt.alloc();
     put_stream(rt, created(port, "t"), STREAM, told)?;
@@ -147,6 +158,7 @@ where
         streams: 2,
         sql: GROUPED,
         format: Format::Lines,
+        seed: seed(rt)?,
     };
     ask_rows(rt, grouped, MemoryOutput::new(alloc), told)?;
     let all = Querying {

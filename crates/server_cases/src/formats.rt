@@ -1,12 +1,14 @@
 //! The formats of `query`, over loopback from a `serve` in another thread.
 
-use crate::clients::{STREAM, add_heard, ask_rows, created, put_stream};
+use crate::clients::{STREAM, add_heard, ask_rows, created, put_stream, seed};
+use client_calls::Failure;
 use client_commands::query::{Querying, query};
 use command_line::Format;
 use grpc_frame::MemoryOutput;
 use loopback::Loopback;
 use std::alloc::{AllocError, AllocGlobal};
 use std::net::{Net, TcpListener, TcpStream};
+use std::random::RandomSource;
 use std::thread::Threads;
 
 // Copies a table: the Arrow IPC stream of a query is put again. No byte of the stream is told.
@@ -26,9 +28,10 @@ where
 
 // A put, its rows as CSV, its rows copied by an Arrow IPC stream, and groups of the copy in lines and as a table for people. Two
 // connections are made for the rows as CSV, and else one.
-pub(crate) fn run_formats<R>(rt: &R, port: u16, told: &mut String) -> Result<(), AllocError>
+pub(crate) fn run_formats<R>(rt: &R, port: u16, told: &mut String) -> Result<(), Failure>
 where
-    R: Net<Listener = TcpListener, Stream = TcpStream> + AllocGlobal + Threads + Sync,
+    R: Net<Listener = TcpListener, Stream = TcpStream> + RandomSource + AllocGlobal,
+    R: Threads + Sync,
 {
     let alloc = rt.alloc();
     put_stream(rt, created(port, "t"), STREAM, told)?;
@@ -37,6 +40,7 @@ where
         streams: 2,
         sql: "SELECT s FROM t",
         format: Format::Csv,
+        seed: seed(rt)?,
     };
     ask_rows(rt, all, MemoryOutput::new(alloc), told)?;
     let copied = Querying {
@@ -54,5 +58,6 @@ where
         format: Format::Table,
         ..grouped
     };
-    ask_rows(rt, aligned, MemoryOutput::new(alloc), told)
+    ask_rows(rt, aligned, MemoryOutput::new(alloc), told)?;
+    Ok(())
 }

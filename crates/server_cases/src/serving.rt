@@ -54,13 +54,14 @@ impl Client {
 // Has a client call the server at this port, and adds what comes of it.
 fn call<R>(rt: &R, client: Client, port: u16, told: &mut String) -> Result<(), Failure>
 where
-    R: Net<Listener = TcpListener, Stream = TcpStream> + AllocGlobal + Threads + Clock + Sync,
+    R: Net<Listener = TcpListener, Stream = TcpStream> + RandomSource + AllocGlobal,
+    R: Threads + Clock + Sync,
 {
     match client {
         Client::StaysOpen(most) => stay_open(rt, port, most, told),
         Client::StaysWhole => stay_whole(rt, port, told),
         Client::Commands => run_commands(rt, port, told),
-        Client::Formats => Ok(run_formats(rt, port, told)?),
+        Client::Formats => run_formats(rt, port, told),
         Client::Expires => expire_old(rt, port, told),
         Client::PutsBeyondKept => put_beyond_kept(rt, port, told),
     }
@@ -168,7 +169,8 @@ fn fault_of(failure: Failure) -> Fault {
 // connections: so many are made then, that the server ends.
 fn called<R>(rt: &R, client: Client, port: u16, accept: u16) -> String
 where
-    R: Net<Listener = TcpListener, Stream = TcpStream> + AllocGlobal + Threads + Clock + Sync,
+    R: Net<Listener = TcpListener, Stream = TcpStream> + RandomSource + AllocGlobal,
+    R: Threads + Clock + Sync,
 {
     let mut told = String::new(rt.alloc());
     if let Err(failure) = call(rt, client, port, &mut told) {

@@ -8,9 +8,11 @@ use client_commands::query::{Querying, query};
 use command_ends::Connect;
 use command_line::Format;
 use grpc_frame::{Input, MemoryInput, MemoryOutput};
+use hash_seed::HashSeed;
 use scan_base::Fault;
 use std::alloc::{AllocError, Global};
 use std::io::ErrorKind;
+use std::random::RandomSource;
 use std::sync::atomic::{AtomicU64, Ordering};
 use std::thread::Threads;
 use std::time::{Clock, Duration};
@@ -153,10 +155,10 @@ fn add_stream(answer: &mut Vec<u8>, letters: &'static [u8]) -> Result<(), AllocE
 
 // What a query comes to whose second connection ends before the first one: the exit status, how many connections were made and
 // closed, and the lines, which come in the order of the endpoints.
-pub(crate) fn told_order<R: Clock + Threads + Sync>(
-    rt: &R,
-    alloc: Global,
-) -> Result<String, AllocError> {
+pub(crate) fn told_order<R>(rt: &R, alloc: Global) -> io::Result<String>
+where
+    R: Clock + RandomSource + Threads + Sync,
+{
     let mut first = Vec::new(alloc);
     first.extend_from_slice(INFO)?;
     add_stream(&mut first, b"baaab")?;
@@ -166,12 +168,10 @@ pub(crate) fn told_order<R: Clock + Threads + Sync>(
 }
 
 // What the query comes to over these answers of two connections.
-fn told_rows<R: Clock + Threads + Sync>(
-    rt: &R,
-    alloc: Global,
-    first: &[u8],
-    second: &[u8],
-) -> Result<String, AllocError> {
+fn told_rows<R>(rt: &R, alloc: Global, first: &[u8], second: &[u8]) -> io::Result<String>
+where
+    R: Clock + RandomSource + Threads + Sync,
+{
     let closed = AtomicU64::new(0);
     let made = AtomicU64::new(0);
     let mut network = Two {
@@ -189,6 +189,7 @@ fn told_rows<R: Clock + Threads + Sync>(
         streams: 3,
         sql: "SELECT s FROM t",
         format: Format::Lines,
+        seed: HashSeed::new(rt)?,
     };
     let status = query(rt, alloc, &mut network, &mut output, &mut faults, querying).number();
     let made = made.load(Ordering::SeqCst);

@@ -3,15 +3,15 @@ use Rattle.std.specs.Prelude.{◌≡◌, ◌⊎◌, ℕ, true, List, [], ◌∷�
 use Rattle.scan_base.specs.declared.fault.Fault.{Fault}
 use Rattle.scan_base.specs.declared.fault.Fault.TheVariants.{LimitReached, OutOfMemory, Transport}
 use Rattle.arrow_schema.specs.declared.schema.Schema.{Schema}
-use Rattle.arrow_schema.specs.Answer.{plain_schema}
+use Rattle.ipc_batch.specs.State.{Known, State}
 use Rattle.ipc_batch.specs.Said.{Rows}
 use Rattle.table_versions.specs.Table.{same_fields}
 use Rattle.flight_proto.specs.FlightInfo.{EndpointSaid}
 use Rattle.flight_client.specs.Join.{joined}
 use Rattle.flight_client.specs.Stream.{StreamAt}
 use Rattle.flight_info.specs.Payloads.{Payload}
-use Rattle.row_stream.specs.Stream.{CountsTransport}
-use Rattle.row_stream.specs.Writing.{SoFar, Stopped}
+use Rattle.row_stream.specs.Stream.{numbered_schema, CountsTransport}
+use Rattle.row_stream.specs.Writing.{WriterAt, SoFar, Stopped}
 use Rattle.client_calls.specs.declared.failure.Failure.{Failure}
 use Rattle.client_calls.specs.declared.failure.Failure.TheVariants.{Found}
 use Rattle.client_calls.specs.Outcome.{Line}
@@ -25,29 +25,35 @@ use Rattle.client_commands.specs.Streaming.{HasLongRow, SaysFirst, SaysSchema, S
 -- A stream of this schema is being fetched, which has the columns of the schema that is written; and the rows before it and its own
 -- so far were sent.
 pub record IsPassing (ticket : Payload) (schema own : Schema) (rows : Rows) (start : Option (List ℕ)) (begun : Line) (stream : StreamAt)
-    (now : FetchAt) (out : Said) (waiting : List ℕ) : Type 0 where
+    (now : FetchAt) (out : Said) (writer : WriterAt) : Type 0 where
   pub fetching : IsFetching ticket stream begun now.line
   pub state : stream.state ≡ now.state
   pub says : SaysSchema stream own
   pub same : same_fields schema.fields own.fields ≡ true
-  pub so : SoFar (plain_schema schema) (rows ++ stream.rows) start out.bytes waiting
+  pub written : writer.schema ≡ numbered_schema schema
+  pub so : SoFar (numbered_schema schema) (rows ++ stream.rows) start out.bytes writer.waiting
+
+-- what comes of a stream has the columns of the schema that is written
+abbrev pub FitsSchema : State → Schema → Type 0
+FitsSchema state written = (known : Known) × (state ≡ Some known) × (same_fields written.fields known.schema.fields ≡ true)
 
 -- why what came of a stream is not written
-abbrev pub WhyUnwritten : StreamAt → Fault → Type 0
-WhyUnwritten stream Transport = Unit {0}
-WhyUnwritten stream OutOfMemory = Unit {0}
-WhyUnwritten stream LimitReached = HasLongRow stream.rows
-WhyUnwritten stream _ = ⊥
+abbrev pub WhyUnwritten : Schema → StreamAt → Fault → Type 0
+WhyUnwritten schema stream Transport = Unit {0}
+WhyUnwritten schema stream OutOfMemory = Unit {0}
+WhyUnwritten schema stream LimitReached = HasLongRow schema stream.rows
+WhyUnwritten schema stream _ = ⊥
 
 -- it came whole
 pub record HasPassed (ticket : Payload) (schema own : Schema) (rows : Rows) (start : Option (List ℕ)) (begun : Line)
-    (now : FetchAt) (out out' : Said) (waiting : List ℕ) : Type 0 where
+    (now : FetchAt) (out out' : Said) (writer : WriterAt) : Type 0 where
   pub stream : StreamAt
   pub fetched : FetchGives ticket (Ok stream) begun now.line
   pub ended : stream.end ≡ Some (Ok tt)
   pub state : stream.state ≡ now.state
   pub says : SaysSchema stream own
-  pub so : SoFar (plain_schema schema) (rows ++ stream.rows) start out'.bytes waiting
+  pub written : writer.schema ≡ numbered_schema schema
+  pub so : SoFar (numbered_schema schema) (rows ++ stream.rows) start out'.bytes writer.waiting
   pub quiet : out'.failures ≡ out.failures
 
 -- it stopped behind some rows
@@ -57,22 +63,22 @@ pub record StopsPassing (ticket : Payload) (schema own : Schema) (rows : Rows) (
   pub some : Line
   pub fetching : IsFetching ticket stream begun some
   pub says : SaysSchema stream own
-  pub wrote : Stopped (plain_schema schema) (rows ++ stream.rows) start out'.bytes
+  pub wrote : Stopped (numbered_schema schema) (rows ++ stream.rows) start out'.bytes
   pub why : (FetchGives ticket (Err failure) begun now × (out'.failures ≡ out.failures))
-      ⊎ ((fault : Fault) × (failure ≡ Found fault) × WhyUnwritten stream fault
+      ⊎ ((fault : Fault) × (failure ≡ Found fault) × WhyUnwritten schema stream fault
       × CountsTransport {A = Unit {0}} (Err fault) out.failures out'.failures × (now ≡ some))
 
-abbrev pub PassesBatches : Result (Unit {0}) Failure → Payload → Schema → Schema → Rows → Option (List ℕ) → Line → FetchAt → Said → Said → List ℕ → Type 0
-PassesBatches (Ok done) ticket schema own rows start begun now out out' waiting = HasPassed ticket schema own rows start begun now out out' waiting
-PassesBatches (Err failure) ticket schema own rows start begun now out out' waiting = StopsPassing ticket schema own rows start begun failure now.line out out'
+abbrev pub PassesBatches : Result (Unit {0}) Failure → Payload → Schema → Schema → Rows → Option (List ℕ) → Line → FetchAt → Said → Said → WriterAt → Type 0
+PassesBatches (Ok done) ticket schema own rows start begun now out out' writer = HasPassed ticket schema own rows start begun now out out' writer
+PassesBatches (Err failure) ticket schema own rows start begun now out out' writer = StopsPassing ticket schema own rows start begun failure now.line out out'
 
 -- ---- streams one behind the other
 
--- what goes on from one stream to the next: the connection, the schema of the first one, and the bytes that wait for the next write
+-- what goes on from one stream to the next: the connection, the schema of the first one, and who writes
 pub record PassingAt : Type 0 where
   pub line : Line
   pub schema : Schema
-  pub waiting : List ℕ
+  pub writer : WriterAt
 
 -- the streams of these endpoints came whole and join, and their rows were sent
 pub record HavePassed (endpoints : List EndpointSaid) (first : Line) (begun : Said) (now : PassingAt) (out : Said) : Type 0 where
@@ -80,7 +86,8 @@ pub record HavePassed (endpoints : List EndpointSaid) (first : Line) (begun : Sa
   pub fetched : FetchesEach endpoints streams first now.line
   pub says : SaysFirst streams now.schema
   pub join : joined streams ≡ Ok (record { schema = now.schema; rows = rows_held streams })
-  pub so : SoFar (plain_schema now.schema) (rows_held streams) begun.bytes out.bytes now.waiting
+  pub written : (now.writer).schema ≡ numbered_schema now.schema
+  pub so : SoFar (numbered_schema now.schema) (rows_held streams) begun.bytes out.bytes (now.writer).waiting
   pub quiet : out.failures ≡ begun.failures
 
 -- the stream of one more endpoint behind these was passed on, or it stopped there, whatever endpoints come behind that

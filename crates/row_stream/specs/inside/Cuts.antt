@@ -1,21 +1,39 @@
 -- Inside: a batch that is cut into messages.
-use Rattle.std.specs.Prelude.{◌≡◌, ◌⊎◌, ◌≤◌, ◌<◌, ℕ, ◌+◌, length}
-use Rattle.arrays.specs.Batch.{BatchAt, cut_batch}
-use Rattle.ipc_batch.specs.Said.{Sent}
-use Rattle.plain_batches.specs.Plain.{SaysAnswered}
+use Rattle.std.specs.Prelude.{◌≡◌, ◌≤◌, ◌<◌, ℕ, ◌+◌, List, [], ◌∷◌, ◌++◌, All, length, map}
+use Rattle.arrow_schema.specs.declared.schema.Schema.{Schema}
+use Rattle.arrays.specs.Batch.{BatchAt, cut_batch, rows_of}
+use Rattle.ipc_batch.specs.Dressed.{IsDressed}
+use Rattle.ipc_batch.specs.Written.{SaysBatch}
+use Rattle.dressed_batches.specs.Lengths.{bodies_length}
+use Rattle.ipc_stream.specs.declared.message.IpcMessage.{IpcMessage}
 use Rattle.ipc_stream.specs.Stream.{IsMessage}
-use Rattle.row_stream.specs.Stream.{sent_in, most_body_bytes}
+use Rattle.row_stream.specs.Stream.{sent_in, HasShortBody}
 use Rattle.row_stream.specs.declared.cutting.Cut.{Cut}
 
--- a message says a batch, in a body that is not too long, or the one row that the batch has
-pub record SaysShort (batch : BatchAt) (sent : Sent) : Type 0 where
-  pub says : SaysAnswered sent batch
-  pub short : (length sent.body ≤ most_body_bytes) ⊎ (batch.rows ≡ 1)
+-- messages of dictionaries, and one that says a batch behind them, in bodies that together have no more bytes than there is room for
+pub record AreBehind (dictionaries : List IpcMessage) (batch : BatchAt) (room : ℕ) (messages : List IpcMessage) : Type 0 where
+  pub last : IpcMessage
+  pub are : messages ≡ dictionaries ++ last ∷ []
+  pub fits : IsMessage last
+  pub says : SaysBatch (sent_in last) batch
+  pub short : bodies_length (map sent_in dictionaries) + length last.body ≤ room
 
--- a message of the rows of a batch from one on, of one or more of them and at most so many
-pub record IsCut (batch : BatchAt) (at most : ℕ) (cut : Cut) : Type 0 where
+-- messages of the dictionaries of a batch's texts, and behind them one that says its rows; each of them is short
+pub record SayBatch (IsShort : IpcMessage → Type 0) (schema : Schema) (batch : BatchAt) (messages : List IpcMessage) : Type 0 where
+  pub dictionaries : List IpcMessage
+  pub last : IpcMessage
+  pub are : messages ≡ dictionaries ++ last ∷ []
+  pub each : All IsMessage messages
+  pub dressed : IsDressed schema (record { dictionaries = map sent_in dictionaries; batch = sent_in last; rows = rows_of batch })
+  pub short : All IsShort messages
+
+-- no body is longer than there is room for
+abbrev pub HasBodyWithin : ℕ → IpcMessage → Type 0
+HasBodyWithin room message = length message.body ≤ room
+
+-- the messages of the rows of a batch from one on, of one or more of them and at most so many
+pub record IsCut (schema : Schema) (batch : BatchAt) (at most : ℕ) (cut : Cut) : Type 0 where
   pub forth : at < cut.end
   pub few : cut.end ≤ at + most
   pub within : cut.end ≤ batch.rows
-  pub fits : IsMessage cut.message
-  pub says : SaysShort (cut_batch batch at cut.end) (sent_in cut.message)
+  pub says : SayBatch (HasShortBody schema) schema (cut_batch batch at cut.end) cut.parcel

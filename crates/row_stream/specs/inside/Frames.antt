@@ -2,10 +2,19 @@
 use Rattle.std.specs.Prelude.{◌≡◌, ◌⊎◌, ℕ, List, [], Option, None, Some, Result, Ok, Err}
 use Rattle.arrow_schema.specs.declared.schema.Schema.{Schema}
 use Rattle.ipc_batch.specs.Said.{Sent, news_of}
+use Rattle.ipc_batch.specs.declared.writer.WrittenMessage.{WrittenMessage}
 use Rattle.ipc_stream.specs.declared.message.IpcMessage.{IpcMessage}
 use Rattle.ipc_stream.specs.Stream.{frame, IsMessage}
 use Rattle.grpc_frame.specs.Sending.{Sent as Outgone, NotSent}
 use Rattle.row_stream.specs.Stream.{sent_in}
+
+-- a message that is written, as one of a stream
+abbrev pub as_message : WrittenMessage → IpcMessage
+as_message message = record { header = message.header.items; body = message.body.items }
+
+-- its frame
+abbrev pub written_frame : WrittenMessage → List ℕ
+written_frame message = frame (as_message message)
 
 -- the first message of a stream says a schema, and has no body
 pub record SaysSchema (schema : Schema) (sent : Sent) : Type 0 where

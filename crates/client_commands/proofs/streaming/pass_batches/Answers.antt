@@ -2,23 +2,29 @@ use Rattle.std.proofs.Common.{Some, Err, refl, subst, ◌∙◌, ℕ}
 use Rattle.std.proofs.lemmas.Result.{err_from_is_err_and}
 use Rattle.row_stream.specs.Stream.{CountsTransport}
 use Rattle.client_calls.specs.Taking.{with_batch}
-use Rattle.client_commands.proofs.Passing.{all_passed, batch_passed, batch_stopped, fetch_failed}
+use Rattle.client_commands.proofs.Passing.{all_passed, batch_passed, batch_stopped, fetch_failed, fits_next, typed_by}
 use Rattle.client_commands.proofs.streaming.pass_batches.Goals as goal
 
 pub loop-batch-init : goal.loop-batch-init
-loop-batch-init g c = record { passes = λ ticket schema own rows start begun stream none passing. (stream, passing); count = refl; reads = refl }
+loop-batch-init g c = record { fits = c.requires.fits; passes = λ ticket schema own rows start begun stream none passing. (stream, passing); count = refl; reads = refl }
+
+pub write_batch-requires-clause-typed : goal.write_batch-requires-clause-typed
+write_batch-requires-clause-typed g c =
+    let i = c.loop-batch.invariant in
+    let has = rw c.in-Some.is at c.in_ok-batch.ensures.columns in
+    typed_by c.next.new.self.state c.loop-batch.writer.schema c.in-Some.batch (fits_next _ _ _ _ i.fits c.in_ok-batch.ensures.kept refl) has
 
 pub loop-batch-preserved : goal.loop-batch-preserved
 loop-batch-preserved g c =
     let i = c.loop-batch.invariant in
     let came = rw c.in-Some.is at c.in_ok-batch.ensures.next in
-    let has = rw c.in-Some.is at c.in_ok-batch.ensures.columns in
     record {
       passes = λ ticket schema own rows start begun stream none passing.
           let before = i.passes ticket schema own rows start begun stream none passing in (
             with_batch before.0 c.next.new.self.state (Some c.in-Some.batch),
-            batch_passed ticket schema own rows start begun before.0 _ _ _ before.1 c.next.new.self.state c.next.new.self.line c.in-Some.batch (came ticket before.0 begun before.1.state before.1.fetching) c.in_ok-batch.ensures.kept has _ _ _ refl refl c.in_ok-write_batch.ensures.bytes,
+            batch_passed ticket schema own rows start begun before.0 _ _ _ before.1 c.next.new.self.state c.next.new.self.line c.in-Some.batch (came ticket before.0 begun before.1.state before.1.fetching) c.in_ok-batch.ensures.kept _ _ c.write_batch.new.self refl refl c.in_ok-write_batch.ensures.kept c.in_ok-write_batch.ensures.bytes,
           );
+      fits = fits_next _ _ _ _ i.fits c.in_ok-batch.ensures.kept c.in_ok-write_batch.ensures.kept;
       count = c.in_ok-write_batch.ensures.counted ∙ i.count;
       reads = c.in_ok-batch.ensures.quiet ∙ i.reads;
     }
@@ -35,10 +41,9 @@ returns-in_err-write_batch g c ticket schema own rows start begun stream none pa
     let i = c.loop-batch.invariant in
     let before = i.passes ticket schema own rows start begun stream none passing in
     let came = rw c.in-Some.is at c.in_ok-batch.ensures.next in
-    let has = rw c.in-Some.is at c.in_ok-batch.ensures.columns in
     let p = err_from_is_err_and c.from_residual-in_err-write_batch.result c.from_residual-in_err-write_batch.ensures.1 in
     rw (p.1, p.2)
-    (batch_stopped ticket schema own rows start begun before.0 _ _ _ before.1 c.next.new.self.state c.next.new.self.line c.in-Some.batch (came ticket before.0 begun before.1.state before.1.fetching) c.in_ok-batch.ensures.kept has _ _ _ _ c.write_batch.new.self refl c.in_err-write_batch.ensures.bytes c.in_err-write_batch.ensures.cause
+    (batch_stopped ticket schema own rows start begun before.0 _ _ _ before.1 c.next.new.self.state c.next.new.self.line c.in-Some.batch (came ticket before.0 begun before.1.state before.1.fetching) c.in_ok-batch.ensures.kept _ _ _ _ c.write_batch.new.self.waiting refl c.in_err-write_batch.ensures.bytes c.in_err-write_batch.ensures.cause
     (subst (λ (n : ℕ). CountsTransport {A = Unit {0}} (Err c.in_err-write_batch.field-0.0) n (g.O.Output.failures c.write_batch.new.output)) i.count c.in_err-write_batch.ensures.counted))
 
 pub returns : goal.returns

@@ -77,6 +77,9 @@ pass_next-requires-clause-calls g c =
     let quiet = quiet_each (i.first ∷ map endpoint_said (take c.loop-endpoint.endpoint-index (behind c.as_slice.result.now))) i.passed.streams i.middle c.loop-endpoint.passing.line i.passed.fetched in
     (subst CanFail (sym quiet.0) counts.0, subst CanFail (sym quiet.1) counts.1)
 
+pub pass_next-requires-clause-written : goal.pass_next-requires-clause-written
+pass_next-requires-clause-written g c = c.loop-endpoint.invariant.passed.written
+
 pub returns-in_err-passing-2 : goal.returns-in_err-passing-2
 returns-in_err-passing-2 g c =
     let i = c.loop-endpoint.invariant in

@@ -7,7 +7,7 @@ invariant-loop-at g l = record {
   within : l.at ≤ l.fn.batch.rows;
   some : 0 < l.most;
   few : l.most ≤ 65536;
-  sent : SentTo l.fn.batch l.at (g.W.Output.contents l.fn.writer) (g.W.Output.contents l.writer) l.fn.outbox l.outbox;
+  sent : SentTo l.fn.dresser l.fn.batch l.at (g.W.Output.contents l.fn.writer) (g.W.Output.contents l.writer) l.fn.outbox l.outbox;
   count : g.W.Output.failures l.writer ≡ g.W.Output.failures l.fn.writer;
 }
 

@@ -28,4 +28,4 @@ pub returns-clause-counted : goal.returns-clause-counted
 returns-clause-counted g c = counts c.send_frame.result _ _ c.send_frame.ensures.counted c.send_frame.ensures.fault
 
 pub returns-clause-cause : goal.returns-clause-cause
-returns-clause-cause g c = causes_by_transport [] c.send_frame.result c.send_frame.ensures.fault
+returns-clause-cause g c = causes_by_transport c.args.schema.now [] c.send_frame.result c.send_frame.ensures.fault

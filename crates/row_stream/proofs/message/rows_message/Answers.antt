@@ -2,7 +2,7 @@ use Rattle.std.proofs.Common.{◌<◌, ◌^◌, ℕ, List, length, sym, subst, a
 use Rattle.ipc_batch.specs.Written.{body_of, buffers_written, parts_written}
 use Rattle.ipc_stream.specs.Stream.{IsMessage}
 use Rattle.row_stream.proofs.Messages.{batch_fits}
-use Rattle.row_stream.proofs.message.written_message.Goals as goal
+use Rattle.row_stream.proofs.message.rows_message.Goals as goal
 
 pub returns-in_ok-buffers-in-Some-clause-fits : goal.returns-in_ok-buffers-in-Some-clause-fits
 returns-in_ok-buffers-in-Some-clause-fits c =

@@ -1,0 +1,9 @@
+use Rattle.std.proofs.Common.{◌≡◌, ◌+◌, map, drop}
+use Rattle.ipc_batch.specs.Seen.{written_seen}
+use Rattle.dressed_batches.specs.Lengths.{bodies_length}
+use Rattle.row_stream.proofs.message.room_beside.Given as goal
+
+-- what is spent of the room is the length of the bodies so far
+abbrev pub invariant-loop-message : goal.invariant-loop-message
+invariant-loop-message l =
+    bodies_length (map written_seen l.messages) + l.left ≡ l.room + bodies_length (map written_seen (drop l.message-index l.messages))
