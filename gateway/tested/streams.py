@@ -165,7 +165,8 @@ def many_clients(run: Run) -> str:
             ask(client, put_of("last", A, [(1,)]), PutCount(1))
             ask(client, fetch_of(puts + 1, 0, 1, "SELECT * FROM last"), rows_of(A, (1,)))
             ask(client, fetch_of(puts + 2, 0, 1, "SELECT * FROM last"), Refusal("F18"))
-        same("seats in use at most", True, server.open_files() < 30)
+        # (six of the standard streams and the null device, a listener and one more for each seat, two of each connection)
+        same("seats in use at most", True, server.open_files() <= 6 + 9 + 2 * 8)
         held = gateway.most_held() / MEGABYTE
         same(f"the gateway held {held:.0f} MB, less than 150", True, held < 150)
     return f"{calls:,} calls, {puts:,} puts, the gateway held {held:.0f} MB"
