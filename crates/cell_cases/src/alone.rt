@@ -32,7 +32,7 @@ pub fn refusals<R: Wait>(rt: &R, alloc: Global, seed: HashSeed) -> Result<String
 }
 
 fn refuses<C: CellName, R: Wait>(rt: &R, alloc: Global, blank: Blank) -> Result<String, Fault>
-    requires { IsNamed blank C.book C.name C.parts }
+    requires { IsNamed blank C.book C.name C.parts C.asks C.numbers }
 {
     let (mut putter, mut seats) = blank.named::<C, &R>(alloc, rt)?;
     let Some(seat) = seats.as_mut_slice().first_mut() else {
@@ -57,7 +57,7 @@ pub fn expiries<R: Wait>(rt: &R, alloc: Global, seed: HashSeed) -> Result<String
 }
 
 fn expires<C: CellName, R: Wait>(rt: &R, alloc: Global, blank: Blank) -> Result<String, Fault>
-    requires { IsNamed blank C.book C.name C.parts }
+    requires { IsNamed blank C.book C.name C.parts C.asks C.numbers }
 {
     let (mut putter, mut seats) = blank.named::<C, &R>(alloc, rt)?;
     let Some(seat) = seats.as_mut_slice().first_mut() else {

@@ -151,7 +151,7 @@ fn looked_at_by_two<C: CellName + Send + Sync, R: Threads + Wait + Sync>(
     alloc: Global,
     blank: Blank,
 ) -> Result<String, Fault>
-    requires { IsNamed blank C.book C.name C.parts }
+    requires { IsNamed blank C.book C.name C.parts C.asks C.numbers }
 {
     let looking = Looking {
         table: Text::new(alloc, "t")?,
@@ -202,7 +202,7 @@ fn put_by_two<C: CellName + Send + Sync, R: Threads + Wait + Sync>(
     alloc: Global,
     blank: Blank,
 ) -> Result<String, Fault>
-    requires { IsNamed blank C.book C.name C.parts }
+    requires { IsNamed blank C.book C.name C.parts C.asks C.numbers }
 {
     let table = Text::new(alloc, "t")?;
     let (putter, mut seats) = blank.named::<C, &R>(alloc, rt)?;

@@ -37,7 +37,7 @@ fn told_by_another<C: CellName, R: Wait>(
     alloc: Global,
     blank: Blank,
 ) -> Result<String, Fault>
-    requires cell { IsNamed blank C.book C.name C.parts }
+    requires cell { IsNamed blank C.book C.name C.parts C.asks C.numbers }
     requires seats { blank.seats ≡ 2 }
 {
     let (putter, mut seats) = blank.named::<C, &R>(alloc, rt)?;
@@ -68,7 +68,7 @@ pub fn one_seat_holds_what_expires<R: Wait>(
 }
 
 fn held_beside<C: CellName, R: Wait>(rt: &R, alloc: Global, blank: Blank) -> Result<String, Fault>
-    requires cell { IsNamed blank C.book C.name C.parts }
+    requires cell { IsNamed blank C.book C.name C.parts C.asks C.numbers }
     requires seats { blank.seats ≡ 2 }
 {
     let table = Text::new(alloc, "t")?;

@@ -11,6 +11,7 @@ use Rattle.flight_core.proofs.Running.{begins_on}
 use Rattle.flight_core.specs.Headline.{Pairwise}
 use Rattle.version_log.specs.Log.{Log, IsLog, Begins}
 use Rattle.flight_calls.specs.declared.setting.Options.{Options}
+use Rattle.version_cell.specs.Merges.{MergesAll}
 use Rattle.version_cell.specs.Seats as cell
 use Rattle.shared_calls.specs.Sharing.{onward, seat_at}
 use Rattle.connection_turns.specs.Drawers.{DrawerAt, drawer_at}
@@ -18,7 +19,7 @@ use Rattle.command_line.specs.declared.request.Serving.{Serving}
 use Rattle.command_ends.specs.Network.{Ends}
 use Rattle.command_ends.specs.Printing.{Said, listening_line}
 use Rattle.commands.specs.Port.{IsFresh, IsServed, ServesPort, most_of, options_of}
-use Rattle.commands.specs.Serve.{DrawsAll, Pays, Work, IsPartOf, ServesSideBySide, both, first_fault, made_by}
+use Rattle.commands.specs.Serve.{DrawsAll, Pays, Work, IsPartOf, ServesSideBySide, both, first_fault, made_by, made_by_each}
 use Rattle.commands.specs.inside.Gathering.{Begun, Gathered, HasDrawn, HasWorked, HiredWorker, IsAtRest, IsNew, IsWithin, MayServe, seat_in, state_of, work_of}
 
 -- all that is of a history is of one that goes on from it
@@ -77,15 +78,16 @@ may_serve {L} at_rest port_of owed options at port name (hired ∷ all) same pay
 
 -- ---- workers that have ended
 
-pub none_gathered : {L : Type 0} (all : List (HiredWorker L)) (seats : cell.GatheredAt) (name : TableId) (hub : DrawerAt) → seats.seats ≡ 0 → seats.made ≡ 0 → hub ≡ drawer_at name 1 0 0 → All (HasDrawn name) all
+pub none_gathered : {L : Type 0} (all : List (HiredWorker L)) (seats : cell.GatheredAt) (name : TableId) (hub : DrawerAt) → seats.seats ≡ 0 → seats.made ≡ 0 → seats.each ≡ [] → hub ≡ drawer_at name 1 0 0 → All (HasDrawn name) all
     → Gathered all all seats (Ok tt) name hub
-none_gathered {L} all seats name hub none made is drawn = record {
+none_gathered {L} all seats name hub none made nothing is drawn = record {
   done = [];
   whole = sym (append-nil all);
   others = drawn;
   within = All-nil (IsWithin seats.log);
   many = none;
   made = made;
+  each = nothing;
   first = refl;
   named = ap (λ (d : DrawerAt). d.name) is;
   parts = ap (λ (d : DrawerAt). d.parts) is;
@@ -113,10 +115,11 @@ pub record Takes (found : Option cell.Seat) (seats after : cell.GatheredAt) : Ty
   pub within : Begins (seat_in found).log after.log
   pub many : after.seats ≡ seats.seats + 1
   pub made : after.made ≡ seats.made + length (seat_in found).made
+  pub each : after.each ≡ (seat_in found).made ∷ seats.each
 
 pub takes_so : (found : Option cell.Seat) (scanner : cell.Seat) (seats after : cell.GatheredAt) → found ≡ Some scanner → Begins seats.log after.log → Begins scanner.log after.log → after.seats ≡ seats.seats + 1
-    → after.made ≡ seats.made + length scanner.made → Takes found seats after
-takes_so found scanner seats after there more within many made = rw there (record { more = more; within = within; many = many; made = made })
+    → after.made ≡ seats.made + length scanner.made → after.each ≡ scanner.made ∷ seats.each → Takes found seats after
+takes_so found scanner seats after there more within many made each = rw there (record { more = more; within = within; many = many; made = made; each = each })
 
 -- it is done with
 pub one_gathered : {L : Type 0} (all left rest : List (HiredWorker L)) (hired : HiredWorker L) (seats after : cell.GatheredAt) (result next_result : Result (Unit {0}) Fault) (name : TableId) (hub next : DrawerAt)
@@ -135,6 +138,7 @@ one_gathered {L} all left rest hired seats after result next_result name hub nex
       within = All-cons (IsWithin after.log) hired gathered.done takes.within (within_more seats.log after.log takes.more gathered.done gathered.within);
       many = (let before = gathered.many in let one = takes.many in omega (arith, before, one));
       made = (let before = gathered.made in let one = takes.made in omega (arith, before, one));
+      each = takes.each ∙ ap (λ others. (seat_in hired.scanner).made ∷ others) gathered.each;
       first = ends ∙ ap (both hired.served) gathered.first;
       named = ap (λ (d : DrawerAt). d.name) taken ∙ gathered.named;
       parts = (let before = gathered.parts in let one = drawn.2 in omega (arith, parts, before, one));
@@ -149,10 +153,11 @@ pub record AllGathered {L : Type 0} (all : List (HiredWorker L)) (seats : cell.G
   pub within : All (IsWithin seats.log) all
   pub many : seats.seats ≡ length all
   pub made : seats.made ≡ made_by (map work_of all)
+  pub each : seats.each ≡ made_by_each (map work_of all)
 
 pub all_gathered : {L : Type 0} (all : List (HiredWorker L)) (seats : cell.GatheredAt) (result : Result (Unit {0}) Fault) (name : TableId) (hub : DrawerAt) → Gathered all [] seats result name hub
     → AllGathered all seats result
-all_gathered {L} all seats result name hub gathered = rw gathered.whole (record { first = gathered.first; within = gathered.within; many = gathered.many; made = gathered.made })
+all_gathered {L} all seats result name hub gathered = rw gathered.whole (record { first = gathered.first; within = gathered.within; many = gathered.many; made = gathered.made; each = gathered.each })
 
 -- the hub has every part
 pub all_parts : {L : Type 0} (all : List (HiredWorker L)) (seats : cell.GatheredAt) (result : Result (Unit {0}) Fault) (name : TableId) (hub : DrawerAt) (parts : ℕ) → Gathered all [] seats result name hub → parts ≡ length all + 1
@@ -218,14 +223,15 @@ all_have_drawn {L} accepts options name olds news items is same each = rw is (dr
 pub all_served : {L : Type 0} (accepts : L → Option Ends → L → Type 0) (options : Options) (name : TableId) (most : ℕ) (history : Log) (olds news items : List (HiredWorker L)) (result : Result (Unit {0}) Fault) → items ≡ news → length news ≡ length olds
     → ((i : ℕ) (d : HiredWorker L) → i < length olds → HasWorked accepts options name (slice_index_or olds i d) (slice_index_or news i d))
     → (seen : Log) → All (IsWithin seen) items → Begins seen history → IsLog history → length history ≡ made_by (map work_of items)
-    → DrawsAll most (map work_of items) → result ≡ first_fault (map work_of items)
+    → MergesAll (made_by_each (map work_of items)) history → DrawsAll most (map work_of items) → result ≡ first_fault (map work_of items)
     → ServesSideBySide accepts options most (map state_of olds) result
-all_served {L} accepts options name most history olds news items result is same each seen within more log made drawn ends = record {
+all_served {L} accepts options name most history olds news items result is same each seen within more log made own drawn ends = record {
   history = history;
   log = log;
   ends = map work_of items;
   served = rw is (served_at accepts options name history olds news same each (rw is at (within_more seen history more items within)));
   made = made;
+  own = own;
   drawn = drawn;
   ended = ends;
 }

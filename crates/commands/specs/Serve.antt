@@ -4,6 +4,7 @@ use Rattle.scan_base.specs.declared.fault.Fault.{Fault}
 use Rattle.scan_base.specs.declared.fault.Fault.TheVariants.{Transport}
 use Rattle.flight_core.specs.Headline.{Pairwise}
 use Rattle.version_log.specs.Log.{Log, IsLog, Begins}
+use Rattle.version_cell.specs.Merges.{MergesAll}
 use Rattle.flight_calls.specs.declared.setting.Options.{Options}
 use Rattle.flight_calls.specs.Seats.{Moves, Seat}
 use Rattle.flight_calls.specs.Owed.{Connection, Serves, connection_of}
@@ -94,6 +95,11 @@ abbrev pub made_by : {L : Type 0} → List (Work L) → ℕ
 made_by [] = 0
 made_by (work ∷ others) = length work.worker.seat.made + made_by others
 
+-- the entries that the connections of each of them made
+abbrev pub made_by_each : {L : Type 0} → List (Work L) → List Log
+made_by_each [] = []
+made_by_each (work ∷ others) = work.worker.seat.made ∷ made_by_each others
+
 -- so many connections were drawn; or fewer, where every worker ended by a fault
 abbrev pub DrawsAll : {L : Type 0} → ℕ → List (Work L) → Type 0
 DrawsAll most works = (drawn_by works ≡ most) ⊎ ((drawn_by works ≤ most) × All (λ work. IsErr work.result) works)
@@ -105,8 +111,8 @@ pub record IsPartOf {L : Type 0} (accepts : L → Option Ends → L → Type 0) 
   pub within : Begins new.worker.seat.log history
 
 -- These workers served side by side, each the connections that it drew, so many in all. All that their seats have seen
--- is of one history of accepted puts, with as many entries as their connections made. The result is the first fault of
--- a worker, if any.
+-- is of one history of accepted puts, with as many entries as their connections made. It is made up of these: of the entries
+-- of each worker, in their order, and of no others. The result is the first fault of a worker, if any.
 pub record ServesSideBySide {L : Type 0} (accepts : L → Option Ends → L → Type 0) (options : Options) (most : ℕ)
     (workers : List (Worker L)) (result : Result (Unit {0}) Fault) : Type 0 where
   pub history : Log
@@ -114,5 +120,6 @@ pub record ServesSideBySide {L : Type 0} (accepts : L → Option Ends → L → 
   pub ends : List (Work L)
   pub served : Pairwise (IsPartOf accepts options history) workers ends
   pub made : length history ≡ made_by ends
+  pub own : MergesAll (made_by_each ends) history
   pub drawn : DrawsAll most ends
   pub ended : result ≡ first_fault ends

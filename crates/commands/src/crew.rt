@@ -5,7 +5,7 @@ ghost use Rattle.scan_base.specs.declared.fault.Fault.TheVariants.{OutOfMemory, 
 ghost use Rattle.version_cell.specs.Seats.{seat};
 ghost use Rattle.connection_turns.specs.Drawers as drawers;
 ghost use Rattle.commands.specs.Port.{IsFresh};
-ghost use Rattle.commands.specs.Serve.{AcceptsThenCloses, DrawsAll, ServesSideBySide, first_fault, made_by};
+ghost use Rattle.commands.specs.Serve.{AcceptsThenCloses, DrawsAll, ServesSideBySide, first_fault, made_by, made_by_each};
 ghost use Rattle.commands.specs.inside.Gathering.{HasDrawn, HasWorked, IsAtRest, IsNew, IsWithin, MayServe, state_of, work_of};
 
 use crate::turns::{Service, serve_in_turn};
@@ -156,10 +156,12 @@ fn first_of<L: Drop, C: CellName>(
     requires drawer { drawer ≡ drawers.drawer_at turns.now.name 1 0 0 }
     requires worked { All (HasDrawn turns.now.name) workers.items }
     requires none { (seats.seats ≡ 0) × (seats.made ≡ 0) }
+    requires each { seats.each ≡ [] }
     ensures first { result.0 ≡ first_fault (map work_of workers.items) }
     ensures within { All (IsWithin result.1.log) workers.items }
     ensures many { result.1.seats ≡ length workers.items }
     ensures made { result.1.made ≡ made_by (map work_of workers.items) }
+    ensures each { result.1.each ≡ made_by_each (map work_of workers.items) }
     ensures drawn { DrawsAll turns.now.most (map work_of workers.items) }
 {
     let mut first = Ok(());

@@ -130,7 +130,7 @@ where
     L: Listen + Drop + Send,
     L::Reader: Send,
     L::Writer: Send,
-    requires cell { IsNamed blank C.book C.name C.parts }
+    requires cell { IsNamed blank C.book C.name C.parts C.asks C.numbers }
     requires seats { blank.seats ≡ serving.seats }
     requires writes { CanFail (W.failures output.old) }
     requires port { L.port_of network.now ≡ serving.port }

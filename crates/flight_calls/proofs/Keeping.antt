@@ -25,7 +25,7 @@ use Rattle.flight_calls.specs.declared.request.Single.TheVariants.{DoGet, GetFli
 use Rattle.flight_calls.specs.declared.setting.Options.{Options}
 use Rattle.flight_calls.specs.Calls.{ReplyTo, asked_with, info_asked}
 use Rattle.flight_calls.specs.Seats.{Seat, Moves, Puts, Expires}
-use Rattle.flight_calls.specs.Reacts.{Reacts, Responds, HasLooked, oldest_kept, expired_behind, AsksItself}
+use Rattle.flight_calls.specs.Reacts.{Reacts, Responds, HasAsked, HasLooked, oldest_kept, expired_behind, AsksItself}
 use Rattle.flight_calls.specs.Answered.{AnsweredBy, IsReplyOf, fault_in, ReactsBy, RespondsBy}
 use Rattle.flight_calls.proofs.Reacting.{begins_itself, looks_not, said_ok, expiry_made, expiry_refused}
 
@@ -36,8 +36,13 @@ looked_so moves asked old new (Whole whole) reply r is other = r.looked (rw is a
 looked_so moves asked old new (Floor floor) reply r is other = r.looked tt
 looked_so moves asked old new (Stream stream) reply r is other = r.looked tt
 
+asks_so : (moves : Moves) (asked : Result Asked Fault) (old new : Seat) (answer : Answer) (reply : ReplyAt) (r : ReactsBy moves asked old answer new) → IsReplyOf answer reply → reply.fault ≢ Some OutOfMemory → HasAsked asked old r.log new
+asks_so moves asked old new (Whole whole) reply r is other = r.asks (rw is at other)
+asks_so moves asked old new (Floor floor) reply r is other = r.asks tt
+asks_so moves asked old new (Stream stream) reply r is other = r.asks tt
+
 abbrev reacted : (moves : Moves) (asked : Result Asked Fault) (old new : Seat) (answer : Answer) (reply : ReplyAt) (r : ReactsBy moves asked old answer new) → ReplyTo asked r.log reply r.after → IsReplyOf answer reply → Reacts moves asked old reply new
-reacted moves asked old new answer reply r step is = record { log = r.log; after = r.after; step = step; goes = r.goes; looked = looked_so moves asked old new answer reply r is }
+reacted moves asked old new answer reply r step is = record { log = r.log; after = r.after; step = step; goes = r.goes; looked = looked_so moves asked old new answer reply r is; asks = asks_so moves asked old new answer reply r is }
 
 -- behind it the same versions are kept: a stream is no answer to a put
 kept_so : (keep : ℕ) (asked : Result Asked Fault) (log after : Log) (answer : Answer) (reply : ReplyAt) → AnsweredBy asked log answer after → IsReplyOf answer reply
@@ -120,7 +125,7 @@ no_put keep options DoAction message fault after = refl
 pub put_held : (moves : Moves) (keep : ℕ) (asked : Result Asked Fault) (old new : Seat) (reply : ReplyAt) → Responds moves keep asked old reply new → RespondsBy moves keep asked old (Whole reply) new
 put_held moves keep asked old new reply r = record {
   middle = r.middle;
-  reacts = record { log = r.reacts.log; after = r.reacts.after; answered = r.reacts.step; goes = r.reacts.goes; looked = r.reacts.looked };
+  reacts = record { log = r.reacts.log; after = r.reacts.after; answered = r.reacts.step; goes = r.reacts.goes; looked = r.reacts.looked; asks = r.reacts.asks };
   keeps = r.keeps;
 }
 
@@ -141,6 +146,7 @@ put_made moves keep number old middle new payloads made answers p said step asks
     step = step;
     goes = record { moved = p.moved; starts = inl (said_ok payloads made said); learnt = p.learnt; kept = p.kept; made = (added made ∷ [], p.at.1, p.at.2) };
     looked = λ other looks. absurd (looks_not payloads looks);
+    asks = λ other asks. absurd asks;
   };
   keeps = subst (λ (newest : ℕ). AsksItself moves (oldest_kept keep newest) middle new) p.at.3 asks;
 }

@@ -17,7 +17,7 @@ use Rattle.flight_core.specs.Refusals.{RefusedBy}
 use Rattle.flight_calls.specs.Calls.{info_asked}
 use Rattle.flight_calls.specs.declared.answer.Answer.TheVariants.{Whole}
 use Rattle.flight_calls.specs.Answered.{ReactsBy}
-use Rattle.flight_calls.specs.Reacts.{Looks}
+use Rattle.flight_calls.specs.Reacts.{Asks, IsBeyond, Looks}
 use Rattle.flight_calls.specs.Seats.{Seat, Moves, Learns}
 use Rattle.flight_calls.proofs.Fetching.{not_opened}
 use Rattle.flight_calls.proofs.Reacting.{goes_by_look}
@@ -68,6 +68,12 @@ info_unread payload parts fault = by (wanted_in payload) refl
     by (Ok tables) e is other looks =
         unread_by (short_enough tables) fault is other (subst (λ (v : Result Wanted Fault). IsOk (v >>= only_tables >>= short_enough)) e looks)
 
+-- and an info asks nobody
+pub info_asks_not : (wanted : Result Wanted Fault) (payload : Payload) (parts : ℕ) (log : Log) → Asks (Ok (info_asked wanted payload parts)) log → ⊥
+info_asks_not (Ok (rows_of text)) payload parts log asks = asks
+info_asks_not (Ok tables) payload parts log asks = asks
+info_asks_not (Err cause) payload parts log asks = asks
+
 pub schema_unread : (payload : Payload) (fault : Fault) → RefusedBy (schema_wanted payload) fault → Some fault ≢ Some OutOfMemory → Looks (Ok (schema payload)) → ⊥
 schema_unread payload fault is other looks = unread_by (schema_wanted payload) fault is other looks
 
@@ -77,14 +83,16 @@ abbrev refused : Fault → Result StreamAt Fault
 refused fault = Err fault
 
 pub fetch_refused : (moves : Moves) (old new : Seat) (ticket : Payload) (workers : ℕ) (fault : Fault) → Learns moves old new
-    → (IsOk (handle_asked ticket) → refused fault ≢ Err OutOfMemory → old.looks < new.looks) → OpensIn new.log ticket (Err fault)
+    → (IsOk (handle_asked ticket) → refused fault ≢ Err OutOfMemory → old.looks < new.looks)
+    → (refused fault ≢ Err OutOfMemory → IsBeyond (handle_asked ticket) new.log → old.asks < new.asks) → OpensIn new.log ticket (Err fault)
     → ReactsBy moves (Ok (fetch ticket workers)) old (Whole (refusal fault)) new
-fetch_refused moves old new ticket workers fault learns looked opens = record {
+fetch_refused moves old new ticket workers fault learns looked asks opens = record {
   log = new.log;
   after = new.log;
   answered = (refl, not_opened new.log ticket fault opens);
   goes = goes_by_look moves (Ok (fetch ticket workers)) old new learns;
   looked = λ begun looks. (looked looks (λ e. begun (ap fault_some e)), refl);
+  asks = λ begun beyond. asks (λ e. begun (ap fault_some e)) beyond;
 }
   where
     fault_some : Result StreamAt Fault → Option Fault

@@ -1,5 +1,5 @@
 -- Steps over a backend.
-use Rattle.std.proofs.Common.{◌≡◌, ◌≢◌, ◌<◌, ℕ, List, [], ◌∷◌, ◌++◌, Some, Result, Ok, Err, refl, sym, ◌∙◌, append-nil, inl, inr, arith}
+use Rattle.std.proofs.Common.{◌≡◌, ◌≢◌, ◌<◌, ◌+◌, ℕ, List, [], ◌∷◌, ◌++◌, Some, Result, Ok, Err, refl, sym, ◌∙◌, append-nil, inl, inr, arith}
 use Rattle.std.specs.Prelude.{IsOk}
 use Rattle.scan_base.specs.declared.fault.Fault.{Fault}
 use Rattle.scan_base.specs.declared.fault.Fault.TheVariants.{OutOfMemory}
@@ -7,7 +7,9 @@ use Rattle.scan_base.specs.Reading.{RefusesFirst}
 use Rattle.table_versions.specs.Database.{Put, after}
 use Rattle.flight_proto.specs.Expiry.{expiry_of, floor_bytes}
 use Rattle.flight_info.specs.Payloads.{Payload}
-use Rattle.flight_info.specs.Replies.{ReplyAt, refusal, whole}
+use Rattle.endpoint_split.specs.Handle.{HandleAt}
+use Rattle.flight_info.specs.Infos.{handle_asked}
+use Rattle.flight_info.specs.Replies.{ReplyAt, refusal}
 use Rattle.flight_core.specs.Asked.{Asked, put, info, tables, schema, fetch, expire}
 use Rattle.version_log.specs.Expiry.{IsExpired}
 use Rattle.version_log.specs.Log.{Log, added, expired, puts_in, database_of, Begins}
@@ -21,8 +23,8 @@ use Rattle.flight_calls.specs.declared.request.Single.{Single}
 use Rattle.flight_calls.specs.declared.setting.Options.{Options}
 use Rattle.flight_calls.specs.Calls.{ReplyTo, asked_with}
 use Rattle.flight_calls.specs.Requests.{IsRefused}
-use Rattle.flight_calls.specs.Seats.{Seat, seat_of, Moves, Expires, Learns, LooksOnce, Puts, alone}
-use Rattle.flight_calls.specs.Reacts.{StartsAt, Looks, Goes, Reacts}
+use Rattle.flight_calls.specs.Seats.{Seat, lone_seat, Moves, Expires, Learns, LooksOnce, Puts, alone}
+use Rattle.flight_calls.specs.Reacts.{StartsAt, Looks, IsBeyond, Asks, Goes, Reacts}
 use Rattle.flight_calls.specs.Answered.{ReactsBy}
 
 -- ---- the backend of a log that nobody shares
@@ -32,9 +34,9 @@ never_refused : {X : Type 0} (number : ℕ) (due : Result X Fault) → IsOk due 
 never_refused number (Ok x) ok = tt
 never_refused number (Err cause) ok = let no = ok in cc
 
-pub put_alone : (old new : Log) (looks number : ℕ) (made : Put) → new ≡ old ++ added made ∷ [] → IsOk (after (database_of old) (puts_in old) made) → number ≡ puts_in new
-    → Puts alone (Ok number) (seat_of old looks) made (seat_of new looks)
-put_alone old new looks number made is accepts count = record {
+pub put_alone : (old new : Log) (looks asks more number : ℕ) (made : Put) → more ≡ asks + 1 → new ≡ old ++ added made ∷ [] → IsOk (after (database_of old) (puts_in old) made) → number ≡ puts_in new
+    → Puts alone (Ok number) (lone_seat old looks asks) made (lone_seat new looks more)
+put_alone old new looks asks more number made asked is accepts count = record {
   log = old;
   next = new;
   at = (accepts, is, is, count);
@@ -43,11 +45,12 @@ put_alone old new looks number made is accepts count = record {
   kept = (added made ∷ [], is);
   learnt = ([], sym (append-nil new));
   looks = refl;
+  asks = asked;
 }
 
-pub refused_alone : (fault : Fault) (old new : Log) (looks : ℕ) (made : Put) → (new ≡ old) × (fault ≢ OutOfMemory → after (database_of old) (puts_in old) made ≡ Err fault)
-    → RefusesFirst {X = Unit {0}} (Err fault) (after (database_of old) (puts_in old) made) → Puts alone (Err fault) (seat_of old looks) made (seat_of new looks)
-refused_alone fault old new looks made err first = record {
+pub refused_alone : (fault : Fault) (old new : Log) (looks asks more : ℕ) (made : Put) → more ≡ asks + 1 → (new ≡ old) × (fault ≢ OutOfMemory → after (database_of old) (puts_in old) made ≡ Err fault)
+    → RefusesFirst {X = Unit {0}} (Err fault) (after (database_of old) (puts_in old) made) → Puts alone (Err fault) (lone_seat old looks asks) made (lone_seat new looks more)
+refused_alone fault old new looks asks more made asked err first = record {
   log = old;
   next = new;
   at = (err.0, err.0, err.1);
@@ -56,6 +59,7 @@ refused_alone fault old new looks made err first = record {
   kept = ([], err.0 ∙ sym (append-nil old));
   learnt = ([], sym (append-nil new));
   looks = refl;
+  asks = asked;
 }
 
 -- ---- how a step goes
@@ -87,6 +91,20 @@ goes_nowhere moves stays asked s = goes_by_look moves asked s s (begins_itself s
 
 -- ---- replies
 
+-- what asks looks first
+beyond_read : (read : Result HandleAt Fault) (log : Log) → IsBeyond read log → IsOk read
+beyond_read (Ok handle) log beyond = refl
+beyond_read (Err fault) log beyond = absurd beyond
+
+asks_look : (asked : Result Asked Fault) (log : Log) → Asks asked log → Looks asked
+asks_look (Ok (put payloads)) log asks = absurd asks
+asks_look (Ok (info payload parts)) log asks = absurd asks
+asks_look (Ok (tables payload parts)) log asks = absurd asks
+asks_look (Ok (schema payload)) log asks = absurd asks
+asks_look (Ok (fetch ticket workers)) log asks = beyond_read (handle_asked ticket) log asks
+asks_look (Ok (expire action)) log asks = absurd asks
+asks_look (Err fault) log asks = absurd asks
+
 -- a call that does not come to the backend
 pub reacts_unseen : (moves : Moves) → ((s : Seat) → moves s s.log s.log s) → (asked : Result Asked Fault) (s : Seat) (reply : ReplyAt) → ReplyTo asked s.log reply s.log → (Looks asked → ⊥) → Reacts moves asked s reply s
 reacts_unseen moves stays asked s reply step unseen = record {
@@ -95,17 +113,19 @@ reacts_unseen moves stays asked s reply step unseen = record {
   step = step;
   goes = goes_nowhere moves stays asked s;
   looked = λ other looks. absurd (unseen looks);
+  asks = λ other beyond. absurd (unseen (asks_look asked s.log beyond));
 }
 
 -- a look, of which the reply is a step
 pub reacts_by_look : (moves : Moves) (asked : Result Asked Fault) (old new : Seat) (reply : ReplyAt) → Learns moves old new
-    → ReplyTo asked new.log reply new.log → (reply.fault ≢ Some OutOfMemory → Looks asked → old.looks < new.looks) → Reacts moves asked old reply new
-reacts_by_look moves asked old new reply learns step looked = record {
+    → ReplyTo asked new.log reply new.log → (reply.fault ≢ Some OutOfMemory → Looks asked → old.looks < new.looks) → (Asks asked new.log → ⊥) → Reacts moves asked old reply new
+reacts_by_look moves asked old new reply learns step looked asks_not = record {
   log = new.log;
   after = new.log;
   step = step;
   goes = goes_by_look moves asked old new learns;
   looked = λ other looks. (looked other looks, refl);
+  asks = λ other asks. absurd (asks_not asks);
 }
 
 pub one_more_look : (old new : Seat) → LooksOnce old new → old.looks < new.looks
@@ -113,7 +133,7 @@ one_more_look old new once = omega (arith, once)
 
 -- a reply that is held
 pub held : (moves : Moves) (asked : Result Asked Fault) (old new : Seat) (reply : ReplyAt) → Reacts moves asked old reply new → ReactsBy moves asked old (Whole reply) new
-held moves asked old new reply r = record { log = r.log; after = r.after; answered = r.step; goes = r.goes; looked = r.looked }
+held moves asked old new reply r = record { log = r.log; after = r.after; answered = r.step; goes = r.goes; looked = r.looked; asks = r.asks }
 
 -- a call that is refused before it comes to the core
 pub unasked : (moves : Moves) → ((s : Seat) → moves s s.log s.log s) → (s : Seat) (fault : Fault) → ReactsBy moves (Err fault) s (Whole (refusal fault)) s
@@ -162,16 +182,36 @@ put_refused moves old new payloads made fault p said = record {
     made = ([], p.at.0 ∙ sym (append-nil p.log), p.at.1 ∙ sym (append-nil old.made));
   };
   looked = λ other looks. absurd (looks_not payloads looks);
+  asks = λ other asks. absurd asks;
 }
 
 -- ---- expiries
 
 -- of a log that nobody shares
-pub expires_alone : (result : Result ℕ Fault) (old new : Log) (looks version : ℕ) → IsExpired result old version new → Expires alone result (seat_of old looks) version (seat_of new looks)
-expires_alone (Ok floor) old new looks version is =
-    record { log = old; next = new; at = is; marks = is.1; moved = (refl, refl); kept = (expired version ∷ [], is.1); learnt = ([], sym (append-nil new)); looks = refl }
-expires_alone (Err fault) old new looks version is =
-    record { log = old; next = new; at = is; marks = is.0; moved = (refl, refl); kept = ([], is.0 ∙ sym (append-nil old)); learnt = ([], sym (append-nil new)); looks = refl }
+pub expires_alone : (result : Result ℕ Fault) (old new : Log) (looks asks more version : ℕ) → more ≡ asks + 1 → IsExpired result old version new
+    → Expires alone result (lone_seat old looks asks) version (lone_seat new looks more)
+expires_alone (Ok floor) old new looks asks more version asked is = record {
+  log = old;
+  next = new;
+  at = is;
+  marks = is.1;
+  moved = (refl, refl);
+  kept = (expired version ∷ [], is.1);
+  learnt = ([], sym (append-nil new));
+  looks = refl;
+  asks = asked;
+}
+expires_alone (Err fault) old new looks asks more version asked is = record {
+  log = old;
+  next = new;
+  at = is;
+  marks = is.0;
+  moved = (refl, refl);
+  kept = ([], is.0 ∙ sym (append-nil old));
+  learnt = ([], sym (append-nil new));
+  looks = refl;
+  asks = asked;
+}
 
 expiry_looks_not : (action : Payload) → Looks (Ok (expire action)) → ⊥
 expiry_looks_not action looks = looks
@@ -192,6 +232,7 @@ expiry_made moves old new action version floor e said = record {
   answered = expired_reply e.log e.next action version floor (floor_bytes floor ∷ []) said e.at refl;
   goes = record { moved = e.moved; starts = inl (number_read action version said); learnt = e.learnt; kept = e.kept; made = (expired version ∷ [], e.at.1, e.marks) };
   looked = λ other looks. absurd (expiry_looks_not action looks);
+  asks = λ other asks. absurd asks;
 }
 
 -- or refused it
@@ -209,4 +250,5 @@ expiry_refused moves old new action version fault e said = record {
     made = ([], e.at.0 ∙ sym (append-nil e.log), e.marks ∙ sym (append-nil old.made));
   };
   looked = λ other looks. absurd (expiry_looks_not action looks);
+  asks = λ other asks. absurd asks;
 }

@@ -19,7 +19,7 @@ use Rattle.flight_calls.specs.declared.answer.Answer.{Answer}
 use Rattle.flight_calls.specs.declared.answer.Answer.TheVariants.{Whole, Floor, Stream}
 use Rattle.flight_calls.specs.Calls.{ReplyTo}
 use Rattle.flight_calls.specs.Seats.{Seat, Moves}
-use Rattle.flight_calls.specs.Reacts.{Goes, HasLooked, expired_behind, AsksItself}
+use Rattle.flight_calls.specs.Reacts.{Goes, HasAsked, HasLooked, expired_behind, AsksItself}
 use Rattle.flight_calls.specs.Owed.{answer_bytes}
 
 -- what answers a call: its reply; or the floor behind an expiry; or the stream of a fetch, which leaves the log
@@ -48,6 +48,7 @@ pub record ReactsBy (moves : Moves) (asked : Result Asked Fault) (old : Seat) (a
   pub answered : AnsweredBy asked log answer after
   pub goes : Goes moves asked old log after new
   pub looked : IsBegun answer → HasLooked asked old log new
+  pub asks : IsBegun answer → HasAsked asked old log new
 
 -- the fault that an answer holds, if it holds one
 abbrev pub fault_in : Answer → Option Fault

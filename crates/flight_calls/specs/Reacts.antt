@@ -5,6 +5,8 @@ use Rattle.scan_base.specs.declared.fault.Fault.TheVariants.{OutOfMemory}
 use Rattle.flight_proto.specs.Expiry.{expiry_of, expiry_bytes}
 use Rattle.flight_info.specs.Infos.{handle_asked, rows_wanted, tables_wanted, schema_wanted}
 use Rattle.flight_info.specs.Replies.{ReplyAt}
+use Rattle.endpoint_split.specs.Handle.{HandleAt}
+use Rattle.fetch_stream.specs.Fetches.{version_of}
 use Rattle.flight_core.specs.Asked.{Asked, put, info, tables, schema, fetch, expire}
 use Rattle.version_log.specs.Log.{Log, puts_in, Begins}
 use Rattle.flight_core.specs.Puts.{put_said}
@@ -46,13 +48,29 @@ pub record Goes (moves : Moves) (asked : Result Asked Fault) (old : Seat) (log a
 abbrev pub HasLooked : Result Asked Fault → Seat → Log → Seat → Type 0
 HasLooked asked old log new = Looks asked → (old.looks < new.looks) × (log ≡ new.log)
 
--- the reply is a step from one log to another, and was looked for unless memory was refused
+-- a version that a log does not reach
+abbrev pub IsBeyond : Result HandleAt Fault → Log → Type 0
+IsBeyond (Ok handle) log = puts_in log < version_of handle
+IsBeyond (Err fault) log = ⊥
+
+-- what asks what others have done, beside each put and each expiry: a fetch of a version that the log does not reach
+abbrev pub Asks : Result Asked Fault → Log → Type 0
+Asks (Ok (fetch ticket workers)) log = IsBeyond (handle_asked ticket) log
+Asks _ log = ⊥
+
+-- where what is asked asks so, the asks have risen
+abbrev pub HasAsked : Result Asked Fault → Seat → Log → Seat → Type 0
+HasAsked asked old log new = Asks asked log → old.asks < new.asks
+
+-- The reply is a step from one log to another, and was looked for unless memory was refused. So a version that is not there (F18) was
+-- asked for.
 pub record Reacts (moves : Moves) (asked : Result Asked Fault) (old : Seat) (reply : ReplyAt) (new : Seat) : Type 0 where
   pub log : Log
   pub after : Log
   pub step : ReplyTo asked log reply after
   pub goes : Goes moves asked old log after new
   pub looked : reply.fault ≢ Some OutOfMemory → HasLooked asked old log new
+  pub asks : reply.fault ≢ Some OutOfMemory → HasAsked asked old log new
 
 -- ---- versions that are kept
 

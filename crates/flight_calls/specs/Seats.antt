@@ -7,15 +7,20 @@ use Rattle.table_versions.specs.Database.{Put, after}
 use Rattle.version_log.specs.Expiry.{IsExpired}
 use Rattle.version_log.specs.Log.{Log, added, expired, puts_in, database_of, Begins}
 
--- the log that the seat has seen, its looks, and the entries that it made
+-- the log that the seat has seen, its looks, the entries that it made, and how often it asked what others have done
 pub record Seat : Type 0 where
   pub log : Log
   pub looks : ℕ
   pub made : Log
+  pub asks : ℕ
 
 -- the seat that alone puts into a log: each entry of it is its own
+abbrev pub lone_seat : Log → ℕ → ℕ → Seat
+lone_seat log looks asks = record { log = log; looks = looks; made = log; asks = asks }
+
+-- the same, which never asked
 abbrev pub seat_of : Log → ℕ → Seat
-seat_of log looks = record { log = log; looks = looks; made = log }
+seat_of log looks = lone_seat log looks 0
 
 -- which steps, from a log to a log, a backend takes from a seat to a seat
 abbrev pub Moves : Type 1
@@ -28,6 +33,14 @@ alone old log after new = (log ≡ old.log) × (after ≡ new.log)
 -- a seat has seen no less than before, and made no entry: a step that leaves the log that it has then seen
 abbrev pub Learns : Moves → Seat → Seat → Type 0
 Learns moves old new = Begins old.log new.log × (new.made ≡ old.made) × moves old new.log new.log new
+
+-- one ask
+abbrev pub AsksOnce : Seat → Seat → Type 0
+AsksOnce old new = new.asks ≡ old.asks + 1
+
+-- no ask
+abbrev pub AsksNone : Seat → Seat → Type 0
+AsksNone old new = new.asks ≡ old.asks
 
 -- one look
 abbrev pub LooksOnce : Seat → Seat → Type 0
@@ -45,8 +58,8 @@ PutsAt (Ok number) old log put next new = IsOk (after (database_of log) (puts_in
 PutsAt (Err fault) old log put next new = (next ≡ log) × (new.made ≡ old.made)
     × (fault ≢ OutOfMemory → after (database_of log) (puts_in log) put ≡ Err fault)
 
--- A put at the log that it meets, which is refused by its first fault if it has one. Behind it the seat has seen that log with
--- the put, and all that it had seen.
+-- A put at the log that it meets, which is refused by its first fault if it has one. The seat asks for that log, also where the put
+-- is refused. Behind it the seat has seen that log with the put, and all that it had seen.
 pub record Puts (moves : Moves) (result : Result ℕ Fault) (old : Seat) (put : Put) (new : Seat) : Type 0 where
   pub log : Log
   pub next : Log
@@ -56,13 +69,14 @@ pub record Puts (moves : Moves) (result : Result ℕ Fault) (old : Seat) (put : 
   pub kept : Begins old.log new.log
   pub learnt : Begins next new.log
   pub looks : new.looks ≡ old.looks
+  pub asks : AsksOnce old new
 
 -- the mark of an expiry that was done is the last entry that the seat made, and a refused one is none of them
 abbrev pub MarksAt : Result ℕ Fault → Seat → ℕ → Seat → Type 0
 MarksAt (Ok floor) old version new = new.made ≡ old.made ++ expired version ∷ []
 MarksAt (Err fault) old version new = new.made ≡ old.made
 
--- An expiry of the versions below a number, at the log that it meets. Behind it the seat has seen that log with the mark, and
+-- An expiry of the versions below a number, at the log that it meets, for which the seat asks. Behind it the seat has seen that log with the mark, and
 -- all that it had seen.
 pub record Expires (moves : Moves) (result : Result ℕ Fault) (old : Seat) (version : ℕ) (new : Seat) : Type 0 where
   pub log : Log
@@ -73,3 +87,4 @@ pub record Expires (moves : Moves) (result : Result ℕ Fault) (old : Seat) (ver
   pub kept : Begins old.log new.log
   pub learnt : Begins next new.log
   pub looks : new.looks ≡ old.looks
+  pub asks : AsksOnce old new

@@ -15,9 +15,9 @@ pub trait Backend {
     ghost use Rattle.scan_base.specs.declared.fault.Fault.TheVariants.{OutOfMemory, VersionExpired, VersionUnknown};
     ghost use Rattle.table_versions.specs.Stored.{put_of, tables_of};
     ghost use Rattle.version_log.specs.Log.{Log, puts_in, floor_of, database_of, version};
-    ghost use Rattle.flight_calls.specs.Seats.{Seat, Expires, Learns, LooksOnce, MayLook, Puts};
+    ghost use Rattle.flight_calls.specs.Seats.{Seat, AsksNone, AsksOnce, Expires, Learns, LooksOnce, MayLook, Puts};
 
-    // The log that it has seen, its looks, and the entries that it made.
+    // The log that it has seen, its looks, the entries that it made, and its asks.
     ghost seat: { Self → Seat };
 
     // Which steps, from a log to a log, it takes from a seat to a seat.
@@ -48,6 +48,7 @@ pub trait Backend {
     /// F21 (`Fault::OutOfMemory`) where memory is refused.
     fn current(&mut self) -> Result<Snapshot, Fault>
         ensures learns { Learns moves (seat self.old) (seat self.new) }
+        ensures asks { AsksNone (seat self.old) (seat self.new) }
         ensures ok { IfOk result (λ snapshot. LooksOnce (seat self.old) (seat self.new)
             × (snapshot.number ≡ puts_in (seat self.new).log)
             × (tables_of snapshot.catalog ≡ database_of (seat self.new).log)) }
@@ -61,6 +62,7 @@ pub trait Backend {
     /// is below its floor, and F21 (`Fault::OutOfMemory`) where memory is refused.
     fn at(&mut self, number: u64) -> Result<Snapshot, Fault>
         ensures learns { Learns moves (seat self.old) (seat self.new) }
+        ensures asks { AsksNone (seat self.old) (seat self.new) }
         ensures ok { IfOk result (λ snapshot. LooksOnce (seat self.old) (seat self.new)
             × (number ≤ puts_in (seat self.new).log) × (snapshot.number ≡ number)
             × (tables_of snapshot.catalog ≡ version (seat self.new).log number)) }
@@ -71,9 +73,10 @@ pub trait Backend {
             ⊎ ((fault ≡ VersionExpired) × LooksOnce (seat self.old) (seat self.new)
             × (number ≤ puts_in (seat self.new).log) × (number < floor_of (seat self.new).log)))) };
 
-    /// Learns what others have put. It is no look.
+    /// Asks what others have done, and learns it. It is one ask, and no look.
     fn learn(&mut self)
         ensures learns { Learns moves (seat self.old) (seat self.new) }
+        ensures asks { AsksOnce (seat self.old) (seat self.new) }
         ensures looks { (seat self.new).looks ≡ (seat self.old).looks };
 
     // A seat that stays where it is has moved.
@@ -86,11 +89,11 @@ pub trait Backend {
 
 // A number without a bound, which contracts alone see.
 #[derive(Drop)]
-struct Looks {
-    before: Option<snapshot::Snapshot<Looks>>,
+struct Times {
+    before: Option<snapshot::Snapshot<Times>>,
 }
 
-impl Model for Looks {
+impl Model for Times {
     ghost use Rattle.std.specs.Prelude.{ℕ};
     ghost use Rattle.flight_calls.specs.Counts.{one_more};
 
@@ -98,22 +101,22 @@ impl Model for Looks {
 
     ghost size = { λ n. n };
 
-    ghost view = { λ l. one_more (λ before. before.value) l.before };
+    ghost view = { λ t. one_more (λ before. before.value) t.before };
 }
 
-impl Looks {
-    // No look.
-    fn none() -> Looks
+impl Times {
+    // Not once.
+    fn none() -> Times
         ensures { result ≡ 0 }
     {
-        Looks { before: None }
+        Times { before: None }
     }
 
     // One more.
     fn raise(&mut self)
         ensures { self.new ≡ self.old + 1 }
     {
-        *self = Looks {
+        *self = Times {
             before: Some(snapshot::Snapshot::of(self)),
         };
     }
@@ -122,34 +125,40 @@ impl Looks {
 /// The versions of a connection that shares them with none.
 pub struct Alone {
     plain: Plain,
-    looks: Looks,
+    looks: Times,
+    asks: Times,
 }
 
 // Written out, so that dropping it is one call (docs/DECISIONS.md).
 impl Drop for Alone {
     fn drop(self) {
-        let Alone { plain: _, looks: _ } = self;
+        let Alone {
+            plain: _,
+            looks: _,
+            asks: _,
+        } = self;
     }
 }
 
 impl Model for Alone {
-    ghost use Rattle.flight_calls.specs.Seats.{Seat, seat_of};
+    ghost use Rattle.flight_calls.specs.Seats.{Seat, lone_seat};
 
     ghost Value = { Seat };
 
-    ghost view = { λ a. seat_of a.plain a.looks };
+    ghost view = { λ a. lone_seat a.plain a.looks a.asks };
 }
 
 impl Alone {
     ghost use Rattle.flight_calls.specs.Seats.{seat_of};
 
-    /// Those of a log, at which no look was made.
+    /// Those of a log, at which no look was made. Nobody was asked.
     pub fn new(plain: Plain) -> Alone
         ensures { result ≡ seat_of plain 0 }
     {
         Alone {
             plain,
-            looks: Looks::none(),
+            looks: Times::none(),
+            asks: Times::none(),
         }
     }
 }
@@ -164,11 +173,13 @@ impl Backend for Alone {
     ghost moves = { alone };
 
     fn put(&mut self, alloc: Global, put: Put) -> Result<u64, Fault> {
+        self.asks.raise();
         self.plain.put(alloc, put)?;
         Ok(self.plain.current().number())
     }
 
     fn expire(&mut self, _alloc: Global, version: u64) -> Result<u64, Fault> {
+        self.asks.raise();
         self.plain.expire(version)
     }
 
@@ -182,7 +193,10 @@ impl Backend for Alone {
         Ok(self.plain.at(number)?.clone()?)
     }
 
-    fn learn(&mut self) {}
+    // There are no others.
+    fn learn(&mut self) {
+        self.asks.raise();
+    }
 
     ghost stays = { λ s. (refl, refl) };
 

@@ -13,7 +13,7 @@ ghost use Rattle.flight_core.specs.Puts.{put_glance, put_said};
 ghost use Rattle.flight_core.specs.Refusals.{GivesBehind, RefusedBy};
 ghost use Rattle.flight_calls.specs.Calls.{info_asked};
 ghost use Rattle.flight_calls.specs.Seats.{Learns};
-ghost use Rattle.flight_calls.specs.Reacts.{Reacts, Responds, AsksItself, oldest_kept};
+ghost use Rattle.flight_calls.specs.Reacts.{AsksItself, IsBeyond, Reacts, Responds, oldest_kept};
 ghost use Rattle.flight_calls.specs.Answered.{ReactsBy, FitsMessages};
 
 use crate::answer::Answer;
@@ -121,6 +121,8 @@ pub fn schema_on<B: Backend>(alloc: Global, backend: &mut B, payload: &[u8]) -> 
 fn version_on<B: Backend>(backend: &mut B, number: u64) -> Result<Snapshot, Fault>
     ensures learns { Learns B.moves (B.seat backend.old) (B.seat backend.new) }
     ensures looked { result ≢ Err OutOfMemory → (B.seat backend.old).looks < (B.seat backend.new).looks }
+    ensures asks { result ≢ Err OutOfMemory → puts_in (B.seat backend.new).log < number
+        → (B.seat backend.old).asks < (B.seat backend.new).asks }
     ensures ok { IfOk result (λ snapshot. (number ≤ puts_in (B.seat backend.new).log)
         × (tables_of snapshot.catalog ≡ version (B.seat backend.new).log number)) }
     ensures kept { IfOk result (λ _. floor_of (B.seat backend.new).log ≤ number) }
@@ -148,6 +150,8 @@ fn open_on<B: Backend>(
     ensures learns { Learns B.moves (B.seat backend.old) (B.seat backend.new) }
     ensures looked { IsOk (handle_asked ticket.now) → result ≢ Err OutOfMemory
         → (B.seat backend.old).looks < (B.seat backend.new).looks }
+    ensures asks { result ≢ Err OutOfMemory → IsBeyond (handle_asked ticket.now) (B.seat backend.new).log
+        → (B.seat backend.old).asks < (B.seat backend.new).asks }
     ensures opens { OpensIn (B.seat backend.new).log ticket.now result }
 {
     let handle = read_ticket(ticket)?;

@@ -15,8 +15,8 @@ begins_same log same is = ([], is ∙ sym (append-nil log))
 
 -- a put over a seat of a cell
 pub puts_so : (result : Result ℕ Fault) (seat next : cell.Seat) (old new : Seat) (put : Put) → PutsBehind result seat put next → CountsPut result seat put next → IfOk result (λ number. number ≡ puts_in next.log)
-    → Begins seat.log next.log → next.enters ≡ seat.enters → old ≡ seat_at seat → new ≡ seat_at next → Puts onward result old put new
-puts_so (Ok number) seat next old new put behind counts count kept enters old_is new_is = rw (old_is, new_is) (record {
+    → Begins seat.log next.log → next.enters ≡ seat.enters → cell.AsksOnce seat next → old ≡ seat_at seat → new ≡ seat_at next → Puts onward result old put new
+puts_so (Ok number) seat next old new put behind counts count kept enters asks old_is new_is = rw (old_is, new_is) (record {
   log = behind.log;
   next = next.log;
   at = (behind.answered.1, behind.answered.0, counts, count);
@@ -25,8 +25,9 @@ puts_so (Ok number) seat next old new put behind counts count kept enters old_is
   kept = kept;
   learnt = begins_same next.log next.log refl;
   looks = enters;
+  asks = asks;
 })
-puts_so (Err fault) seat next old new put behind counts count kept enters old_is new_is = rw (old_is, new_is) (record {
+puts_so (Err fault) seat next old new put behind counts count kept enters asks old_is new_is = rw (old_is, new_is) (record {
   log = behind.log;
   next = next.log;
   at = (behind.answered.0, counts, behind.answered.1);
@@ -35,12 +36,13 @@ puts_so (Err fault) seat next old new put behind counts count kept enters old_is
   kept = kept;
   learnt = begins_same next.log next.log refl;
   looks = enters;
+  asks = asks;
 })
 
 -- an expiry over a seat of a cell
 pub expired_so : (result : Result ℕ Fault) (seat next : cell.Seat) (old new : Seat) (version : ℕ) → ExpiresBehind result seat version next → CountsExpiry result seat version next
-    → Begins seat.log next.log → next.enters ≡ seat.enters → old ≡ seat_at seat → new ≡ seat_at next → Expires onward result old version new
-expired_so (Ok floor) seat next old new version behind counts kept enters old_is new_is = rw (old_is, new_is) (record {
+    → Begins seat.log next.log → next.enters ≡ seat.enters → cell.AsksOnce seat next → old ≡ seat_at seat → new ≡ seat_at next → Expires onward result old version new
+expired_so (Ok floor) seat next old new version behind counts kept enters asks old_is new_is = rw (old_is, new_is) (record {
   log = behind.log;
   next = next.log;
   at = behind.answered;
@@ -49,8 +51,9 @@ expired_so (Ok floor) seat next old new version behind counts kept enters old_is
   kept = kept;
   learnt = begins_same next.log next.log refl;
   looks = enters;
+  asks = asks;
 })
-expired_so (Err fault) seat next old new version behind counts kept enters old_is new_is = rw (old_is, new_is) (record {
+expired_so (Err fault) seat next old new version behind counts kept enters asks old_is new_is = rw (old_is, new_is) (record {
   log = behind.log;
   next = next.log;
   at = behind.answered;
@@ -59,4 +62,5 @@ expired_so (Err fault) seat next old new version behind counts kept enters old_i
   kept = kept;
   learnt = begins_same next.log next.log refl;
   looks = enters;
+  asks = asks;
 })

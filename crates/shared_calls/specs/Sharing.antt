@@ -4,9 +4,9 @@ use Rattle.version_log.specs.Log.{Begins}
 use Rattle.version_cell.specs.Seats as cell
 use Rattle.flight_calls.specs.Seats.{Seat, Moves}
 
--- it looks by entering the cell
+-- it looks by entering the cell, and asks the cell's putter
 abbrev pub seat_at : cell.Seat → Seat
-seat_at scanner = record { log = scanner.log; looks = scanner.enters; made = scanner.made }
+seat_at scanner = record { log = scanner.log; looks = scanner.enters; made = scanner.made; asks = scanner.asks }
 
 -- Where others put into the log too: a step, also that of a put or an expiry, goes from a log that goes on from what the seat had
 -- seen, and the seat has then seen the log behind it, and no more.

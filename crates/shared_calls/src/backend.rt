@@ -91,7 +91,7 @@ impl<'a, C: CellName, R: Wait + Drop, H: Wait> Backend for Shared<'a, C, R, H> {
 
     // The putter's lock is taken once.
     fn learn(&mut self) {
-        self.scanner.learn(&self.putter.tell(self.rt));
+        self.putter.ask(self.rt, &mut self.scanner);
     }
 
     ghost stays = { λ s. (([], sym (append-nil s.log)), refl) };

@@ -2,13 +2,14 @@
 use Rattle.std.proofs.lemmas.Bool.Decides.{nat_tests}
 use Rattle.std.specs.Prelude.{MatchBool}
 use lib.Dec.{leb}
-use Rattle.std.proofs.Common.{Bool, true, false, ◌≡◌, ◌⊎◌, inl, inr, ℕ, ◌≤◌, List, [], ◌∷◌, ◌++◌, length, refl, ap, sym, ◌∙◌, arith, append_assoc, append-nil, length-append, Result, Ok, Err}
+use Rattle.std.proofs.Common.{Bool, true, false, ◌≡◌, ℕ, ◌≤◌, List, [], ◌∷◌, ◌++◌, length, refl, ap, sym, ◌∙◌, arith, append_assoc, append-nil, length-append, Result, Ok, Err}
 use mathlib.Core.List.{IsPrefix}
 use Rattle.scan_base.specs.declared.fault.Fault.{Fault}
 use Rattle.table_versions.specs.Database.{Put}
 use Rattle.version_log.specs.Log.{Log, added, expired, Begins}
 use Rattle.version_log.specs.Expiry.{IsExpired}
 use Rattle.version_cell.specs.Puts.{IsAnswered}
+use Rattle.version_cell.specs.Signed.{Signed, GoesOn}
 
 -- each list begins with itself
 pub prefix_self : {A : Type 0} (xs : List A) → IsPrefix xs xs
@@ -40,8 +41,8 @@ pub prefix_length : {A : Type 0} (xs ys : List A) → IsPrefix xs ys → length 
 prefix_length xs ys p = omega (arith, sym (ap length p.1) ∙ length-append xs p.0)
 
 -- of two beginnings of one log, the one that is found no longer begins the other
-pub either_begins : (b : Bool) (xs ys zs : Log) (m n : ℕ) → m ≡ length xs → n ≡ length ys → IsPrefix xs zs → IsPrefix ys zs → leb m n ≡ b
-    → MatchBool b (Begins xs ys) (Begins ys xs)
+pub either_begins : (b : Bool) (xs ys zs : List Signed) (m n : ℕ) → m ≡ length xs → n ≡ length ys → IsPrefix xs zs → IsPrefix ys zs → leb m n ≡ b
+    → MatchBool b (GoesOn xs ys) (GoesOn ys xs)
 either_begins true xs ys zs m n e f p q is = let front = prefix_shorter xs ys zs p q (grind (arith, nat_tests)) in (front.0, sym front.1)
 either_begins false xs ys zs m n e f p q is = let front = prefix_shorter ys xs zs q p (grind (arith, nat_tests)) in (front.0, sym front.1)
 
@@ -55,10 +56,8 @@ pub goes_on_so : (result : Result ℕ Fault) (log : Log) (version : ℕ) (next :
 goes_on_so (Ok floor) log version next answered = (expired version ∷ [], answered.1)
 goes_on_so (Err fault) log version next answered = ([], answered.0 ∙ sym (append-nil log))
 
--- who had seen no more than a log, and learns of a later one, has seen that
-pub learns_all : (old log next new : Log) → Begins old log → Begins log next → (new ≡ old) ⊎ (new ≡ next) → Begins next new → new ≡ next
-learns_all old log next new met on (inl same) told =
-    let front = prefix_trans old log next (met.0, sym met.1) (on.0, sym on.1) in
-    let back : length next ≤ length old = rw same at (prefix_length next new (told.0, sym told.1)) in
-    same ∙ prefix_whole old next front back
-learns_all old log next new met on (inr same) told = same
+-- so it goes on from all that was seen before
+pub begun_behind : {X : Type 0} (result : Result X Fault) (seen log : Log) (put : Put) (next new : Log) → Begins seen log → IsAnswered result log put next → new ≡ next → Begins seen new
+begun_behind result seen log put next new met answered same =
+    let on = goes_on result log put next answered in
+    (met.0 ++ on.0, same ∙ (on.1 ∙ (ap (λ l. l ++ on.0) met.1 ∙ append_assoc seen met.0 on.0)))

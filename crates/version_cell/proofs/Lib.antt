@@ -3,3 +3,7 @@ pub mod Answering
 pub mod Adding
 pub mod Accepting
 pub mod Entries
+pub mod Merging
+pub mod Numbers
+pub mod Parts
+pub mod Logs

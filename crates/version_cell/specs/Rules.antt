@@ -3,9 +3,10 @@ use Rattle.std.specs.Prelude.{ℕ, ◌≡◌, ◌≤◌, ◌==◌, true, List, [
 use Rattle.version_log.specs.Log.{Entry, Log, added, expired, puts_in}
 use Rattle.logbook.specs.Pages.{Cell, Step, View, Book, Named}
 use Rattle.version_cell.specs.Puts.{after_log}
+use Rattle.version_cell.specs.Signed.{Signed}
 
 -- the first word is the length of the log. A book has two words, of which this one leaves the second at 0
-pub record IsKept (cells : List Cell) (log : Log) : Type 0 where
+pub record IsKept (cells : List Cell) (log : List Signed) : Type 0 where
   pub words : cells ≡ (length log, true) ∷ (0, true) ∷ []
 
 -- the first word of a book
@@ -13,7 +14,7 @@ abbrev pub head_of : Book → Named
 head_of book = record { tracked = true; key = 0; book = book }
 
 -- the entry was added to all that had been seen; or the log was longer, and was seen
-abbrev pub Adds : Step Entry → View Entry ℕ → ℕ → View Entry ℕ → Type 0
+abbrev pub Adds : Step Signed → View Signed ℕ → ℕ → View Signed ℕ → Type 0
 Adds step before found after = MatchBool (found == step.old) (after.0 ≡ before.0 ++ step.ask ∷ []) (length after.0 ≡ found)
 
 -- what a log takes in: a put that nothing refuses, or an expiry of versions below one that was reached

@@ -1,17 +1,19 @@
 -- What a contract sees of a seat, and what its calls do to it.
-use Rattle.std.specs.Prelude.{◌≡◌, ◌⊎◌, ℕ, ◌+◌}
+use Rattle.std.specs.Prelude.{◌≡◌, ◌⊎◌, ℕ, ◌+◌, List}
 use Rattle.version_log.specs.Log.{Log}
 
--- the log that the seat has seen or was told of, the log that it entered last, how often it entered the cell, and the entries
--- that were made through it, in order
+-- the log that the seat has seen or was told of, the log that it entered last, how often it entered the cell, the entries that
+-- were made through it, in order, and how often it asked the putter
 pub record Seat : Type 0 where
   pub log : Log
   pub entered : Log
   pub enters : ℕ
   pub made : Log
+  pub asks : ℕ
 
+-- a seat that never asked
 abbrev pub seat : Log → Log → ℕ → Log → Seat
-seat log entered enters made = record { log = log; entered = entered; enters = enters; made = made }
+seat log entered enters made = record { log = log; entered = entered; enters = enters; made = made; asks = 0 }
 
 -- one enter: the seat has seen the log so entered
 abbrev pub EntersOnce : Seat → Seat → Type 0
@@ -21,16 +23,25 @@ EntersOnce old new = (new.enters ≡ old.enters + 1) × (new.entered ≡ new.log
 abbrev pub MayEnter : Seat → Seat → Type 0
 MayEnter old new = (new.enters ≡ old.enters) ⊎ (new.enters ≡ old.enters + 1)
 
+-- the seat asks once
+abbrev pub AsksOnce : Seat → Seat → Type 0
+AsksOnce old new = new.asks ≡ old.asks + 1
+
+-- the seat does not ask
+abbrev pub AsksNone : Seat → Seat → Type 0
+AsksNone old new = new.asks ≡ old.asks
+
 -- no entry is made through the seat
 abbrev pub MakesNone : Seat → Seat → Type 0
 MakesNone old new = new.made ≡ old.made
 
--- Seats that are done with: a log that goes on from all that they had seen, how many they are, and how many entries were made
--- through them.
+-- Seats that are done with: a log that goes on from all that they had seen, how many they are, how many entries were made
+-- through them, and which were made through each, the last one first.
 pub record GatheredAt : Type 0 where
   pub log : Log
   pub seats : ℕ
   pub made : ℕ
+  pub each : List Log
 
-abbrev pub gathered_at : Log → ℕ → ℕ → GatheredAt
-gathered_at log seats made = record { log = log; seats = seats; made = made }
+abbrev pub gathered_at : Log → ℕ → ℕ → List Log → GatheredAt
+gathered_at log seats made each = record { log = log; seats = seats; made = made; each = each }

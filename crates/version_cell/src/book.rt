@@ -1,12 +1,13 @@
 //! The log of a cell, as a history that only grows.
 ghost use Rattle.std.specs.Prelude.{◌≡◌, ◌+◌, ◌<◌, ◌≤◌, ◌^◌, ◌++◌, ◌∷◌, [], length, MatchBool, IfSome};
-ghost use Rattle.version_log.specs.Log.{puts_in, Begins};
+ghost use Rattle.version_log.specs.Log.{puts_in};
 ghost use Rattle.version_cell.specs.Rules.{head_of};
+ghost use Rattle.version_cell.specs.Signed.{log_of, GoesOn};
 
+use crate::signed::Signed;
 use logbook::{Gain, Offer, Plain, Play, Rule, Seen, Start, Word};
 use std::marker::{Brand, Model};
 use std::sync::ledger::Ledger;
-use version_log::Entry;
 
 // How many entries a log may have.
 const MOST_ENTRIES: u64 = 4_611_686_018_427_387_904;
@@ -14,7 +15,7 @@ const MOST_ENTRIES: u64 = 4_611_686_018_427_387_904;
 /// The rule of the book: its first word is the length of the log.
 pub struct Law;
 
-impl Rule<Entry, u64> for Law {
+impl Rule<Signed, u64> for Law {
     ghost use Rattle.std.specs.Prelude.{[]};
     ghost use base.Fml.{ftrue};
     ghost use Rattle.version_cell.specs.Rules.{IsKept};
@@ -35,7 +36,7 @@ impl Rule<Entry, u64> for Law {
 /// Callers trade nothing.
 pub struct Nothing;
 
-impl Gain<Entry, u64> for Nothing {
+impl Gain<Signed, u64> for Nothing {
     ghost use base.Fml.{ftrue};
 
     ghost after = { λ names about answer. ftrue };
@@ -44,13 +45,13 @@ impl Gain<Entry, u64> for Nothing {
 /// A step that adds an entry.
 pub struct Add;
 
-impl Play<Entry, u64> for Add {
+impl Play<Signed, u64> for Add {
     ghost use Rattle.version_cell.specs.Rules.{Adds};
 
     ghost then = { Adds };
 }
 
-impl Plain<Entry, Entry, u64> for Add {
+impl Plain<Signed, Signed, u64> for Add {
     ghost use Rattle.std.specs.Prelude.{None};
 
     ghost ask = { λ entry. entry };
@@ -58,22 +59,32 @@ impl Plain<Entry, Entry, u64> for Add {
     ghost state = { λ entry. None };
 }
 
-/// Which cell it is: the book of its log, and the ledger in which its entries are counted. Each call of a program picks it.
+/// Which cell it is: the book of its log, the ledger in which its entries are counted, and the names of two more: of its asks, and
+/// of the numbers of its seats. Each call of a program picks it.
 pub trait CellName: Ledger {
+    ghost use Rattle.std.specs.Prelude.{ℕ};
     ghost use Rattle.logbook.specs.Pages.{Book};
 
     ghost book: { Book };
+
+    ghost asks: { ℕ };
+
+    ghost numbers: { ℕ };
 }
 
 impl CellName for Brand {
     ghost book = { record { number = 0; log_name = 0; cells_name = 0 } };
+
+    ghost asks = { 0 };
+
+    ghost numbers = { 0 };
 }
 
 /// A book with an empty log, which has no name yet.
 #[derive(Drop)]
 pub struct Opened {
-    head: Word<Entry, u64, Law>,
-    seen: Seen<Entry, u64, Law>,
+    head: Word<Signed, u64, Law>,
+    seen: Seen<Signed, u64, Law>,
     pub ghost empty: { seen.log ≡ [] },
     pub ghost head_is: { head ≡ head_of seen.book },
 }
@@ -103,22 +114,22 @@ impl Opened {
 }
 
 /// The word that is the length of the log.
-pub type Head = Word<Entry, u64, Law>;
+pub type Head = Word<Signed, u64, Law>;
 
 /// A beginning of the log that was reached.
 #[derive(Drop)]
 pub struct History {
     entries: u64,
     puts: u64,
-    pub seen: Seen<Entry, u64, Law>,
+    pub seen: Seen<Signed, u64, Law>,
     pub ghost counted: { entries ≡ length seen.log },
-    pub ghost numbered: { puts ≡ puts_in seen.log },
+    pub ghost numbered: { puts ≡ puts_in (log_of seen.log) },
 }
 
 impl History {
     /// How many puts it has: a mark is none.
     pub fn puts(&self) -> u64
-        ensures { result ≡ puts_in self.now.seen.log }
+        ensures { result ≡ puts_in (log_of self.now.seen.log) }
     {
         self.puts
     }
@@ -144,19 +155,33 @@ impl History {
     /// Whether the other has no fewer entries. It then begins with these.
     pub fn begins(&self, other: &History) -> bool
         requires { other.now.seen.book ≡ self.now.seen.book }
-        ensures { MatchBool result (Begins self.now.seen.log other.now.seen.log)
-            (Begins other.now.seen.log self.now.seen.log) }
+        ensures { MatchBool result (GoesOn self.now.seen.log other.now.seen.log)
+            (GoesOn other.now.seen.log self.now.seen.log) }
     {
         let mut both = self.seen.again();
         both.learn(&other.seen);
         self.entries <= other.entries
     }
 
+    /// The longer of the two, which the other begins.
+    pub fn longer(&self, other: &History) -> History
+        requires { other.now.seen.book ≡ self.now.seen.book }
+        ensures book { result.seen.book ≡ self.now.seen.book }
+        ensures this { GoesOn self.now.seen.log result.seen.log }
+        ensures that { GoesOn other.now.seen.log result.seen.log }
+    {
+        if self.begins(other) {
+            other.again()
+        } else {
+            self.again()
+        }
+    }
+
     // How many puts it has with an entry added.
     #[tactic(auto, using(crate::proofs::Entries::puts_in_more, crate::proofs::Entries::few_puts))]
-    fn puts_with(&self, entry: &Entry) -> u64
+    fn puts_with(&self, entry: &Signed) -> u64
         requires { length self.now.seen.log < 2 ^ 62 }
-        ensures { result ≡ puts_in (self.now.seen.log ++ entry.now ∷ []) }
+        ensures { result ≡ puts_in (log_of (self.now.seen.log ++ entry.now ∷ [])) }
     {
         if entry.is_mark() {
             self.puts
@@ -166,13 +191,13 @@ impl History {
     }
 
     /// The history with an entry added. None where the log is longer than this.
-    pub fn with(&self, head: &Head, entry: &Entry) -> Option<History>
+    pub fn with(&self, head: &Head, entry: &Signed) -> Option<History>
         requires head { head.now ≡ head_of self.now.seen.book }
         requires room { length self.now.seen.log < 2 ^ 62 }
         ensures { IfSome result (λ h. (h.seen.book ≡ self.now.seen.book) × (h.seen.log ≡ self.now.seen.log ++ entry.now ∷ [])) }
     {
         let mut seen = self.seen.again();
-        let mut offer: Offer<Entry, u64, Law, Nothing> = seen.plain::<Nothing, Entry, Add>(entry);
+        let mut offer: Offer<Signed, u64, Law, Nothing> = seen.plain::<Nothing, Signed, Add>(entry);
         let mut pen = seen.no_pen();
         let entries = self.entries;
         let found = head.compare_exchange::<Add, Nothing>(

@@ -5,28 +5,30 @@ ghost use Rattle.std.specs.Arc.{arc_value};
 ghost use Rattle.scan_base.specs.declared.fault.Fault.TheVariants.{OutOfMemory};
 ghost use Rattle.version_cell.specs.Blanks.{IsNamed, most_seats};
 ghost use Rattle.version_cell.specs.Seats.{seat};
+ghost use Rattle.version_cell.specs.Shares.{cutter_at};
+ghost use Rattle.version_cell.specs.Signed.{log_of};
 ghost use Rattle.version_index.specs.Versions.{IsIndexOf};
 
 use crate::book::{CellName, History, Opened};
+use crate::maker::Maker;
 use crate::publisher::{CellWriter, Publisher};
 use crate::putter::Putter;
 use crate::scanner::Scanner;
 use crate::shown::{Publishes, Store};
-use crate::tally::Tally;
+use crate::tally::{Cutter, Ledgers};
 use hash_seed::HashSeed;
 use scan_base::Fault;
 use std::alloc::Global;
 use std::marker::Model;
-use std::sync::ledger::Share;
-use std::sync::{Arc, Wait, ledger};
+use std::sync::{Arc, Wait};
 use version_index::VersionIndex;
 
-/// A cell of version 0 alone, which has no name yet. Contracts see it as the book of its log, the ledger of its entries, and the
-/// number of its seats.
+/// A cell of version 0 alone, which has no name yet. Contracts see it as the book of its log, the ledgers of its entries, of its asks
+/// and of the numbers of its seats, and how many seats it will have.
 #[derive(Drop)]
 pub struct Blank {
     opened: Opened,
-    ledger: ledger::Blank,
+    ledgers: Ledgers,
     seats: usize,
     index: Arc<VersionIndex>,
 }
@@ -39,9 +41,16 @@ impl Model for Blank {
 
     ghost Value = { BlankAt };
 
-    ghost view = { λ b. record { book = b.opened.seen.book; ledger = b.ledger.name; seats = b.seats } };
+    ghost view = { λ b. record {
+      book = b.opened.seen.book;
+      ledger = b.ledgers.entries.name;
+      asks = b.ledgers.asks.name;
+      numbers = b.ledgers.numbers.name;
+      seats = b.seats;
+    } };
 
-    ghost invariant = { λ b. (0 < b.seats) × (b.seats ≤ most_seats) × (b.ledger.parts ≡ b.seats)
+    ghost invariant = { λ b. (0 < b.seats) × (b.seats ≤ most_seats) × (b.ledgers.entries.parts ≡ b.seats)
+        × (b.ledgers.asks.parts ≡ b.seats) × (b.ledgers.numbers.parts ≡ b.seats)
         × IsIndexOf (arc_value b.index) [] };
 }
 
@@ -58,7 +67,7 @@ pub fn open(alloc: Global, seed: HashSeed, seats: usize) -> Result<Blank, Fault>
     let index = VersionIndex::new(alloc, seed)?;
     Ok(Blank {
         opened: Opened::new(),
-        ledger: ledger::Blank::new(seats as u64),
+        ledgers: Ledgers::new(seats as u64),
         seats,
         index: Arc::new(alloc, index)?,
     })
@@ -75,19 +84,19 @@ impl Blank {
         alloc: Global,
         rt: R,
     ) -> Result<(Putter<C, R>, Vec<Scanner<C>>), Fault>
-        requires { IsNamed self C.book C.name C.parts }
+        requires { IsNamed self C.book C.name C.parts C.asks C.numbers }
         ensures ok { IfOk result (λ cell. (cell.0 ≡ []) × (length cell.1.items ≡ self.seats)
             × All (λ scanner. scanner ≡ seat [] [] 0 []) cell.1.items) }
         ensures err { IfErr result (λ fault. fault ≡ OutOfMemory) }
     {
         let Blank {
             opened,
-            ledger,
+            ledgers,
             seats,
             index,
         } = self;
         let (head, history) = opened.into_parts();
-        let (book, mut shares) = ledger.open::<C>();
+        let mut cutter = Cutter::<C>::new(ledgers);
         let store = Store::new(index, history.again());
         let Some(writer) = first_writer::<C>(alloc, store, seats) else {
             return Err(Fault::OutOfMemory);
@@ -95,11 +104,10 @@ impl Blank {
         let Some(writer) = with_room(&rt, writer) else {
             return Err(Fault::OutOfMemory);
         };
-        match seat_all(alloc, &writer, &history, &mut shares, seats) {
+        match seat_all(alloc, &writer, &history, &mut cutter, seats) {
             Some(scanners) => {
                 let publisher = Publisher::new(head, writer, rt);
-                let tally = Tally::new(book, shares);
-                Ok((Putter::new(publisher, tally), scanners))
+                Ok((Putter::new(publisher, cutter.close()), scanners))
             }
             None => {
                 drop(writer.take(&rt));
@@ -145,23 +153,25 @@ fn with_room<C: CellName, R: Wait>(rt: &R, writer: CellWriter<C>) -> Option<Cell
     Some(writer)
 }
 
-// So many seats of what the writer shows, each with a part of the shares.
+// So many seats of what the writer shows, with the first numbers, and shares of each.
 fn seat_all<C: CellName>(
     alloc: Global,
     writer: &CellWriter<C>,
     history: &History,
-    shares: &mut Share<C>,
+    cutter: &mut Cutter<C>,
     seats: usize,
 ) -> Option<Vec<Scanner<C>>>
     requires book { history.now.seen.book ≡ C.book }
-    requires shares { (shares.old.parts ≡ seats) × (shares.old.amount ≡ 0) }
-    ensures { IfSome result (λ all. (length all.items ≡ seats)
-        × All (λ scanner. scanner ≡ seat history.now.seen.log [] 0 []) all.items) }
+    requires few { seats ≤ most_seats }
+    requires cutter { cutter.old ≡ cutter_at 0 seats }
+    ensures all { IfSome result (λ all. (length all.items ≡ seats)
+        × All (λ scanner. scanner ≡ seat (log_of history.now.seen.log) [] 0 []) all.items) }
+    ensures left { IfSome result (λ _. cutter.new.left ≡ 0) }
 {
     let mut scanners = Vec::new(alloc);
-    for _ in 0..seats {
-        let scanner = Scanner::new(writer, history, shares.split_off(1, 0))?;
-        scanners.push(scanner).ok()?;
+    for number in 0..seats {
+        let maker = Maker::new(number as u64, history.again(), cutter.cut());
+        scanners.push(Scanner::new(writer, maker)?).ok()?;
     }
     Some(scanners)
 }

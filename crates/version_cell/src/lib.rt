@@ -4,11 +4,13 @@
 mod book;
 pub mod cell;
 pub mod gathered;
+mod maker;
 mod publisher;
 pub mod putter;
 pub mod scanner;
 pub mod shared;
 mod shown;
+mod signed;
 mod tally;
 pub mod told;
 

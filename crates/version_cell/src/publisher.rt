@@ -1,19 +1,21 @@
 //! Who publishes: the log of a cell grows, and its seats are shown the versions.
 
-ghost use Rattle.std.specs.Prelude.{◌≡◌, ◌≢◌, ◌<◌, ◌^◌, ◌++◌, ◌∷◌, [], length, drop, fold, IfOk, IfErr, IsOk, Err};
+ghost use Rattle.std.specs.Prelude.{◌≡◌, ◌≢◌, ◌<◌, ◌^◌, ◌++◌, ◌∷◌, [], length, drop, fold, IfOk, IfErr, MatchResult, IsOk, Err};
 ghost use Rattle.std.specs.Arc.{arc_value};
 ghost use Rattle.scan_base.specs.Reading.{RefusesFirst};
 ghost use Rattle.scan_base.specs.declared.fault.Fault.TheVariants.{OutOfMemory};
 ghost use Rattle.version_log.specs.Expiry.{IsExpired};
-ghost use Rattle.version_log.specs.Log.{added, puts_in, IsLog};
+ghost use Rattle.version_log.specs.Log.{added, expired, puts_in, IsLog};
 ghost use Rattle.table_versions.specs.Stored.{put_of};
 ghost use Rattle.table_versions.specs.Valid.{IsPut};
 ghost use Rattle.version_cell.specs.Puts.{after_log, IsAnswered};
 ghost use Rattle.version_cell.specs.Rules.{head_of, Accepts};
+ghost use Rattle.version_cell.specs.Signed.{log_of, signed};
 ghost use Rattle.version_index.specs.Versions.{IsIndexOf};
 
 use crate::book::{CellName, Head, History};
 use crate::shown::{Entered, Publishes, Shown, Store};
+use crate::signed::Signed;
 use crate::told::Told;
 use left_right::writer::Writer;
 use scan_base::Fault;
@@ -35,8 +37,8 @@ pub struct Receipt<C: CellName> {
     of: PhantomData<C>,
 }
 
-// Who makes the versions of a cell. Contracts see it as the cell's log, which is one of accepted puts. It keeps the handle `rt`, since its end waits for
-// the seats that are reading.
+// Who makes the versions of a cell. Contracts see it as the cell's log, with the seat of each entry; it is a log of accepted puts.
+// It keeps the handle `rt`, since its end waits for the seats that are reading.
 pub(crate) struct Publisher<C: CellName, R: Wait + Drop> {
     head: Head,
     writer: Option<CellWriter<C>>,
@@ -44,24 +46,25 @@ pub(crate) struct Publisher<C: CellName, R: Wait + Drop> {
 }
 
 impl<C: CellName, R: Wait + Drop> Model for Publisher<C, R> {
-    ghost use Rattle.std.specs.Prelude.{◌≡◌, [], IsSome, IfSome};
-    ghost use Rattle.version_log.specs.Log.{Log, IsLog};
+    ghost use Rattle.std.specs.Prelude.{◌≡◌, List, [], IsSome, IfSome};
+    ghost use Rattle.version_log.specs.Log.{IsLog};
     ghost use Rattle.version_cell.specs.Rules.{head_of, read_or};
+    ghost use Rattle.version_cell.specs.Signed.{Signed, log_of};
 
-    ghost Value = { Log };
+    ghost Value = { List Signed };
 
     ghost view = { λ p. read_or [] (λ writer. writer.desk.shown.value.history.seen.log) p.writer };
 
     ghost invariant = { λ p. (p.head ≡ head_of C.book) × IsSome p.writer
         × IfSome p.writer (λ writer. (writer.desk.shown.value.history.seen.book ≡ C.book)
-        × IsLog writer.desk.shown.value.history.seen.log) };
+        × IsLog (log_of writer.desk.shown.value.history.seen.log)) };
 }
 
 impl<C: CellName, R: Wait + Drop> Publisher<C, R> {
     pub(crate) fn new(head: Head, writer: CellWriter<C>, rt: R) -> Publisher<C, R>
         requires head { head ≡ head_of C.book }
         requires book { writer.desk.shown.value.history.seen.book ≡ C.book }
-        requires is_log { IsLog writer.desk.shown.value.history.seen.log }
+        requires is_log { IsLog (log_of writer.desk.shown.value.history.seen.log) }
         ensures { result ≡ writer.desk.shown.value.history.seen.log }
     {
         Publisher {
@@ -75,28 +78,28 @@ impl<C: CellName, R: Wait + Drop> Publisher<C, R> {
     fn store(&self) -> &Store
         ensures log { result.now.history.seen.log ≡ self.now }
         ensures book { result.now.history.seen.book ≡ C.book }
-        ensures is_log { IsLog self.now }
+        ensures is_log { IsLog (log_of self.now) }
     {
         self.writer.as_ref().unwrap().published()
     }
 
     // The versions behind a put, or why it is refused. Nothing has changed yet.
     fn prepare(&self, alloc: Global, put: Put) -> Result<Arc<VersionIndex>, Fault>
-        ensures ok { IfOk result (λ index. IsIndexOf (arc_value index) (self.now ++ added (put_of put) ∷ [])) }
-        ensures accepted { IfOk result (λ _. IsOk (after_log self.now (put_of put))) }
+        ensures ok { IfOk result (λ index. IsIndexOf (arc_value index) (log_of self.now ++ added (put_of put) ∷ [])) }
+        ensures accepted { IfOk result (λ _. IsOk (after_log (log_of self.now) (put_of put))) }
         ensures room { IfOk result (λ _. length self.now < 2 ^ 62) }
         ensures typed { IfOk result (λ _. IsPut (put_of put)) }
         ensures err { IfErr result (λ fault. fault ≢ OutOfMemory
-            → after_log self.now (put_of put) ≡ Err fault) }
-        ensures first { RefusesFirst result (after_log self.now (put_of put)) }
+            → after_log (log_of self.now) (put_of put) ≡ Err fault) }
+        ensures first { RefusesFirst result (after_log (log_of self.now) (put_of put)) }
     {
         self.store().after(alloc, put)
     }
 
     // Adds an entry to the book and shows the versions behind it. From here on nothing can refuse the entry.
-    fn commit(&mut self, index: Arc<VersionIndex>, entry: &Entry)
-        requires kept { IsIndexOf (arc_value index) (self.old ++ entry.now ∷ []) }
-        requires accepted { Accepts self.old entry.now }
+    fn commit(&mut self, index: Arc<VersionIndex>, entry: &Signed)
+        requires kept { IsIndexOf (arc_value index) (log_of self.old ++ entry.now.entry ∷ []) }
+        requires accepted { Accepts (log_of self.old) entry.now.entry }
         requires room { length self.old < 2 ^ 62 }
         ensures { self.new ≡ self.old ++ entry.now ∷ [] }
     {
@@ -110,7 +113,7 @@ impl<C: CellName, R: Wait + Drop> Publisher<C, R> {
     }
 
     // The history with the entry added. It asks again where the book were longer than what is shown, which it never is.
-    fn record(&self, entry: &Entry) -> History
+    fn record(&self, entry: &Signed) -> History
         requires room { length self.now < 2 ^ 62 }
         ensures book { result.seen.book ≡ C.book }
         ensures log { result.seen.log ≡ self.now ++ entry.now ∷ [] }
@@ -125,24 +128,36 @@ impl<C: CellName, R: Wait + Drop> Publisher<C, R> {
         unreachable!()
     }
 
-    // The log so far, for seats to learn. It takes no memory.
-    pub(crate) fn tell(&self) -> Told<C>
-        ensures same { result ≡ self.now }
-        ensures is_log { IsLog result }
+    // The log so far. It takes no memory.
+    pub(crate) fn history(&self) -> History
+        ensures log { result.seen.log ≡ self.now }
+        ensures book { result.seen.book ≡ C.book }
+        ensures is_log { IsLog (log_of self.now) }
     {
-        Told::new(self.store().history.again())
+        self.store().history.again()
     }
 
-    // Makes the next version, with this put. It waits for the seats that are reading the copy which it changes.
-    pub(crate) fn put(&mut self, alloc: Global, put: Put) -> Result<Receipt<C>, Fault>
-        ensures answered { IsAnswered result self.old (put_of put) self.new }
-        ensures first { RefusesFirst result (after_log self.old (put_of put)) }
-        ensures receipt { IfOk result (λ receipt. (receipt.number ≡ puts_in self.new)
+    // The log so far, for seats to learn. It takes no memory.
+    pub(crate) fn tell(&self) -> Told<C>
+        ensures same { result ≡ log_of self.now }
+        ensures is_log { IsLog result }
+    {
+        Told::new(self.history())
+    }
+
+    // Makes the next version, with this put of the seat with a number. It waits for the seats that are reading the copy which it
+    // changes.
+    pub(crate) fn put(&mut self, alloc: Global, seat: u64, put: Put) -> Result<Receipt<C>, Fault>
+        ensures answered { IsAnswered result (log_of self.old) (put_of put) (log_of self.new) }
+        ensures added { MatchResult result (λ _. self.new ≡ self.old ++ signed seat (added (put_of put)) ∷ [])
+            (λ _. self.new ≡ self.old) }
+        ensures first { RefusesFirst result (after_log (log_of self.old) (put_of put)) }
+        ensures receipt { IfOk result (λ receipt. (receipt.number ≡ puts_in (log_of self.new))
             × (receipt.put.value ≡ put)) }
         ensures typed { IfOk result (λ _. IsPut (put_of put)) }
     {
         let made_by = snapshot::Snapshot::of(&put);
-        let entry = Entry::put(snapshot::Snapshot::of(&put));
+        let entry = Signed::new(seat, Entry::put(snapshot::Snapshot::of(&put)));
         let index = self.prepare(alloc, put)?;
         self.commit(index, &entry);
         Ok(Receipt {
@@ -152,12 +167,14 @@ impl<C: CellName, R: Wait + Drop> Publisher<C, R> {
         })
     }
 
-    // Drops the versions below a number, and gives the floor behind it. It waits as a put does.
-    pub(crate) fn expire(&mut self, alloc: Global, version: u64) -> Result<u64, Fault>
-        ensures { IsExpired result self.old version self.new }
+    // Drops the versions below a number, for the seat with a number, and gives the floor behind it. It waits as a put does.
+    pub(crate) fn expire(&mut self, alloc: Global, seat: u64, version: u64) -> Result<u64, Fault>
+        ensures answered { IsExpired result (log_of self.old) version (log_of self.new) }
+        ensures added { MatchResult result (λ _. self.new ≡ self.old ++ signed seat (expired version) ∷ [])
+            (λ _. self.new ≡ self.old) }
     {
         let index = self.store().without(alloc, version)?;
-        self.commit(index, &Entry::mark(version));
+        self.commit(index, &Signed::new(seat, Entry::mark(version)));
         Ok(self.store().floor())
     }
 }
@@ -179,7 +196,7 @@ fn publish<C: CellName, R: Wait>(
     rt: &R,
     writer: CellWriter<C>,
     store: Store,
-    entry: &Entry,
+    entry: &Signed,
 ) -> CellWriter<C>
     requires { store.history.seen.book ≡ C.book }
     ensures { result.desk.shown.value.history.seen ≡ store.history.seen }

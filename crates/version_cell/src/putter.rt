@@ -7,6 +7,7 @@ ghost use Rattle.version_log.specs.Log.{puts_in, IsLog};
 ghost use Rattle.table_versions.specs.Stored.{put_of};
 ghost use Rattle.table_versions.specs.Valid.{IsPut};
 ghost use Rattle.version_cell.specs.Puts.{after_log, IsAnswered};
+ghost use Rattle.version_cell.specs.Signed.{log_of};
 
 use crate::book::CellName;
 use crate::publisher::{Publisher, Receipt};
@@ -17,6 +18,9 @@ use std::alloc::Global;
 use std::marker::Model;
 use std::sync::Wait;
 use table_versions::Put;
+
+// The number of entries that are made through no seat.
+const NO_SEAT: u64 = u64::MAX;
 
 /// Who puts into a cell. Contracts see it as the cell's log. It keeps the handle `rt`, since its end waits for the
 /// seats that are reading.
@@ -30,10 +34,11 @@ pub struct Putter<C: CellName, R: Wait + Drop> {
 impl<C: CellName, R: Wait + Drop> Model for Putter<C, R> {
     ghost use Rattle.std.specs.Prelude.{◌≡◌};
     ghost use Rattle.version_log.specs.Log.{Log};
+    ghost use Rattle.version_cell.specs.Signed.{log_of};
 
     ghost Value = { Log };
 
-    ghost view = { λ p. p.publisher };
+    ghost view = { λ p. log_of p.publisher };
 
     ghost invariant = { λ p. p.tally ≡ 0 };
 }
@@ -41,7 +46,7 @@ impl<C: CellName, R: Wait + Drop> Model for Putter<C, R> {
 impl<C: CellName, R: Wait + Drop> Putter<C, R> {
     pub(crate) fn new(publisher: Publisher<C, R>, tally: Tally<C>) -> Putter<C, R>
         requires { tally ≡ 0 }
-        ensures { result ≡ publisher }
+        ensures { result ≡ log_of publisher }
     {
         Putter { publisher, tally }
     }
@@ -67,7 +72,7 @@ impl<C: CellName, R: Wait + Drop> Putter<C, R> {
             × (receipt.put.value ≡ put)) }
         ensures typed { IfOk result (λ _. IsPut (put_of put)) }
     {
-        self.publisher.put(alloc, put)
+        self.publisher.put(alloc, NO_SEAT, put)
     }
 
     /// Marks the versions below a number as expired, and gives the floor: the greatest number that was so marked. From then on no
@@ -80,6 +85,6 @@ impl<C: CellName, R: Wait + Drop> Putter<C, R> {
     pub fn expire(&mut self, alloc: Global, version: u64) -> Result<u64, Fault>
         ensures { IsExpired result self.old version self.new }
     {
-        self.publisher.expire(alloc, version)
+        self.publisher.expire(alloc, NO_SEAT, version)
     }
 }

@@ -1,76 +1,71 @@
 //! Who looks.
 
-ghost use Rattle.std.specs.Prelude.{◌≡◌, ◌+◌, ◌⊎◌, ◌≤◌, ◌<◌, ◌++◌, ◌∷◌, [], length, IfOk, IfErr, IfSome, MatchBool};
+ghost use Rattle.std.specs.Prelude.{◌≡◌, ◌+◌, ◌⊎◌, ◌≤◌, ◌<◌, [], IfOk, IfErr, IfSome, MatchBool};
 ghost use Rattle.scan_base.specs.declared.fault.Fault.TheVariants.{OutOfMemory, VersionExpired, VersionUnknown};
 ghost use Rattle.version_log.specs.Log.{puts_in, floor_of, database_of, version, Begins};
 ghost use Rattle.table_versions.specs.Stored.{tables_of};
-ghost use Rattle.version_cell.specs.Seats.{seat, EntersOnce, MakesNone, MayEnter};
+ghost use Rattle.version_cell.specs.Seats.{seat, AsksNone, EntersOnce, MakesNone, MayEnter};
+ghost use Rattle.version_cell.specs.Signed.{log_of, maker_at};
 
-use crate::book::{CellName, History};
+use crate::book::CellName;
+use crate::maker::Maker;
 use crate::publisher::CellWriter;
 use crate::shown::{Entered, Enters, Shown, Store};
-use crate::tally::Tally;
 use crate::told::Told;
 use left_right::reader::Reader;
 use scan_base::Fault;
 use std::marker::Model;
-use std::sync::ledger::Share;
-use std::{mem, snapshot};
 use table_versions::Snapshot;
-use version_log::{Entries, Entry};
 
 type CellReader<C> = Reader<Store, Entered, Shown<C>>;
 
 /// A seat of a cell. Contracts see it as the log that it has seen or was told of, the log that it entered last, the
-/// number of its enters, and the entries that were made through it. Its calls wait for nobody and take no memory.
+/// number of its enters, the entries that were made through it, and the number of its asks. Its calls wait for nobody and take no
+/// memory.
 #[derive(Drop)]
 pub struct Scanner<C: CellName> {
-    history: History,
+    pub(crate) maker: Maker<C>,
     reader: Option<CellReader<C>>,
-    made: snapshot::Snapshot<Entries>,
-    // Each of these entries is counted in it.
-    share: Share<C>,
 }
 
 impl<C: CellName> Model for Scanner<C> {
-    ghost use Rattle.std.specs.Prelude.{◌≡◌, [], length, IsSome};
+    ghost use Rattle.std.specs.Prelude.{[], IsSome};
     ghost use Rattle.version_cell.specs.Rules.{read_or};
-    ghost use Rattle.version_cell.specs.Seats.{Seat, seat};
+    ghost use Rattle.version_cell.specs.Seats.{Seat};
+    ghost use Rattle.version_cell.specs.Signed.{log_of};
 
     ghost Value = { Seat };
 
-    ghost view = { λ s. seat s.history.seen.log (read_or [] (λ reader. reader.place.me.0.client.log) s.reader)
-        (read_or 0 (λ reader. reader.place.me.0.client.enters) s.reader) s.made.value.entries };
+    ghost view = { λ s. record {
+      log = log_of s.maker.seen;
+      entered = log_of (read_or [] (λ reader. reader.place.me.0.client.log) s.reader);
+      enters = read_or 0 (λ reader. reader.place.me.0.client.enters) s.reader;
+      made = s.maker.made;
+      asks = s.maker.asks;
+    } };
 
-    ghost invariant = { λ s. (s.history.seen.book ≡ C.book) × IsSome s.reader
-        × (s.share.parts ≡ 1) × (s.share.amount ≡ length s.made.value.entries) };
+    ghost invariant = { λ s. IsSome s.reader };
 }
 
 impl<C: CellName> Scanner<C> {
-    // A seat of what the writer shows, which has seen this log, and a share of what is counted.
-    pub(crate) fn new(
-        writer: &CellWriter<C>,
-        history: &History,
-        share: Share<C>,
-    ) -> Option<Scanner<C>>
-        requires book { history.now.seen.book ≡ C.book }
-        requires share { (share.parts ≡ 1) × (share.amount ≡ 0) }
-        ensures { IfSome result (λ s. s ≡ seat history.now.seen.log [] 0 []) }
+    // A seat of what the writer shows, through which entries are made by this.
+    pub(crate) fn new(writer: &CellWriter<C>, maker: Maker<C>) -> Option<Scanner<C>>
+        requires { maker ≡ maker_at maker.seat maker.seen [] 0 }
+        ensures { IfSome result (λ s. s ≡ seat (log_of maker.seen) [] 0 []) }
     {
         let reader = writer.factory().reader().ok()?;
         Some(Scanner {
-            history: history.again(),
+            maker,
             reader: Some(reader),
-            made: Entries::none(),
-            share,
         })
     }
 
     // One enter.
     fn enter(&mut self) -> Result<Store, Fault>
         ensures made { MakesNone self.old self.new }
+        ensures asks { AsksNone self.old self.new }
         ensures begins { Begins self.old.log self.new.log }
-        ensures ok { IfOk result (λ store. EntersOnce self.old self.new × (store.history.seen.log ≡ self.new.log)) }
+        ensures ok { IfOk result (λ store. EntersOnce self.old self.new × (log_of store.history.seen.log ≡ self.new.log)) }
         ensures err { IfErr result (λ fault. (fault ≡ OutOfMemory) × MayEnter self.old self.new) }
     {
         let reader = self.reader.take().unwrap();
@@ -85,10 +80,10 @@ impl<C: CellName> Scanner<C> {
                 let Some(store) = found else {
                     return Err(Fault::OutOfMemory);
                 };
-                if !self.history.begins(&store.history) {
+                if !self.maker.history().begins(&store.history) {
                     return Err(Fault::OutOfMemory);
                 }
-                self.history = store.history.again();
+                self.maker.see(&store.history);
                 Ok(store)
             }
         }
@@ -102,6 +97,7 @@ impl<C: CellName> Scanner<C> {
     /// behind what the seat has seen, which never is.
     pub fn current(&mut self) -> Result<Snapshot, Fault>
         ensures made { MakesNone self.old self.new }
+        ensures asks { AsksNone self.old self.new }
         ensures begins { Begins self.old.log self.new.log }
         ensures ok { IfOk result (λ snapshot. EntersOnce self.old self.new
             × (snapshot.number ≡ puts_in self.new.log)
@@ -120,6 +116,7 @@ impl<C: CellName> Scanner<C> {
     /// floor, and F21 (`Fault::OutOfMemory`) as `current` does.
     pub fn at(&mut self, number: u64) -> Result<Snapshot, Fault>
         ensures made { MakesNone self.old self.new }
+        ensures asks { AsksNone self.old self.new }
         ensures begins { Begins self.old.log self.new.log }
         ensures ok { IfOk result (λ snapshot. EntersOnce self.old self.new
             × (number ≤ puts_in self.new.log) × (snapshot.number ≡ number)
@@ -144,44 +141,33 @@ impl<C: CellName> Scanner<C> {
     pub(crate) fn is_within(&self, told: &Told<C>) -> bool
         ensures { MatchBool result (Begins self.now.log told.now) (Begins told.now self.now.log) }
     {
-        self.history.begins(told.history())
+        self.maker.history().begins(told.history())
+    }
+
+    // The maker of a seat that is done with.
+    pub(crate) fn into_maker(self) -> Maker<C>
+        ensures { (log_of result.seen ≡ self.log) × (result.made ≡ self.made) }
+    {
+        let Scanner { maker, reader: _ } = self;
+        maker
     }
 
     /// The log that the seat has seen or was told of, for others to learn. It takes no memory.
     pub fn tell(&self) -> Told<C>
         ensures { result ≡ self.now.log }
     {
-        Told::new(self.history.again())
+        Told::new(self.maker.history().again())
     }
 
     /// From now on the seat sees no less than was told, and no more than this and what it had seen. It makes no enter.
     pub fn learn(&mut self, told: &Told<C>)
         ensures made { MakesNone self.old self.new }
+        ensures asks { AsksNone self.old self.new }
         ensures begins { Begins self.old.log self.new.log }
         ensures told { Begins told.now self.new.log }
         ensures longer { (self.new.log ≡ self.old.log) ⊎ (self.new.log ≡ told.now) }
         ensures enters { (self.new.enters ≡ self.old.enters) × (self.new.entered ≡ self.old.entered) }
     {
-        if self.is_within(told) {
-            self.history = told.history().again();
-        }
-    }
-
-    // One entry more was made through the seat, and is counted.
-    pub(crate) fn count_made(&mut self, tally: &mut Tally<C>, entry: &Entry)
-        ensures tally { tally.new ≡ tally.old + 1 }
-        ensures made { self.new ≡ seat self.old.log self.old.entered self.old.enters (self.old.made ++ entry.now ∷ []) }
-    {
-        let before = mem::replace(&mut self.made, Entries::none());
-        self.made = Entries::with(before, entry);
-        tally.count(&mut self.share);
-    }
-
-    // The share of a seat that is done with.
-    pub(crate) fn into_share(self) -> Share<C>
-        ensures { (result.parts ≡ 1) × (result.amount ≡ length self.made) }
-    {
-        let Scanner { share, .. } = self;
-        share
+        self.maker.learn(told.history());
     }
 }

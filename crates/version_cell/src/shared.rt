@@ -1,16 +1,19 @@
 //! A putter that threads share under one lock.
 
-ghost use Rattle.std.specs.Prelude.{◌≡◌, [], length, IfOk};
+ghost use Rattle.std.specs.Prelude.{◌≡◌, ◌+◌, ◌⊎◌, [], true, length, IfOk, IfSome};
 ghost use Rattle.version_log.specs.Expiry.{IsExpired};
 ghost use Rattle.version_log.specs.Log.{puts_in, Begins, IsLog};
 ghost use Rattle.table_versions.specs.Stored.{put_of};
 ghost use Rattle.table_versions.specs.Valid.{IsPut};
 ghost use Rattle.version_cell.specs.Expiries.{CountsExpiry, ExpiresBehind};
+ghost use Rattle.version_cell.specs.Merges.{MergesAll};
 ghost use Rattle.version_cell.specs.Puts.{CountsPut, IsAnswered, PutsBehind};
-ghost use Rattle.version_cell.specs.Seats.{MakesNone};
+ghost use Rattle.version_cell.specs.Seats.{AsksOnce, MakesNone};
+ghost use Rattle.version_cell.specs.Signed.{log_of, maker_at};
 
 use crate::book::CellName;
 use crate::gathered::Gathered;
+use crate::maker::Maker;
 use crate::publisher::{Publisher, Receipt};
 use crate::putter::Putter;
 use crate::scanner::Scanner;
@@ -33,81 +36,105 @@ struct Counting<C: CellName, R: Wait + Drop> {
 }
 
 impl<C: CellName, R: Wait + Drop> Counting<C, R> {
-    // Puts through a seat, and gives the put's number.
+    // Whether a seat has seen no more than the log.
+    fn is_ahead_of(&self, seat: &Scanner<C>) -> bool
+        ensures { result ≡ true → Begins seat.now.log (log_of self.now.publisher) }
+    {
+        seat.is_within(&self.publisher.tell())
+    }
+
+    // A seat asks, and sees no less than the log.
+    fn ask(&mut self, seat: &mut Scanner<C>)
+        ensures asks { AsksOnce seat.old seat.new }
+        ensures told { Begins (log_of self.old.publisher) seat.new.log }
+        ensures longer { (seat.new.log ≡ seat.old.log) ⊎ (seat.new.log ≡ log_of self.old.publisher) }
+        ensures begins { Begins seat.old.log seat.new.log }
+        ensures made { MakesNone seat.old seat.new }
+        ensures enters { (seat.new.enters ≡ seat.old.enters) × (seat.new.entered ≡ seat.old.entered) }
+        ensures same { self.new.publisher ≡ self.old.publisher }
+    {
+        let Counting { publisher, tally } = self;
+        seat.maker.ask(tally, &publisher.history());
+    }
+
+    // Puts through a seat, which asks first, and gives the put's number.
     fn put(&mut self, alloc: Global, seat: &mut Scanner<C>, put: Put) -> Result<u64, Fault>
-        requires within { Begins seat.old.log self.old.publisher }
-        ensures answered { IsAnswered result self.old.publisher (put_of put) self.new.publisher }
+        requires within { Begins seat.old.log (log_of self.old.publisher) }
+        ensures answered { IsAnswered result (log_of self.old.publisher) (put_of put) (log_of self.new.publisher) }
         ensures put { PutsBehind result seat.old (put_of put) seat.new }
         ensures made { CountsPut result seat.old (put_of put) seat.new }
+        ensures asks { AsksOnce seat.old seat.new }
         ensures number { IfOk result (λ number. number ≡ puts_in seat.new.log) }
         ensures typed { IfOk result (λ _. IsPut (put_of put)) }
         ensures begins { Begins seat.old.log seat.new.log }
         ensures enters { (seat.new.enters ≡ seat.old.enters) × (seat.new.entered ≡ seat.old.entered) }
     {
         let Counting { publisher, tally } = self;
-        let receipt = put_and_learn(publisher, alloc, seat, put)?;
+        let maker = &mut seat.maker;
+        catch_up(publisher, tally, maker);
+        let receipt = publisher.put(alloc, maker.seat(), put)?;
         let Receipt { number, put, .. } = receipt;
-        seat.count_made(tally, &Entry::put(put));
+        maker.make(tally, &publisher.history(), &Entry::put(put));
         Ok(number)
     }
 
-    // Expires versions through a seat, and gives the floor.
+    // Expires versions through a seat, which asks first, and gives the floor.
     fn expire(&mut self, alloc: Global, seat: &mut Scanner<C>, version: u64) -> Result<u64, Fault>
-        requires within { Begins seat.old.log self.old.publisher }
-        ensures answered { IsExpired result self.old.publisher version self.new.publisher }
+        requires within { Begins seat.old.log (log_of self.old.publisher) }
+        ensures answered { IsExpired result (log_of self.old.publisher) version (log_of self.new.publisher) }
         ensures expiry { ExpiresBehind result seat.old version seat.new }
         ensures made { CountsExpiry result seat.old version seat.new }
+        ensures asks { AsksOnce seat.old seat.new }
         ensures begins { Begins seat.old.log seat.new.log }
         ensures enters { (seat.new.enters ≡ seat.old.enters) × (seat.new.entered ≡ seat.old.entered) }
     {
         let Counting { publisher, tally } = self;
-        let floor = expire_and_learn(publisher, alloc, seat, version)?;
-        seat.count_made(tally, &Entry::mark(version));
+        let maker = &mut seat.maker;
+        catch_up(publisher, tally, maker);
+        let floor = publisher.expire(alloc, maker.seat(), version)?;
+        maker.make(tally, &publisher.history(), &Entry::mark(version));
         Ok(floor)
+    }
+
+    // No seat yet, with the log so far.
+    fn gather(&mut self) -> Gathered<C>
+        ensures none { (result.seats ≡ 0) × (result.made ≡ 0) }
+        ensures each { result.each ≡ [] }
+    {
+        let Counting { publisher, tally } = self;
+        Gathered::new(publisher.history(), tally.none())
+    }
+
+    // The log, where it goes on from all that the seats of the cell had seen, which are done with.
+    fn whole(&mut self, all: &mut Gathered<C>) -> Option<Told<C>>
+        requires { all.old.seats ≡ C.parts }
+        ensures same { all.new ≡ all.old }
+        ensures begins { IfSome result (λ told. Begins all.old.log told) }
+        ensures counted { IfSome result (λ told. length told ≡ all.old.made) }
+        ensures each { IfSome result (λ told. MergesAll all.old.each told) }
+        ensures is_log { IfSome result (λ told. IsLog told) }
+    {
+        let Counting { publisher, tally } = self;
+        tally.audit(&mut all.shares);
+        if all.history.begins(&publisher.history()) {
+            return Some(publisher.tell());
+        }
+        None
     }
 }
 
-// Puts, and lets the seat see the log behind the put.
-fn put_and_learn<C: CellName, R: Wait + Drop>(
-    publisher: &mut Publisher<C, R>,
-    alloc: Global,
-    seat: &mut Scanner<C>,
-    put: Put,
-) -> Result<Receipt<C>, Fault>
-    requires within { Begins seat.old.log publisher.old }
-    ensures answered { IsAnswered result publisher.old (put_of put) publisher.new }
-    ensures put { PutsBehind result seat.old (put_of put) seat.new }
-    ensures receipt { IfOk result (λ receipt. (receipt.number ≡ puts_in seat.new.log)
-        × (receipt.put.value ≡ put)) }
-    ensures typed { IfOk result (λ _. IsPut (put_of put)) }
-    ensures begins { Begins seat.old.log seat.new.log }
-    ensures enters { (seat.new.enters ≡ seat.old.enters) × (seat.new.entered ≡ seat.old.entered) }
-    ensures made { MakesNone seat.old seat.new }
+// A maker that has seen no more than the log asks, and sees all of it.
+#[tactic(auto, using(crate::proofs::Logs::caught_up))]
+fn catch_up<C: CellName, R: Wait + Drop>(
+    publisher: &Publisher<C, R>,
+    tally: &mut Tally<C>,
+    maker: &mut Maker<C>,
+)
+    requires within { Begins (log_of maker.old.seen) (log_of publisher.now) }
+    ensures asked { maker.new ≡ maker_at maker.old.seat publisher.now maker.old.made (maker.old.asks + 1) }
+    ensures tally { tally.new ≡ tally.old }
 {
-    let answer = publisher.put(alloc, put);
-    let told = publisher.tell();
-    seat.learn(&told);
-    answer
-}
-
-// Expires versions, and lets the seat see the log behind the mark.
-fn expire_and_learn<C: CellName, R: Wait + Drop>(
-    publisher: &mut Publisher<C, R>,
-    alloc: Global,
-    seat: &mut Scanner<C>,
-    version: u64,
-) -> Result<u64, Fault>
-    requires within { Begins seat.old.log publisher.old }
-    ensures answered { IsExpired result publisher.old version publisher.new }
-    ensures expiry { ExpiresBehind result seat.old version seat.new }
-    ensures begins { Begins seat.old.log seat.new.log }
-    ensures enters { (seat.new.enters ≡ seat.old.enters) × (seat.new.entered ≡ seat.old.entered) }
-    ensures made { MakesNone seat.old seat.new }
-{
-    let floor = publisher.expire(alloc, version);
-    let behind = publisher.tell();
-    seat.learn(&behind);
-    floor
+    maker.ask(tally, &publisher.history());
 }
 
 /// A putter that threads share under one lock. Each entry is made through a seat, and stands among those of that seat.
@@ -145,6 +172,7 @@ impl<C: CellName, R: Wait + Drop> SharedPutter<C, R> {
     ) -> Result<u64, Fault>
         ensures put { PutsBehind result seat.old (put_of put) seat.new }
         ensures made { CountsPut result seat.old (put_of put) seat.new }
+        ensures asks { AsksOnce seat.old seat.new }
         ensures number { IfOk result (λ number. number ≡ puts_in seat.new.log) }
         ensures typed { IfOk result (λ _. IsPut (put_of put)) }
         ensures begins { Begins seat.old.log seat.new.log }
@@ -152,7 +180,7 @@ impl<C: CellName, R: Wait + Drop> SharedPutter<C, R> {
     {
         for _ in rt.forever() {
             let mut counting = self.counting.lock(rt);
-            if seat.is_within(&counting.publisher.tell()) {
+            if counting.is_ahead_of(seat) {
                 return counting.put(alloc, seat, put);
             }
             drop(counting);
@@ -176,12 +204,13 @@ impl<C: CellName, R: Wait + Drop> SharedPutter<C, R> {
     ) -> Result<u64, Fault>
         ensures expiry { ExpiresBehind result seat.old version seat.new }
         ensures made { CountsExpiry result seat.old version seat.new }
+        ensures asks { AsksOnce seat.old seat.new }
         ensures begins { Begins seat.old.log seat.new.log }
         ensures enters { (seat.new.enters ≡ seat.old.enters) × (seat.new.entered ≡ seat.old.entered) }
     {
         for _ in rt.forever() {
             let mut counting = self.counting.lock(rt);
-            if seat.is_within(&counting.publisher.tell()) {
+            if counting.is_ahead_of(seat) {
                 return counting.expire(alloc, seat, version);
             }
             drop(counting);
@@ -190,42 +219,41 @@ impl<C: CellName, R: Wait + Drop> SharedPutter<C, R> {
         unreachable!()
     }
 
-    /// The log so far, for seats to learn. It waits for the lock, and takes no memory.
-    pub fn tell(&self, rt: &impl Wait) -> Told<C>
-        ensures { IsLog result }
+    /// Lets a seat see all that was done so far. It waits for the lock, takes no memory, and is no enter. Who asks, as who puts or
+    /// expires, holds the lock once: nothing else raises the number of asks.
+    pub fn ask(&self, rt: &impl Wait, seat: &mut Scanner<C>)
+        ensures asks { AsksOnce seat.old seat.new }
+        ensures begins { Begins seat.old.log seat.new.log }
+        ensures made { MakesNone seat.old seat.new }
+        ensures enters { (seat.new.enters ≡ seat.old.enters) × (seat.new.entered ≡ seat.old.entered) }
     {
-        self.counting.lock(rt).publisher.tell()
+        self.counting.lock(rt).ask(seat);
     }
 
     /// No seat yet, with the log so far.
     pub fn gather(&self, rt: &impl Wait) -> Gathered<C>
-        ensures { (result.seats ≡ 0) × (result.made ≡ 0) }
+        ensures none { (result.seats ≡ 0) × (result.made ≡ 0) }
+        ensures each { result.each ≡ [] }
     {
-        let mut counting = self.counting.lock(rt);
-        let Counting { publisher, tally } = &mut *counting;
-        Gathered::new(publisher.tell(), tally.none())
+        self.counting.lock(rt).gather()
     }
 
-    /// The whole log, where all seats of the cell are done with: it goes on from all that they had seen, and has as many
-    /// entries as were made through them.
+    /// The whole log, where all seats of the cell are done with: it goes on from all that they had seen, and is made up of the
+    /// entries that were made through each.
     ///
     /// No seat is ever ahead of the log, so the lock is held once; were one, it would be let go, and asked for again.
     pub fn whole_log(&self, rt: &impl Wait, all: Gathered<C>) -> Told<C>
         requires { all.seats ≡ C.parts }
         ensures begins { Begins all.log result }
         ensures counted { length result ≡ all.made }
+        ensures each { MergesAll all.each result }
         ensures is_log { IsLog result }
     {
-        let Gathered { told, mut share } = all;
+        let mut all = all;
         for _ in rt.forever() {
-            let mut counting = self.counting.lock(rt);
-            let Counting { publisher, tally } = &mut *counting;
-            let whole = publisher.tell();
-            tally.audit(&mut share);
-            if told.is_within(&whole) {
+            if let Some(whole) = self.counting.lock(rt).whole(&mut all) {
                 return whole;
             }
-            drop(counting);
             thread::yield_now();
         }
         unreachable!()

@@ -10,9 +10,11 @@ ghost use Rattle.version_log.specs.Log.{added, expired, puts_in, floor_of, datab
 ghost use Rattle.table_versions.specs.Stored.{put_of, tables_of};
 ghost use Rattle.table_versions.specs.Valid.{IsPut};
 ghost use Rattle.version_cell.specs.Puts.{after_log};
+ghost use Rattle.version_cell.specs.Signed.{log_of};
 ghost use Rattle.version_index.specs.Versions.{IsIndexOf};
 
 use crate::book::{CellName, History, Law};
+use crate::signed::Signed;
 use crossbeam_utils::rule::{Outcome, Protocol};
 use left_right::Absorb;
 use logbook::Seen;
@@ -23,19 +25,18 @@ use std::marker::PhantomData;
 use std::sync::Arc;
 use table_versions::{Put, Snapshot, apply};
 use version_index::VersionIndex;
-use version_log::Entry;
 
 // All versions of a log, but for those that are expired.
 #[derive(Drop)]
 pub(crate) struct Store {
     pub(crate) index: Arc<VersionIndex>,
     pub(crate) history: History,
-    pub ghost kept: { IsIndexOf (arc_value index) history.seen.log },
+    pub ghost kept: { IsIndexOf (arc_value index) (log_of history.seen.log) },
 }
 
 impl Store {
     pub(crate) fn new(index: Arc<VersionIndex>, history: History) -> Store
-        requires { IsIndexOf (arc_value index) history.seen.log }
+        requires { IsIndexOf (arc_value index) (log_of history.seen.log) }
         ensures { result.history ≡ history }
     {
         Store { index, history }
@@ -51,28 +52,28 @@ impl Store {
 
     // The newest version.
     pub(crate) fn newest(&self) -> &Snapshot
-        ensures number { result.now.number ≡ puts_in self.now.history.seen.log }
-        ensures tables { tables_of result.now.catalog ≡ database_of self.now.history.seen.log }
-        ensures few { puts_in self.now.history.seen.log ≤ most_commits }
-        ensures kept { floor_of self.now.history.seen.log ≤ puts_in self.now.history.seen.log }
+        ensures number { result.now.number ≡ puts_in (log_of self.now.history.seen.log) }
+        ensures tables { tables_of result.now.catalog ≡ database_of (log_of self.now.history.seen.log) }
+        ensures few { puts_in (log_of self.now.history.seen.log) ≤ most_commits }
+        ensures kept { floor_of (log_of self.now.history.seen.log) ≤ puts_in (log_of self.now.history.seen.log) }
     {
         self.index.newest()
     }
 
     // The number of the oldest version that is not expired.
     pub(crate) fn floor(&self) -> u64
-        ensures { result ≡ floor_of self.now.history.seen.log }
+        ensures { result ≡ floor_of (log_of self.now.history.seen.log) }
     {
         self.index.floor()
     }
 
     // The version of a number that was reached and is not expired.
     pub(crate) fn version(&self, number: u64) -> Result<Snapshot, AllocError>
-        requires kept { floor_of self.now.history.seen.log ≤ number }
-        requires reached { number ≤ puts_in self.now.history.seen.log }
+        requires kept { floor_of (log_of self.now.history.seen.log) ≤ number }
+        requires reached { number ≤ puts_in (log_of self.now.history.seen.log) }
         ensures number { IfOk result (λ snapshot. snapshot.number ≡ number) }
         ensures tables { IfOk result (λ snapshot. tables_of snapshot.catalog
-            ≡ version self.now.history.seen.log number) }
+            ≡ version (log_of self.now.history.seen.log) number) }
     {
         self.index.at(number)
     }
@@ -80,13 +81,13 @@ impl Store {
     // The versions after a put, behind a handle.
     pub(crate) fn after(&self, alloc: Global, put: Put) -> Result<Arc<VersionIndex>, Fault>
         ensures ok { IfOk result (λ index. IsIndexOf (arc_value index)
-            (self.now.history.seen.log ++ added (put_of put) ∷ [])) }
-        ensures accepted { IfOk result (λ _. IsOk (after_log self.now.history.seen.log (put_of put))) }
+            (log_of self.now.history.seen.log ++ added (put_of put) ∷ [])) }
+        ensures accepted { IfOk result (λ _. IsOk (after_log (log_of self.now.history.seen.log) (put_of put))) }
         ensures room { IfOk result (λ _. length self.now.history.seen.log < 2 ^ 62) }
         ensures typed { IfOk result (λ _. IsPut (put_of put)) }
         ensures err { IfErr result (λ fault. fault ≢ OutOfMemory
-            → after_log self.now.history.seen.log (put_of put) ≡ Err fault) }
-        ensures first { RefusesFirst result (after_log self.now.history.seen.log (put_of put)) }
+            → after_log (log_of self.now.history.seen.log) (put_of put) ≡ Err fault) }
+        ensures first { RefusesFirst result (after_log (log_of self.now.history.seen.log) (put_of put)) }
     {
         let catalog = apply(alloc, self.newest(), put)?;
         let longer = self.index.with(alloc, catalog)?;
@@ -100,10 +101,10 @@ impl Store {
     // The versions after an expiry of those below a number, behind a handle.
     pub(crate) fn without(&self, alloc: Global, version: u64) -> Result<Arc<VersionIndex>, Fault>
         ensures ok { IfOk result (λ index. IsIndexOf (arc_value index)
-            (self.now.history.seen.log ++ expired version ∷ [])) }
-        ensures reached { IfOk result (λ _. version ≤ puts_in self.now.history.seen.log) }
+            (log_of self.now.history.seen.log ++ expired version ∷ [])) }
+        ensures reached { IfOk result (λ _. version ≤ puts_in (log_of self.now.history.seen.log)) }
         ensures room { IfOk result (λ _. length self.now.history.seen.log < 2 ^ 62) }
-        ensures err { IfErr result (λ fault. RefusesExpiry fault self.now.history.seen.log version) }
+        ensures err { IfErr result (λ fault. RefusesExpiry fault (log_of self.now.history.seen.log) version) }
     {
         if version > self.history.puts() {
             return Err(Fault::VersionUnknown);
@@ -121,7 +122,7 @@ impl Store {
 
 impl Absorb<Store> for Store {
     // The log that was reached, and its book. To absorb sets the whole.
-    type State = Seen<Entry, u64, Law>;
+    type State = Seen<Signed, u64, Law>;
 
     ghost state = { λ store. store.history.seen };
 
@@ -140,7 +141,7 @@ impl Absorb<Store> for Store {
 
 // The log that a seat entered last, and how often it entered. No value of it is made.
 pub(crate) struct Entered {
-    pub log: LinkedList<Entry>,
+    pub log: LinkedList<Signed>,
     pub enters: u64,
 }
 

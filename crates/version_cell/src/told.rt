@@ -1,7 +1,8 @@
 //! What one thread tells another of the log.
 
-ghost use Rattle.std.specs.Prelude.{◌≡◌, MatchBool};
-ghost use Rattle.version_log.specs.Log.{puts_in, Begins};
+ghost use Rattle.std.specs.Prelude.{◌≡◌};
+ghost use Rattle.version_log.specs.Log.{puts_in};
+ghost use Rattle.version_cell.specs.Signed.{log_of};
 
 use crate::book::{CellName, History};
 use std::marker::{Model, PhantomData};
@@ -16,10 +17,11 @@ pub struct Told<C: CellName> {
 impl<C: CellName> Model for Told<C> {
     ghost use Rattle.std.specs.Prelude.{◌≡◌};
     ghost use Rattle.version_log.specs.Log.{Log};
+    ghost use Rattle.version_cell.specs.Signed.{log_of};
 
     ghost Value = { Log };
 
-    ghost view = { λ t. t.history.seen.log };
+    ghost view = { λ t. log_of t.history.seen.log };
 
     ghost invariant = { λ t. t.history.seen.book ≡ C.book };
 }
@@ -27,7 +29,7 @@ impl<C: CellName> Model for Told<C> {
 impl<C: CellName> Told<C> {
     pub(crate) fn new(history: History) -> Told<C>
         requires { history.seen.book ≡ C.book }
-        ensures { result ≡ history.seen.log }
+        ensures { result ≡ log_of history.seen.log }
     {
         Told {
             history,
@@ -36,7 +38,7 @@ impl<C: CellName> Told<C> {
     }
 
     pub(crate) fn history(&self) -> &History
-        ensures log { result.now.seen.log ≡ self.now }
+        ensures log { log_of result.now.seen.log ≡ self.now }
         ensures book { result.now.seen.book ≡ C.book }
     {
         &self.history
@@ -47,12 +49,5 @@ impl<C: CellName> Told<C> {
         ensures { result ≡ puts_in self.now }
     {
         self.history.puts()
-    }
-
-    // Whether the other has no fewer entries. It then begins with this.
-    pub(crate) fn is_within(&self, other: &Told<C>) -> bool
-        ensures { MatchBool result (Begins self.now other.now) (Begins other.now self.now) }
-    {
-        self.history.begins(&other.history)
     }
 }

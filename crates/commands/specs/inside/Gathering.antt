@@ -11,7 +11,7 @@ use Rattle.connection_turns.specs.Drawers.{DrawerAt, drawer_at}
 use Rattle.command_ends.specs.Network.{Ends}
 use Rattle.commands.specs.declared.crew.Hired as declared
 use Rattle.commands.specs.Port.{IsFresh}
-use Rattle.commands.specs.Serve.{Pays, Work, Worker, ServesUpTo, drawn_by, first_fault, made_by, worker_of}
+use Rattle.commands.specs.Serve.{Pays, Work, Worker, ServesUpTo, drawn_by, first_fault, made_by, made_by_each, worker_of}
 
 -- a worker's seat of the cell, which is always there between two connections
 abbrev pub seat_in : Option cell.Seat → Seat
@@ -67,6 +67,7 @@ pub record Gathered {L : Type 0} (all left : List (HiredWorker L)) (seats : cell
   pub within : All (IsWithin seats.log) done
   pub many : seats.seats ≡ length done
   pub made : seats.made ≡ made_by (map work_of done)
+  pub each : seats.each ≡ made_by_each (map work_of done)
   pub first : result ≡ first_fault (map work_of done)
   pub named : hub.name ≡ name
   pub parts : hub.parts ≡ length done + 1

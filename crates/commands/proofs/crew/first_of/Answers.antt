@@ -3,7 +3,7 @@ use Rattle.commands.proofs.Crews.{all_drawn, all_gathered, last_drawn, none_gath
 use Rattle.commands.proofs.crew.first_of.Goals as goal
 
 pub loop-worker-init : goal.loop-worker-init
-loop-worker-init g c = none_gathered c.args.workers.items c.args.seats c.args.turns.now.name c.args.drawer c.requires.none.0 c.requires.none.1 c.requires.drawer c.requires.worked
+loop-worker-init g c = none_gathered c.args.workers.items c.args.seats c.args.turns.now.name c.args.drawer c.requires.none.0 c.requires.none.1 c.requires.each c.requires.drawer c.requires.worked
 
 pub unwrap-requires : goal.unwrap-requires
 unwrap-requires g c =
@@ -20,7 +20,7 @@ pub loop-worker-preserved : goal.loop-worker-preserved
 loop-worker-preserved g c =
     one_gathered c.args.workers.items c.loop-worker.workers.items c.pop.new.self.items c.in-Some.worker c.loop-worker.seats c.take.new.self
     c.loop-worker.first c.and-first.result c.args.turns.now.name c.loop-worker.drawer c.take_back.new.mine c.loop-worker.invariant (search rules)
-    (takes_so c.in-Some.worker.scanner c.unwrap.result c.loop-worker.seats c.take.new.self (search rules) c.take.ensures.log c.take.ensures.seen c.take.ensures.seats c.take.ensures.made)
+    (takes_so c.in-Some.worker.scanner c.unwrap.result c.loop-worker.seats c.take.new.self (search rules) c.take.ensures.log c.take.ensures.seen c.take.ensures.seats c.take.ensures.made c.take.ensures.each)
     (search rules) c.take_back.ensures
 
 pub returns-clause-first : goal.returns-clause-first
@@ -42,6 +42,11 @@ pub returns-clause-made : goal.returns-clause-made
 returns-clause-made g c =
     let empty : c.loop-worker.workers.items ≡ [] = search rules in
     (all_gathered c.args.workers.items c.loop-worker.seats c.loop-worker.first c.args.turns.now.name c.loop-worker.drawer (rw empty at c.loop-worker.invariant)).made
+
+pub returns-clause-each : goal.returns-clause-each
+returns-clause-each g c =
+    let empty : c.loop-worker.workers.items ≡ [] = search rules in
+    (all_gathered c.args.workers.items c.loop-worker.seats c.loop-worker.first c.args.turns.now.name c.loop-worker.drawer (rw empty at c.loop-worker.invariant)).each
 
 pub returns-clause-drawn : goal.returns-clause-drawn
 returns-clause-drawn g c =

@@ -1,4 +1,6 @@
-use Rattle.std.proofs.Common.{rules}
+use Rattle.std.proofs.Common.{List, rules, subst}
+use Rattle.version_log.specs.Log.{Log}
+use Rattle.version_cell.specs.Merges.{MergesAll}
 use Rattle.commands.specs.Serve.{AcceptsThenCloses}
 use Rattle.commands.proofs.Crews.{all_served, written}
 use Rattle.commands.proofs.crew.serve_side_by_side.Goals as goal
@@ -10,4 +12,5 @@ returns g c =
     all_served (AcceptsThenCloses g.L.Listen.accepts g.L.Listen.closes) c.args.crew.now.service.options c.args.crew.now.service.turns.now.name c.args.crew.now.service.turns.now.most c.whole_log.result
     c.args.workers.items c.work_side_by_side.new.workers _ c.first_of-first.result.0
     (written c.args.workers.items c.work_side_by_side.new.workers c.args.workers.len (search rules) (search rules)) (search rules) each
-    c.first_of-first.result.1.log f.within c.whole_log.ensures.begins c.whole_log.ensures.is_log (search rules) f.drawn f.first
+    c.first_of-first.result.1.log f.within c.whole_log.ensures.begins c.whole_log.ensures.is_log (search rules)
+    (subst (λ (each : List Log). MergesAll each c.whole_log.result) f.each c.whole_log.ensures.each) f.drawn f.first

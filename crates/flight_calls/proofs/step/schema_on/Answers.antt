@@ -7,11 +7,11 @@ use Rattle.flight_calls.proofs.step.schema_on.Goals as goal
 pub returns-in-Ok-clause-step : goal.returns-in-Ok-clause-step
 returns-in-Ok-clause-step g c =
     let seen = c.in-Ok.ensures in
-    reacts_by_look g.B.Backend.moves _ _ _ _ seen.learns (refl, rw seen.ok.2 at c.answer_schema.ensures.schema) (λ other looks. one_more_look (g.B.Backend.seat c.args.backend.now) (g.B.Backend.seat c.current.new.self) seen.ok.0)
+    reacts_by_look g.B.Backend.moves _ _ _ _ seen.learns (refl, rw seen.ok.2 at c.answer_schema.ensures.schema) (λ other looks. one_more_look (g.B.Backend.seat c.args.backend.now) (g.B.Backend.seat c.current.new.self) seen.ok.0) (λ asks. asks)
 
 pub returns-in-Err-clause-step : goal.returns-in-Err-clause-step
 returns-in-Err-clause-step g c =
     let seen = c.in-Err.ensures in
     let due = c.refusal_of.ensures in
     rw c.refusal.ensures.reply (reacts_by_look g.B.Backend.moves _ _ _ (refusal c.refusal_of.result) seen.learns
-    (schema_refused (g.B.Backend.seat c.current.new.self).log c.args.payload.now _ due) (λ other looks. absurd (schema_unread c.args.payload.now _ due other looks)))
+    (schema_refused (g.B.Backend.seat c.current.new.self).log c.args.payload.now _ due) (λ other looks. absurd (schema_unread c.args.payload.now _ due other looks)) (λ asks. asks))

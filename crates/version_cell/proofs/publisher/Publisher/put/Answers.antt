@@ -1,6 +1,7 @@
 use Rattle.std.proofs.lemmas.Result.{err_from_is_err_and}
 use Rattle.table_versions.specs.Stored.{put_of}
 use Rattle.version_cell.specs.Puts.{after_log}
+use Rattle.version_cell.specs.Signed.{log_of}
 use Rattle.version_cell.proofs.Accepting.{first_for, none_first}
 use Rattle.version_cell.proofs.publisher.Publisher.put.Goals as goal
 
@@ -10,4 +11,4 @@ returns-in_err-index-clause-first g c =
     rw (p.1, p.2) (first_for _ _ c.in_err-index.field-0.0 _ c.in_err-index.ensures.first)
 
 pub returns-clause-first : goal.returns-clause-first
-returns-clause-first g c = none_first _ (after_log c.args.self.now (put_of c.args.put)) c.in_ok-index.ensures.accepted
+returns-clause-first g c = none_first _ (after_log (log_of c.args.self.now) (put_of c.args.put)) c.in_ok-index.ensures.accepted

@@ -4,4 +4,4 @@ use Rattle.version_cell.proofs.shared.SharedPutter.whole_log.Given as goal
 abbrev pub invariant-loop : goal.invariant-loop
 invariant-loop g l =
     (goal.iterator-loop g).can_next l.iterator' × (goal.iterator-loop g).is_finite l.iterator'
-    × (l.share.parts ≡ l.initial.share.parts) × (l.share.amount ≡ l.initial.share.amount)
+    × (l.all ≡ l.initial.all)

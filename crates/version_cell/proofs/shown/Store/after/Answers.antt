@@ -4,12 +4,13 @@ use Rattle.table_versions.specs.Stored.{put_of, tables_of}
 use Rattle.version_index.specs.Versions.{IsIndexOf}
 use Rattle.version_index.proofs.Versions.{has_room, kept_more}
 use Rattle.version_cell.specs.Puts.{after_log}
+use Rattle.version_cell.specs.Signed.{log_of}
 use Rattle.version_cell.proofs.Accepting.{few_before, first_for}
 use Rattle.version_cell.proofs.shown.Store.after.Goals as goal
 
 pub with-requires : goal.with-requires
 with-requires c =
-    let log = c.args.self.now.history.seen.log in
+    let log = log_of c.args.self.now.history.seen.log in
     let kept : IsIndexOf c.deref.result.now log = rw c.deref.ensures c.args.self.now.kept in
     let accepts : after_log log (put_of c.args.put) ≡ Ok (tables_of c.in_ok-catalog.catalog) =
     rw (c.newest.ensures.tables, c.newest.ensures.number) at c.in_ok-catalog.ensures.rows in
@@ -18,7 +19,7 @@ with-requires c =
 
 pub returns-clause-ok : goal.returns-clause-ok
 returns-clause-ok c =
-    let log = c.args.self.now.history.seen.log in
+    let log = log_of c.args.self.now.history.seen.log in
     let kept : IsIndexOf c.deref.result.now log = rw c.deref.ensures c.args.self.now.kept in
     let accepts : after_log log (put_of c.args.put) ≡ Ok (tables_of c.in_ok-catalog.catalog) =
     rw (c.newest.ensures.tables, c.newest.ensures.number) at c.in_ok-catalog.ensures.rows in
@@ -33,7 +34,7 @@ returns-in_err-catalog-clause-first c =
 -- there is no room for one entry more
 pub returns-then-is_full-clause-first : goal.returns-then-is_full-clause-first
 returns-then-is_full-clause-first c =
-    let log = c.args.self.now.history.seen.log in
+    let log = log_of c.args.self.now.history.seen.log in
     let accepts : after_log log (put_of c.args.put) ≡ Ok (tables_of c.in_ok-catalog.catalog) =
     rw (c.newest.ensures.tables, c.newest.ensures.number) at c.in_ok-catalog.ensures.rows in
     rw accepts tt

@@ -1,0 +1,91 @@
+-- Inside: the log of a cell, in which each entry has the number of the seat through which it was made.
+use Rattle.std.specs.Prelude.{◌≡◌, ◌⊎◌, ◌==◌, ◌+◌, ◌^◌, ℕ, List, [], ◌∷◌, ◌++◌, length, map, Option, Some, None, if◌then◌else◌}
+use Rattle.version_log.specs.Log.{Entry, Log}
+use Rattle.version_cell.specs.Merges.{Merges}
+
+-- an entry, and the number of its seat
+pub record Signed : Type 0 where
+  pub seat : ℕ
+  pub entry : Entry
+
+abbrev pub signed : ℕ → Entry → Signed
+signed seat entry = record { seat = seat; entry = entry }
+
+-- the log itself
+abbrev pub log_of : List Signed → Log
+log_of entries = map (λ (s : Signed). s.entry) entries
+
+-- the entries of one seat
+abbrev pub own : ℕ → List Signed → Log
+own seat [] = []
+own seat (s ∷ more) = if s.seat == seat then s.entry ∷ own seat more else own seat more
+
+-- entries go on from others
+abbrev pub GoesOn : List Signed → List Signed → Type 0
+GoesOn entries more = (rest : List Signed) × (more ≡ entries ++ rest)
+
+-- these are among those, in their order
+abbrev pub IsAmong : Log → Log → Type 0
+IsAmong some all = (rest : Log) × Merges some rest all
+
+-- ---- a maker
+
+-- the part of a seat through which entries are made: its number, what it has seen, what was made, and its asks
+pub record MakerAt : Type 0 where
+  pub seat : ℕ
+  pub seen : List Signed
+  pub made : Log
+  pub asks : ℕ
+
+abbrev pub maker_at : ℕ → List Signed → Log → ℕ → MakerAt
+maker_at seat seen made asks = record { seat = seat; seen = seen; made = made; asks = asks }
+
+-- it has seen the longer of what it had seen and of what it was told, and has asked so often
+pub record Learns (old : MakerAt) (log : List Signed) (asks : ℕ) (new : MakerAt) : Type 0 where
+  pub same : new ≡ maker_at old.seat new.seen old.made asks
+  pub kept : GoesOn old.seen new.seen
+  pub told : GoesOn log new.seen
+  pub longer : (new.seen ≡ old.seen) ⊎ (new.seen ≡ log)
+
+-- ---- seats that are done with
+
+-- a seat that is done with: its number, and the entries that were made through it
+pub record Part : Type 0 where
+  pub seat : ℕ
+  pub made : Log
+
+abbrev pub part_at : ℕ → Log → Part
+part_at seat made = record { seat = seat; made = made }
+
+-- the parts so far, the last one first, and how many times one was added
+pub record PartsAt : Type 0 where
+  pub parts : List Part
+  pub steps : ℕ
+
+-- one seat before what was before, if anything was
+abbrev pub one_before : {X : Type 0} → (X → PartsAt) → Option X → ℕ → Log → PartsAt
+one_before f None seat made = record { parts = []; steps = 0 }
+one_before f (Some before) seat made = record { parts = part_at seat made ∷ (f before).parts; steps = (f before).steps + 1 }
+
+-- the entries of each
+abbrev pub made_by_each : List Part → List Log
+made_by_each parts = map (λ (part : Part). part.made) parts
+
+-- how many entries all of them made
+abbrev pub made_by_all : List Part → ℕ
+made_by_all [] = 0
+made_by_all (part ∷ parts) = length part.made + made_by_all parts
+
+-- their numbers
+abbrev pub seats_of : List Part → List ℕ
+seats_of parts = map (λ (part : Part). part.seat) parts
+
+-- what was made through each is among the entries of its number
+abbrev pub AreAmong : List Part → List Signed → Type 0
+AreAmong [] entries = Unit {0}
+AreAmong (part ∷ parts) entries = IsAmong part.made (own part.seat entries) × AreAmong parts entries
+
+-- the powers of two of numbers, added up
+abbrev pub powers : List ℕ → ℕ
+powers [] = 0
+powers (number ∷ numbers) = 2 ^ number + powers numbers
