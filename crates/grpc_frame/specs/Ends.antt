@@ -27,6 +27,10 @@ pub record AppendsBeginning (old new : Option (List ℕ)) (bytes : List ℕ) : T
   pub splits : bytes ≡ front ++ rest
   pub wrote : Appends old new front
 
+-- known bytes grow by just what these did
+abbrev pub GrowsAlike : Option (List ℕ) → Option (List ℕ) → List ℕ → List ℕ → Type 0
+GrowsAlike old new bytes bytes' = (more : List ℕ) × Appends old new more × (bytes' ≡ bytes ++ more)
+
 -- a write put all the bytes behind the known ones, or a beginning of them where it failed
 abbrev pub Writes : {A E : Type 0} → Result A E → Option (List ℕ) → Option (List ℕ) → List ℕ → Type 0
 Writes result old new bytes = MatchResult result (λ _. Appends old new bytes) (λ _. AppendsBeginning old new bytes)

@@ -2,7 +2,7 @@
 
 ghost use Rattle.std.specs.Prelude.{◌≡◌, ◌<◌, ◌≤◌, ◌^◌, ◌+◌, ◌-◌, [], Some, true, false};
 ghost use Rattle.std.specs.Io.KnownBytes.{Appends};
-ghost use Rattle.grpc_frame.specs.Ends.{AppendsBeginning, CanFail, CountsFailure, FailsByTransport, Writes};
+ghost use Rattle.grpc_frame.specs.Ends.{AppendsBeginning, CanFail, CountsFailure, FailsByTransport, GrowsAlike, Writes};
 
 use crate::ends::{Input, Output};
 use crate::transcript::{Transcript, write_noted};
@@ -91,7 +91,8 @@ impl<W: Write> Output for Counted<W> {
         ensures bytes { Writes result (Some self.old.taken.bytes) (Some self.new.taken.bytes) piece.now }
         ensures counted { CountsFailure result self.old.failures self.new.failures }
         ensures kind { FailsByTransport result }
-        ensures held { Writes result (W.contents self.old.end) (W.contents self.new.end) piece.now }
+        ensures held { GrowsAlike (W.contents self.old.end) (W.contents self.new.end)
+            self.old.taken.bytes self.new.taken.bytes }
     {
         if write_whole(&mut self.end, &mut self.taken, &mut self.turns, piece) {
             return Ok(());
@@ -115,10 +116,8 @@ fn write_whole<W: Write>(
     ensures yes { result ≡ true → Appends (Some taken.old.bytes) (Some taken.new.bytes) piece.now }
     ensures no { result ≡ false
         → AppendsBeginning (Some taken.old.bytes) (Some taken.new.bytes) piece.now }
-    ensures yes_held { result ≡ true
-        → Appends (W.contents writer.old) (W.contents writer.new) piece.now }
-    ensures no_held { result ≡ false
-        → AppendsBeginning (W.contents writer.old) (W.contents writer.new) piece.now }
+    ensures held { GrowsAlike (W.contents writer.old) (W.contents writer.new)
+        taken.old.bytes taken.new.bytes }
 {
     let mut done = 0;
     while done < piece.len() {
