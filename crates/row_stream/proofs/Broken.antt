@@ -1,15 +1,14 @@
 -- A stream that breaks off.
-use Rattle.std.proofs.Common.{◌≡◌, inl, inr, ℕ, ◌+◌, ◌<◌, List, [], ◌∷◌, ◌++◌, All, Option, refl, sym, ap, ◌∙◌, append_assoc, length, arith}
+use Rattle.std.proofs.Common.{◌≡◌, inl, inr, ℕ, List, [], ◌∷◌, ◌++◌, All, Option, refl, ap, ◌∙◌, append_assoc, length, arith}
 use Rattle.std.specs.List.{flat_map}
 use Rattle.std.proofs.lemmas.List.{length-append}
 use Rattle.arrow_schema.specs.declared.schema.Schema.{Schema}
 use Rattle.ipc_batch.specs.Said.{Rows}
 use Rattle.ipc_stream.specs.declared.message.IpcMessage.{IpcMessage}
 use Rattle.ipc_stream.specs.Stream.{announced, frame, IsEnd, IsMessage, IsStream}
-use Rattle.ipc_stream.specs.inside.Front.{IsStuck}
 use Rattle.ipc_stream.proofs.Fronts.{announced_one}
 use Rattle.ipc_stream.proofs.Streams.{reached_stuck}
-use Rattle.row_stream.specs.Stream.{BreaksOff, IsBrokenOff, SaysSome, unfinished}
+use Rattle.row_stream.specs.Stream.{BreaksOff, SaysSome, unfinished}
 
 -- the four bytes that come of the eight
 abbrev some_zeros : List ℕ

@@ -1,4 +1,4 @@
-use Rattle.std.proofs.Common.{◌≤◌, ◌+◌, ◌++◌, ◌∙◌, refl, subst, ℕ, arith}
+use Rattle.std.proofs.Common.{◌++◌, ◌∙◌, refl, subst, ℕ, arith}
 use Rattle.std.proofs.lemmas.Result.{err_from_is_err_and}
 use Rattle.row_stream.specs.Stream.{WritesCounted, unfinished}
 use Rattle.row_stream.specs.inside.Cuts.{IsCut}
