@@ -239,6 +239,18 @@ at_begin ticket schema own rows start begun now out writer it is same written so
 
 module _ (ticket : Payload) (schema own : Schema) (rows : Rows) (start : Option (List ℕ)) (begun : Line) (stream : StreamAt) (now : FetchAt) (out : Said) (writer : WriterAt)
     (passing : IsPassing ticket schema own rows start begun stream now out writer) where
+  -- nothing more was written
+  pub same_passing : (writer' : WriterAt) (out' : Said) → writer' ≡ writer → out' ≡ out → IsPassing ticket schema own rows start begun stream now out' writer'
+  same_passing writer' out' same still = record {
+    fetching = passing.fetching;
+    state = passing.state;
+    says = passing.says;
+    same = passing.same;
+    written = ap (λ (w : WriterAt). w.schema) same ∙ passing.written;
+    so = subst (λ (o : Said). SoFar (numbered_schema schema) (rows ++ stream.rows) start o.bytes writer'.waiting) (sym still)
+        (subst (λ (w : WriterAt). SoFar (numbered_schema schema) (rows ++ stream.rows) start out.bytes w.waiting) (sym same) passing.so);
+  }
+
   -- a batch came
   module _ (state : State) (line : Line) (batch : BatchAt) (fetching : IsFetching ticket (with_batch stream state (Some batch)) begun line) (kept : KeepsSchema now.state state) where
     abbrev with_it : StreamAt

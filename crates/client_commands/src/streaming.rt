@@ -195,9 +195,11 @@ fn next_batch<R: Input + Drop, W: Output + Drop, O: Output>(
     ensures written { BreaksAtFailure result writer.old writer.new
         (said_of O.Output output.old) (said_of O.Output output.new) }
 {
-    let taken = fetching.next(alloc);
-    if taken.is_err() {
-        writer.break_off(output);
+    match fetching.next(alloc) {
+        Ok(batch) => Ok(batch),
+        Err(failure) => {
+            writer.break_off(output);
+            Err(failure)
+        }
     }
-    taken
 }
