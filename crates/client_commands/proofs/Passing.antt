@@ -376,27 +376,24 @@ module _ (front behind : List EndpointSaid) (endpoint : EndpointSaid) (streams :
   pub stream_stops : (schema own : Schema) (failure : Failure) (last : Line) (begun mid out : Said) → ((stream : StreamAt) → SaysSchema stream own → SaysFirst (streams ++ stream ∷ []) schema) → mid.failures ≡ begun.failures
       → StopsPassing endpoint.ticket schema own (rows_held streams) begun.bytes middle failure last mid out → StopsAmong (front ++ endpoint ∷ behind) failure first last begun out
   stream_stops schema own failure last begun mid out says quiet stops = record {
-    streams = all;
+    streams = streams ++ stops.stream ∷ [];
     some = stops.some;
     came = came_next stops.stream stops.some stops.fetching;
     why = by stops.why;
   }
     where
-      abbrev all : List StreamAt
-      all = streams ++ stops.stream ∷ []
-
-      first_says : SaysFirst all schema
+      first_says : SaysFirst (streams ++ stops.stream ∷ []) schema
       first_says = says stops.stream stops.says
 
-      breaks : BreaksOff (numbered_schema schema) (rows_held streams ++ stops.stream.rows) begun.bytes out.bytes mid.failures out.failures → WritesSome all begun out
+      breaks : BreaksOff (numbered_schema schema) (rows_held streams ++ stops.stream.rows) begun.bytes out.bytes mid.failures out.failures → WritesSome (streams ++ stops.stream ∷ []) begun out
       breaks off = inr (
         schema,
         first_says,
-        subst (λ (n : ℕ). BreaksOff (numbered_schema schema) (rows_held all) begun.bytes out.bytes n out.failures) quiet
+        subst (λ (n : ℕ). BreaksOff (numbered_schema schema) (rows_held (streams ++ stops.stream ∷ [])) begun.bytes out.bytes n out.failures) quiet
         (subst (λ (rows : Rows). BreaksOff (numbered_schema schema) rows begun.bytes out.bytes mid.failures out.failures) (sym (rows_more streams stops.stream)) off),
       )
 
-      up_to : (fault : Fault) → EndsAt fault (numbered_schema schema) (rows_held streams ++ stops.stream.rows) begun.bytes out.bytes mid.failures out.failures → WritesUpTo fault all begun out
+      up_to : (fault : Fault) → EndsAt fault (numbered_schema schema) (rows_held streams ++ stops.stream.rows) begun.bytes out.bytes mid.failures out.failures → WritesUpTo fault (streams ++ stops.stream ∷ []) begun out
       up_to Transport (part, counted) = (
         schema,
         first_says,
@@ -407,7 +404,7 @@ module _ (front behind : List EndpointSaid) (endpoint : EndpointSaid) (streams :
 
       by : ((FetchGives endpoint.ticket (Err failure) middle last × BreaksOff (numbered_schema schema) (rows_held streams ++ stops.stream.rows) begun.bytes out.bytes mid.failures out.failures)
           ⊎ ((fault : Fault) × (failure ≡ Found fault) × WhyUnwritten schema stops.stream fault × EndsAt fault (numbered_schema schema) (rows_held streams ++ stops.stream.rows) begun.bytes out.bytes mid.failures out.failures × (last ≡ stops.some)))
-          → Stops (front ++ endpoint ∷ behind) all failure first stops.some last begun out
+          → Stops (front ++ endpoint ∷ behind) (streams ++ stops.stream ∷ []) failure first stops.some last begun out
       by (inl (gives, off)) = inl (fetch_stops failure last gives, breaks off)
       by (inr (fault, is, why, ends, same)) = inr (fault, is, no_more streams stops.stream schema fault first_says why, up_to fault ends, same)
 

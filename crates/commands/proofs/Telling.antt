@@ -1,25 +1,35 @@
 -- The history of a server has the entries that its connections' calls tell of.
-use native.Mathlib.Omega.{arith}
-use Rattle.std.proofs.Common.{◌≡◌, ◌∙◌, ℕ, zero, suc, ◌+◌, length, List, [], ◌∷◌, ◌++◌, All, Option, Result, ap, sym, refl, append-nil, append_assoc}
+use Rattle.std.proofs.Common.{◌≡◌, ◌∙◌, inl, inr, ℕ, zero, suc, List, [], ◌∷◌, ◌++◌, map, All, Option, Some, None, Result, Ok, Err, ap, sym, refl, subst, append-nil, append_assoc}
+use Rattle.std.proofs.lemmas.Grind.{flat_map-append}
 use Rattle.std.proofs.lemmas.List.Elements.{All-head, All-tail}
 use Rattle.scan_base.specs.declared.fault.Fault.{Fault}
 use Rattle.flight_core.specs.Headline.{Pairwise}
-use Rattle.version_log.specs.Log.{Log}
+use Rattle.table_versions.specs.Database.{Put}
+use Rattle.version_log.specs.Log.{Log, added, expired, puts_of}
+use Rattle.version_log.proofs.Logs.{puts_of-append}
+use Rattle.version_cell.specs.Merges.{Merges, MergesAll}
+use Rattle.flight_proto.specs.Expiry.{expiry_bytes, expiry_of}
+use Rattle.flight_info.specs.Replies.{ReplyAt}
+use Rattle.flight_core.specs.Asked.{Asked}
+use Rattle.flight_calls.specs.Calls.{Call, asked_by}
 use Rattle.flight_calls.specs.declared.setting.Options.{Options}
-use Rattle.flight_calls.specs.Exchanges.{Exchange, exchanges_of}
-use Rattle.flight_calls.specs.Laws.{entries_in}
+use Rattle.flight_calls.specs.Exchanges.{Exchange, exchanges_of, IsOwn, WithOwn}
+use Rattle.flight_calls.specs.Laws.{entries_in, entries_of, marked_by}
 use Rattle.flight_calls.specs.Seats.{Moves, Seat}
 use Rattle.flight_calls.proofs.Exchanging.{asks_nothing}
 use Rattle.flight_calls.proofs.Making.{puts_made}
 use Rattle.shared_calls.specs.Sharing.{onward}
 use Rattle.command_ends.specs.Network.{Ends}
 use Rattle.commands.specs.Port.{IsFresh}
-use Rattle.commands.specs.Serve.{Accept, Failed, Took, Work, Worker, IsPartOf, ServesInTurn, ServesSideBySide, made_by, worker_of}
-use Rattle.commands.specs.Told.{told_in_turn, told_by, told_by_all, WorkersMakeWhatIsTold, HistoryIsTold}
+use Rattle.commands.specs.Serve.{Accept, Failed, Took, Work, Worker, IsPartOf, ServesInTurn, ServesSideBySide, made_by_each, worker_of}
+use Rattle.commands.specs.Told.{told_in_turn, told_by, told_by_each, unmarked, WorkersMakeWhatIsTold, HistoryIsTold, PutsAreTold}
 
 -- nothing is made where nothing more is served
 nothing_more : {L : Type 0} (old new : Worker L) → new ≡ old → new.seat.made ≡ old.seat.made ++ []
 nothing_more {L} old new same = ap (λ (worker : Worker L). worker.seat.made) same ∙ sym (append-nil old.seat.made)
+
+nothing_put : {L : Type 0} (old new : Worker L) → new ≡ old → puts_of new.seat.made ≡ puts_of old.seat.made ++ []
+nothing_put {L} old new same = ap (λ (worker : Worker L). puts_of worker.seat.made) same ∙ sym (append-nil (puts_of old.seat.made))
 
 -- connections make what their calls tell of
 turns_make : {L : Type 0} (accepts : L → Option Ends → L → Type 0) (moves : Moves) (options : Options) (all : List (Accept L)) (more patience : ℕ) (result : Result (Unit {0}) Fault) (old new : Worker L)
@@ -49,23 +59,126 @@ pub workers_make : {L : Type 0} (accepts : L → Option Ends → L → Type 0) �
 workers_make {L} accepts options history old new part kept =
     turns_make accepts onward options part.serves.0 new.drawn 100 new.result old new.worker part.serves.1 kept
 
--- so workers that are new made as many entries as are told of
+-- ---- puts alone, however many versions are kept
+
+-- a mark is no put
+no_put : (told : Option Fault) (read : Result ℕ Fault) → puts_of (marked_by told read) ≡ []
+no_put None (Ok version) = refl
+no_put None (Err fault) = refl
+no_put (Some fault) read = refl
+
+-- what a server asks of itself is no put
+own_puts : (keep : ℕ) (asked : Result Asked Fault) (reply : ReplyAt) (own : List Exchange) → IsOwn keep asked reply own → puts_of (entries_in own) ≡ []
+own_puts keep asked reply own (inl none) = rw none refl
+own_puts keep asked reply own (inr one) =
+    ap (λ (all : List Exchange). puts_of (entries_in all)) one.alone
+    ∙ ap puts_of (append-nil (marked_by one.untold.fault (expiry_of (expiry_bytes one.version))))
+    ∙ no_put one.untold.fault (expiry_of (expiry_bytes one.version))
+
+entries_append : (one more : List Exchange) → entries_in (one ++ more) ≡ entries_in one ++ entries_in more
+entries_append one more = flat_map-append (λ (it : Exchange). entries_of it.asked it.reply) one more
+
+-- so its calls alone tell of the puts
+puts_told : (options : Options) (calls : List Call) (replies : List ReplyAt) (all : List Exchange) → WithOwn options calls replies all
+    → puts_of (entries_in all) ≡ puts_of (entries_in (exchanges_of options calls replies))
+puts_told options [] [] all are = rw are refl
+puts_told options [] (reply ∷ replies) all are = absurd are
+puts_told options (call ∷ calls) [] all are = absurd are
+puts_told options (call ∷ calls) (reply ∷ replies) all are =
+    let first : Log = entries_of (asked_by options call) reply in
+    let own : Log = entries_in are.0 in
+    let rest : Log = entries_in are.1 in
+    let more : Log = entries_in (exchanges_of options calls replies) in
+    ap (λ (all : List Exchange). puts_of (entries_in all)) are.4
+    ∙ ap (λ (l : Log). puts_of (first ++ l)) (entries_append are.0 are.1)
+    ∙ puts_of-append first (own ++ rest)
+    ∙ ap (λ (l : List Put). puts_of first ++ l) (puts_of-append own rest ∙ ap (λ (l : List Put). l ++ puts_of rest) (own_puts options.keep (asked_by options call) reply are.0 are.2) ∙ puts_told options calls replies are.1 are.3)
+    ∙ sym (puts_of-append first more)
+
+-- connections put what their calls tell of
+turns_put : {L : Type 0} (accepts : L → Option Ends → L → Type 0) (moves : Moves) (options : Options) (all : List (Accept L)) (more patience : ℕ) (result : Result (Unit {0}) Fault) (old new : Worker L)
+    (s : ServesInTurn accepts moves options all more patience result old new)
+    → puts_of new.seat.made ≡ puts_of old.seat.made ++ puts_of (told_in_turn accepts moves options all more patience result old new s)
+turns_put {L} accepts moves options [] zero patience result old new s = nothing_put old new s.1
+turns_put {L} accepts moves options [] (suc zero) zero result old new s = nothing_put old new s.1
+turns_put {L} accepts moves options [] (suc zero) (suc patience) result old new s = absurd s
+turns_put {L} accepts moves options [] (suc (suc more)) zero result old new s = absurd s
+turns_put {L} accepts moves options [] (suc (suc more)) (suc patience) result old new s = absurd s
+turns_put {L} accepts moves options (Failed listener ∷ all) zero patience result old new s = absurd s
+turns_put {L} accepts moves options (Failed listener ∷ all) (suc more) zero result old new s = absurd s
+turns_put {L} accepts moves options (Failed listener ∷ all) (suc more) (suc patience) result old new s =
+    turns_put accepts moves options all (suc more) patience result (worker_of listener old.seat) new s.1
+turns_put {L} accepts moves options (Took listener ends served last ∷ all) zero patience result old new s = absurd s
+turns_put {L} accepts moves options (Took listener ends served last ∷ all) (suc more) zero result old new s = absurd s
+turns_put {L} accepts moves options (Took listener ends served last ∷ all) (suc more) (suc patience) result old new s =
+    let here : Log = entries_in (exchanges_of options s.1.calls s.1.replies) in
+    let rest : Log = told_in_turn accepts moves options all more 100 result (worker_of listener last.seat) new s.2 in
+    let made = puts_made moves options old.seat last.seat s.1.calls s.1.replies s.1.answers in
+    let first : puts_of last.seat.made ≡ puts_of old.seat.made ++ puts_of here
+    = ap puts_of made.2 ∙ puts_of-append old.seat.made (entries_in made.0)
+      ∙ ap (λ (l : List Put). puts_of old.seat.made ++ l) (puts_told options s.1.calls s.1.replies made.0 made.1) in
+    turns_put accepts moves options all more 100 result (worker_of listener last.seat) new s.2
+    ∙ ap (λ (l : List Put). l ++ puts_of rest) first ∙ append_assoc (puts_of old.seat.made) (puts_of here) (puts_of rest)
+    ∙ ap (λ (l : List Put). puts_of old.seat.made ++ l) (sym (puts_of-append here rest))
+
+-- a log that several made, without its marks
+one_unmarked : (one other log : Log) → Merges one other log → Merges (unmarked one) (unmarked other) (unmarked log)
+one_unmarked one other [] (none, no_other) = (ap unmarked none, ap unmarked no_other)
+one_unmarked one other (added put ∷ log) (inl (rest, is, behind)) = inl (unmarked rest, ap unmarked is, one_unmarked rest other log behind)
+one_unmarked one other (added put ∷ log) (inr (rest, is, behind)) = inr (unmarked rest, ap unmarked is, one_unmarked one rest log behind)
+one_unmarked one other (expired version ∷ log) (inl (rest, is, behind)) =
+    subst (λ (l : Log). Merges l (unmarked other) (unmarked log)) (sym (ap unmarked is)) (one_unmarked rest other log behind)
+one_unmarked one other (expired version ∷ log) (inr (rest, is, behind)) =
+    subst (λ (l : Log). Merges (unmarked one) l (unmarked log)) (sym (ap unmarked is)) (one_unmarked one rest log behind)
+
+all_unmarked : (each : List Log) (log : Log) → MergesAll each log → MergesAll (map unmarked each) (unmarked log)
+all_unmarked [] log none = ap unmarked none
+all_unmarked (one ∷ others) log (rest, is, more) = (unmarked rest, one_unmarked one rest log is, all_unmarked others rest more)
+
+-- ---- workers that are new
+
+-- a worker that is new made no more than what it made
+new_made : {L : Type 0} (shares : L → Option L → Type 0) (heard : L) (old : Worker L) (told made : Log) → IsFresh shares heard old → made ≡ old.seat.made ++ told → made ≡ told
+new_made {L} shares heard old told made start is = is ∙ ap (λ (seat : Seat). seat.made ++ told) start.1
+
+-- so workers that are new made what is told of
 all_made : {L : Type 0} (accepts : L → Option Ends → L → Type 0) (shares : L → Option L → Type 0) (options : Options) (history : Log) (heard : L) (workers : List (Worker L)) (ends : List (Work L))
     (parts : Pairwise (IsPartOf accepts options history) workers ends) → All (IsFresh shares heard) workers → options.keep ≡ 0
-    → made_by ends ≡ told_by_all accepts options history workers ends parts
+    → made_by_each ends ≡ told_by_each accepts options history workers ends parts
 all_made {L} accepts shares options history heard [] [] parts fresh kept = refl
 all_made {L} accepts shares options history heard [] (new ∷ ends) parts fresh kept = absurd parts
 all_made {L} accepts shares options history heard (old ∷ workers) [] parts fresh kept = absurd parts
 all_made {L} accepts shares options history heard (old ∷ workers) (new ∷ ends) parts fresh kept =
     let start : IsFresh shares heard old = All-head (IsFresh shares heard) old workers fresh in
     let told : Log = told_by accepts options history old new parts.0 in
-    let made : new.worker.seat.made ≡ told
-    = workers_make accepts options history old new parts.0 kept ∙ ap (λ (seat : Seat). seat.made ++ told) start.1 in
-    let here : length new.worker.seat.made ≡ length told = ap length made in
-    let rest : made_by ends ≡ told_by_all accepts options history workers ends parts.1
+    let here : new.worker.seat.made ≡ told
+    = new_made shares heard old told new.worker.seat.made start (workers_make accepts options history old new parts.0 kept) in
+    let rest : made_by_each ends ≡ told_by_each accepts options history workers ends parts.1
     = all_made accepts shares options history heard workers ends parts.1 (All-tail (IsFresh shares heard) old workers fresh) kept in
-    omega (arith, here, rest)
+    ap (λ (l : Log). l ∷ made_by_each ends) here ∙ ap (λ (l : List Log). told ∷ l) rest
 
 pub history_is_told : {L : Type 0} (accepts : L → Option Ends → L → Type 0) (shares : L → Option L → Type 0) → HistoryIsTold accepts shares
 history_is_told {L} accepts shares options most heard workers result served fresh kept =
-    served.made ∙ all_made accepts shares options served.history heard workers served.ends served.served fresh kept
+    subst (λ (each : List Log). MergesAll each served.history) (all_made accepts shares options served.history heard workers served.ends served.served fresh kept) served.own
+
+-- the same of puts, however many versions are kept
+all_put : {L : Type 0} (accepts : L → Option Ends → L → Type 0) (shares : L → Option L → Type 0) (options : Options) (history : Log) (heard : L) (workers : List (Worker L)) (ends : List (Work L))
+    (parts : Pairwise (IsPartOf accepts options history) workers ends) → All (IsFresh shares heard) workers
+    → map unmarked (made_by_each ends) ≡ map unmarked (told_by_each accepts options history workers ends parts)
+all_put {L} accepts shares options history heard [] [] parts fresh = refl
+all_put {L} accepts shares options history heard [] (new ∷ ends) parts fresh = absurd parts
+all_put {L} accepts shares options history heard (old ∷ workers) [] parts fresh = absurd parts
+all_put {L} accepts shares options history heard (old ∷ workers) (new ∷ ends) parts fresh =
+    let start : IsFresh shares heard old = All-head (IsFresh shares heard) old workers fresh in
+    let told : Log = told_by accepts options history old new parts.0 in
+    let here : puts_of new.worker.seat.made ≡ puts_of told
+    = turns_put accepts onward options parts.0.serves.0 new.drawn 100 new.result old new.worker parts.0.serves.1
+      ∙ ap (λ (seat : Seat). puts_of seat.made ++ puts_of told) start.1 in
+    let rest : map unmarked (made_by_each ends) ≡ map unmarked (told_by_each accepts options history workers ends parts.1)
+    = all_put accepts shares options history heard workers ends parts.1 (All-tail (IsFresh shares heard) old workers fresh) in
+    ap (λ (l : List Put). map added l ∷ map unmarked (made_by_each ends)) here ∙ ap (λ (l : List Log). unmarked told ∷ l) rest
+
+pub puts_are_told : {L : Type 0} (accepts : L → Option Ends → L → Type 0) (shares : L → Option L → Type 0) → PutsAreTold accepts shares
+puts_are_told {L} accepts shares options most heard workers result served fresh =
+    subst (λ (each : List Log). MergesAll each (unmarked served.history)) (all_put accepts shares options served.history heard workers served.ends served.served fresh)
+    (all_unmarked (made_by_each served.ends) served.history served.own)

@@ -1,8 +1,9 @@
 -- What the calls of a server's connections tell of its history.
-use Rattle.std.specs.Prelude.{◌≡◌, ℕ, zero, suc, ◌+◌, length, All, List, [], ◌∷◌, ◌++◌, Option, Result}
+use Rattle.std.specs.Prelude.{◌≡◌, ℕ, zero, suc, All, List, [], ◌∷◌, ◌++◌, map, Option, Result}
 use Rattle.scan_base.specs.declared.fault.Fault.{Fault}
 use Rattle.flight_core.specs.Headline.{Pairwise}
-use Rattle.version_log.specs.Log.{Log}
+use Rattle.version_log.specs.Log.{Log, added, puts_of}
+use Rattle.version_cell.specs.Merges.{MergesAll}
 use Rattle.flight_calls.specs.declared.setting.Options.{Options}
 use Rattle.flight_calls.specs.Exchanges.{exchanges_of}
 use Rattle.flight_calls.specs.Laws.{entries_in}
@@ -29,12 +30,16 @@ abbrev pub told_by : {L : Type 0} (accepts : L → Option Ends → L → Type 0)
 told_by accepts options history old new part =
     told_in_turn accepts onward options part.serves.0 new.drawn 100 new.result old new.worker part.serves.1
 
--- how many entries the calls of all connections of workers tell of
-abbrev pub told_by_all : {L : Type 0} (accepts : L → Option Ends → L → Type 0) (options : Options) (history : Log) (workers : List (Worker L)) (ends : List (Work L))
-    → Pairwise (IsPartOf accepts options history) workers ends → ℕ
-told_by_all accepts options history (old ∷ workers) (new ∷ ends) parts =
-    length (told_by accepts options history old new parts.0) + told_by_all accepts options history workers ends parts.1
-told_by_all accepts options history workers ends parts = 0
+-- the same of the connections of each of these workers
+abbrev pub told_by_each : {L : Type 0} (accepts : L → Option Ends → L → Type 0) (options : Options) (history : Log) (workers : List (Worker L)) (ends : List (Work L))
+    → Pairwise (IsPartOf accepts options history) workers ends → List Log
+told_by_each accepts options history (old ∷ workers) (new ∷ ends) parts =
+    told_by accepts options history old new parts.0 ∷ told_by_each accepts options history workers ends parts.1
+told_by_each accepts options history workers ends parts = []
+
+-- a log without its marks
+abbrev pub unmarked : Log → Log
+unmarked log = map added (puts_of log)
 
 -- Where all versions are kept, the seat of a worker made the entries that the calls of its connections tell of, in order, and no
 -- other.
@@ -43,10 +48,17 @@ WorkersMakeWhatIsTold {L} accepts =
     (options : Options) (history : Log) (old : Worker L) (new : Work L) (part : IsPartOf accepts options history old new)
     → options.keep ≡ 0 → new.worker.seat.made ≡ old.seat.made ++ told_by accepts options history old new part
 
--- Where workers that are new serve side by side, and all versions are kept, their history has as many entries as the calls of all
--- their connections tell of: one for each put that was accepted, and one for each expiry that was done.
+-- Where workers that are new serve side by side, and all versions are kept, their history is made up of the entries that the calls of
+-- each worker's connections tell of, in their order, and of no other.
 abbrev pub HistoryIsTold : {L : Type 0} → (L → Option Ends → L → Type 0) → (L → Option L → Type 0) → Type 0
 HistoryIsTold {L} accepts shares =
     (options : Options) (most : ℕ) (heard : L) (workers : List (Worker L)) (result : Result (Unit {0}) Fault)
     (served : ServesSideBySide accepts options most workers result) → All (IsFresh shares heard) workers → options.keep ≡ 0
-    → length served.history ≡ told_by_all accepts options served.history workers served.ends served.served
+    → MergesAll (told_by_each accepts options served.history workers served.ends served.served) served.history
+
+-- However many versions are kept, the puts of the history are made up so of the puts that the calls tell of.
+abbrev pub PutsAreTold : {L : Type 0} → (L → Option Ends → L → Type 0) → (L → Option L → Type 0) → Type 0
+PutsAreTold {L} accepts shares =
+    (options : Options) (most : ℕ) (heard : L) (workers : List (Worker L)) (result : Result (Unit {0}) Fault)
+    (served : ServesSideBySide accepts options most workers result) → All (IsFresh shares heard) workers
+    → MergesAll (map unmarked (told_by_each accepts options served.history workers served.ends served.served)) (unmarked served.history)

@@ -2,7 +2,7 @@
 
 ghost use Rattle.commands.specs.Serve.{AcceptsThenCloses};
 ghost use Rattle.commands.specs.Together.{ServerMeetsHeadline};
-ghost use Rattle.commands.specs.Told.{HistoryIsTold, WorkersMakeWhatIsTold};
+ghost use Rattle.commands.specs.Told.{HistoryIsTold, PutsAreTold, WorkersMakeWhatIsTold};
 
 use command_ends::Listen;
 use flight_calls::laws::joined;
@@ -22,8 +22,14 @@ pub fn workers_make_what_is_told<L: Listen>()
     ensures { WorkersMakeWhatIsTold (AcceptsThenCloses L.accepts L.closes) }
 {}
 
-/// Where all versions are kept, the history of workers that were new has as many entries as the calls of all their connections
-/// tell of: one for each put that was accepted, and one for each expiry that was done.
+/// Where all versions are kept, the history of workers that were new is made up of the entries that the calls of each worker's
+/// connections tell of, in their order, and of no other: one for each put that was accepted, and one for each expiry that was done.
 pub fn history_is_told<L: Listen>()
     ensures { HistoryIsTold (AcceptsThenCloses L.accepts L.closes) L.shares }
+{}
+
+/// However many versions are kept, the puts of the history of workers that were new are made up so of those that calls tell of: one
+/// for each put that was accepted.
+pub fn puts_are_told<L: Listen>()
+    ensures { PutsAreTold (AcceptsThenCloses L.accepts L.closes) L.shares }
 {}

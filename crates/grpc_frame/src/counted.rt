@@ -1,10 +1,11 @@
 //! Readers and writers of the system's, with their failures counted.
 
-ghost use Rattle.std.specs.Prelude.{◌≡◌, ◌<◌, ◌≤◌, ◌^◌, ◌+◌, ◌-◌, true, false};
+ghost use Rattle.std.specs.Prelude.{◌≡◌, ◌<◌, ◌≤◌, ◌^◌, ◌+◌, ◌-◌, [], Some, true, false};
 ghost use Rattle.std.specs.Io.KnownBytes.{Appends};
-ghost use Rattle.grpc_frame.specs.Ends.{AppendsBeginning, CanFail};
+ghost use Rattle.grpc_frame.specs.Ends.{AppendsBeginning, CanFail, CountsFailure, FailsByTransport, Writes};
 
 use crate::ends::{Input, Output};
+use crate::transcript::{Transcript, write_noted};
 use scan_base::Fault;
 use std::io::{ErrorKind, Read, Write};
 
@@ -14,19 +15,22 @@ use std::io::{ErrorKind, Read, Write};
 #[derive(Drop)]
 pub struct Counted<T> {
     end: T,
+    taken: Transcript,
     failures: u64,
     turns: u64,
 }
 
 impl<T> Counted<T> {
-    /// No failure is counted yet.
+    /// No failure is counted yet, and no byte is written.
     pub fn new(end: T) -> Counted<T>
         ensures end { result.end ≡ end }
+        ensures taken { result.taken.bytes ≡ [] }
         ensures failures { result.failures ≡ 0 }
         ensures turns { result.turns ≡ 2 ^ 64 - 1 }
     {
         Counted {
             end,
+            taken: Transcript::new(),
             failures: 0,
             turns: u64::MAX,
         }
@@ -77,12 +81,19 @@ impl<R: Read> Input for Counted<R> {
 }
 
 impl<W: Write> Output for Counted<W> {
-    ghost contents = { λ s. W.contents s.end };
+    // All that the writer took: `W.contents` are not known of a socket or a standard stream.
+    ghost contents = { λ s. Some s.taken.bytes };
 
     ghost failures = { λ s. s.failures };
 
-    fn write(&mut self, piece: &[u8]) -> Result<(), Fault> {
-        if write_whole(&mut self.end, &mut self.turns, piece) {
+    fn write(&mut self, piece: &[u8]) -> Result<(), Fault>
+        requires { CanFail self.old.failures }
+        ensures bytes { Writes result (Some self.old.taken.bytes) (Some self.new.taken.bytes) piece.now }
+        ensures counted { CountsFailure result self.old.failures self.new.failures }
+        ensures kind { FailsByTransport result }
+        ensures held { Writes result (W.contents self.old.end) (W.contents self.new.end) piece.now }
+    {
+        if write_whole(&mut self.end, &mut self.taken, &mut self.turns, piece) {
             return Ok(());
         }
         self.failures += 1;
@@ -95,10 +106,18 @@ impl<W: Write> Output for Counted<W> {
 }
 
 // Whether the whole piece is written. If not, a beginning of it is. Each write takes a turn.
-fn write_whole<W: Write>(writer: &mut W, turns: &mut u64, piece: &[u8]) -> bool
-    ensures yes { result ≡ true
-        → Appends (W.contents writer.old) (W.contents writer.new) piece.now }
+fn write_whole<W: Write>(
+    writer: &mut W,
+    taken: &mut Transcript,
+    turns: &mut u64,
+    piece: &[u8],
+) -> bool
+    ensures yes { result ≡ true → Appends (Some taken.old.bytes) (Some taken.new.bytes) piece.now }
     ensures no { result ≡ false
+        → AppendsBeginning (Some taken.old.bytes) (Some taken.new.bytes) piece.now }
+    ensures yes_held { result ≡ true
+        → Appends (W.contents writer.old) (W.contents writer.new) piece.now }
+    ensures no_held { result ≡ false
         → AppendsBeginning (W.contents writer.old) (W.contents writer.new) piece.now }
 {
     let mut done = 0;
@@ -107,7 +126,7 @@ fn write_whole<W: Write>(writer: &mut W, turns: &mut u64, piece: &[u8]) -> bool
             return false;
         }
         *turns -= 1;
-        match writer.write(&piece[done..]) {
+        match write_noted(writer, taken, &piece[done..]) {
             Ok(0) => return false,
             Ok(count) => done += count,
             Err(error) => {

@@ -16,6 +16,7 @@ mod memory;
 mod outbox;
 mod place;
 mod record;
+mod transcript;
 mod write;
 
 pub use crate::counted::Counted;

@@ -1,7 +1,7 @@
 //! Sockets of this machine, on 127.0.0.1 alone, as commands see the network.
 #![tactic(auto)]
 
-ghost use Rattle.std.specs.Prelude.{◌≡◌, IfOk};
+ghost use Rattle.std.specs.Prelude.{◌≡◌, IfOk, Some};
 
 use command_ends::{Announced, Connect, Listen};
 use grpc_frame::{Counted, Output};
@@ -18,6 +18,8 @@ pub struct SocketWriter {
 }
 
 impl Output for SocketWriter {
+    ghost contents = { λ s. Some s.counted.taken.bytes };
+
     ghost failures = { λ s. s.counted.failures };
 
     fn write(&mut self, piece: &[u8]) -> Result<(), Fault> {
