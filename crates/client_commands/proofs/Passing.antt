@@ -29,9 +29,9 @@ use Rattle.flight_client.specs.Join.{joined, one_schema, schema_of_all}
 use Rattle.flight_client.specs.Stream.{StreamAt, schema_said}
 use Rattle.flight_client.proofs.Arrivals.{schema_there}
 use Rattle.grpc_frame.specs.Records.{Received}
-use Rattle.row_stream.specs.Stream.{numbered_from, numbered_schema, CountsTransport, HasShortRows, IsCause, WritesStream}
-use Rattle.row_stream.specs.Writing.{WriterAt, SendsBatch, SoFar, Stopped}
-use Rattle.row_stream.proofs.SoFar.{stopped_before, stopped_here}
+use Rattle.row_stream.specs.Stream.{numbered_from, numbered_schema, BreaksOff, CountsTransport, CountsWrites, HasShortRows, IsCause, WritesBeginning, WritesStream}
+use Rattle.row_stream.specs.Writing.{Begins, WriterAt, SendsBatch, SoFar}
+use Rattle.row_stream.proofs.Broken.{breaks_before}
 use Rattle.client_calls.specs.declared.call.Method.TheVariants.{GetFlightInfo}
 use Rattle.client_calls.specs.declared.failure.Failure.{Failure}
 use Rattle.client_calls.specs.declared.failure.Failure.TheVariants.{Found}
@@ -41,8 +41,8 @@ use Rattle.client_calls.specs.Outcome.{CallsAt, Line}
 use Rattle.client_calls.specs.Taking.{FetchAt, FetchGives, HasNoSchema, IsBegun, IsFetching, KeepsSchema, ended, with_batch}
 use Rattle.command_ends.specs.Printing.{Said}
 use Rattle.client_commands.specs.Fetching.{Asks, FetchesEach, FetchesOne, FetchStops}
-use Rattle.client_commands.specs.Streaming.{ComeSome, SaysFirst, SaysSchema, Stops, StopsAmong, Streams, WhyNoMore, WritesSome, rows_held}
-use Rattle.client_commands.specs.inside.Passing.{FitsSchema, HasPassed, HavePassed, IsPassing, PassingAt, StopsPassing, WhyUnwritten}
+use Rattle.client_commands.specs.Streaming.{ComeSome, SaysFirst, SaysSchema, Stops, StopsAmong, Streams, WhyNoMore, WritesSome, WritesUpTo, rows_held}
+use Rattle.client_commands.specs.inside.Passing.{BreaksAtFailure, EndsAt, FitsSchema, HasPassed, HavePassed, IsPassing, PassingAt, StopsPassing, WhyUnwritten}
 use Rattle.client_commands.proofs.Fetched.{fetched_more, front_more, quiet, split_at}
 
 -- ---- streams that came
@@ -56,10 +56,10 @@ first_stays [] stream schema says = absurd says
 first_stays (s ∷ ss) stream schema says = says
 
 -- what was written says some of more rows, too
-writes_more : (streams : List StreamAt) (stream : StreamAt) (a b : Option (List ℕ)) → WritesSome streams a b → WritesSome (streams ++ stream ∷ []) a b
+writes_more : (streams : List StreamAt) (stream : StreamAt) (a b : Said) → WritesSome streams a b → WritesSome (streams ++ stream ∷ []) a b
 writes_more streams stream a b (inl same) = inl same
-writes_more streams stream a b (inr (schema, says, stopped)) =
-    inr (schema, first_stays streams stream schema says, stopped_before (numbered_schema schema) (rows_held (streams ++ stream ∷ [])) (rows_held streams) stream.rows a b (rows_more streams stream) stopped)
+writes_more streams stream a b (inr (schema, says, breaks)) =
+    inr (schema, first_stays streams stream schema says, breaks_before (numbered_schema schema) (rows_held (streams ++ stream ∷ [])) (rows_held streams) stream.rows a.bytes b.bytes a.failures b.failures (rows_more streams stream) breaks)
 
 -- why what came of a stream was not written, behind others
 no_more : (streams : List StreamAt) (stream : StreamAt) (schema : Schema) (fault : Fault) → SaysFirst (streams ++ stream ∷ []) schema → WhyUnwritten schema stream fault → WhyNoMore (streams ++ stream ∷ []) fault
@@ -239,6 +239,18 @@ at_begin ticket schema own rows start begun now out writer it is same written so
 
 module _ (ticket : Payload) (schema own : Schema) (rows : Rows) (start : Option (List ℕ)) (begun : Line) (stream : StreamAt) (now : FetchAt) (out : Said) (writer : WriterAt)
     (passing : IsPassing ticket schema own rows start begun stream now out writer) where
+  -- nothing more was written
+  pub same_passing : (writer' : WriterAt) (out' : Said) → writer' ≡ writer → out' ≡ out → IsPassing ticket schema own rows start begun stream now out' writer'
+  same_passing writer' out' same still = record {
+    fetching = passing.fetching;
+    state = passing.state;
+    says = passing.says;
+    same = passing.same;
+    written = ap (λ (w : WriterAt). w.schema) same ∙ passing.written;
+    so = subst (λ (o : Said). SoFar (numbered_schema schema) (rows ++ stream.rows) start o.bytes writer'.waiting) (sym still)
+        (subst (λ (w : WriterAt). SoFar (numbered_schema schema) (rows ++ stream.rows) start out.bytes w.waiting) (sym same) passing.so);
+  }
+
   -- a batch came
   module _ (state : State) (line : Line) (batch : BatchAt) (fetching : IsFetching ticket (with_batch stream state (Some batch)) begun line) (kept : KeepsSchema now.state state) where
     abbrev with_it : StreamAt
@@ -249,9 +261,9 @@ module _ (ticket : Payload) (schema own : Schema) (rows : Rows) (start : Option 
 
     -- and was written
     pub batch_passed : (next : FetchAt) (out' : Said) (after : WriterAt) → next.state ≡ state → next.line ≡ line → after.schema ≡ writer.schema
-        → SendsBatch {A = Unit {0}} {E = Fault} (Ok tt) writer.schema batch out.bytes out'.bytes writer.waiting after.waiting → IsPassing ticket schema own rows start begun with_it next out' after
+        → SendsBatch {A = Unit {0}} (Ok tt) writer.schema batch out.bytes out'.bytes writer.waiting after.waiting out.failures out'.failures → IsPassing ticket schema own rows start begun with_it next out' after
     batch_passed next out' after state_is line_is kept_schema sends =
-        let sends : SendsBatch {A = Unit {0}} {E = Fault} (Ok tt) (numbered_schema schema) batch out.bytes out'.bytes writer.waiting after.waiting = rw passing.written at sends in
+        let sends : SendsBatch {A = Unit {0}} (Ok tt) (numbered_schema schema) batch out.bytes out'.bytes writer.waiting after.waiting out.failures out'.failures = rw passing.written at sends in
         record {
           fetching = subst (λ (l : Line). IsFetching ticket with_it begun l) (sym line_is) fetching;
           state = sym state_is;
@@ -262,21 +274,27 @@ module _ (ticket : Payload) (schema own : Schema) (rows : Rows) (start : Option 
         }
 
     -- or not
-    pub batch_stopped : (fault : Fault) (failure : Failure) (first out' : Said) (after : List ℕ) → failure ≡ Found fault
-        → SendsBatch {A = Unit {0}} {E = Fault} (Err fault) writer.schema batch out.bytes out'.bytes writer.waiting after
-        → IsCause writer.schema (batch ∷ []) fault → CountsTransport {A = Unit {0}} (Err fault) first.failures out'.failures
+    pub batch_stopped : (fault : Fault) (failure : Failure) (first out' : Said) (after : List ℕ) → failure ≡ Found fault → out.failures ≡ first.failures
+        → SendsBatch {A = Unit {0}} (Err fault) writer.schema batch out.bytes out'.bytes writer.waiting after out.failures out'.failures
+        → IsCause writer.schema (batch ∷ []) fault → CountsWrites {A = Unit {0}} (Err fault) out.failures out'.failures
         → StopsPassing ticket schema own rows start begun failure line first out'
-    batch_stopped fault failure first out' after is sends cause counted =
-        let sends : SendsBatch {A = Unit {0}} {E = Fault} (Err fault) (numbered_schema schema) batch out.bytes out'.bytes writer.waiting after = rw passing.written at sends in
+    batch_stopped fault failure first out' after is quiet sends cause counted =
+        let sends : SendsBatch {A = Unit {0}} (Err fault) (numbered_schema schema) batch out.bytes out'.bytes writer.waiting after out.failures out'.failures = rw passing.written at sends in
         let cause : IsCause (numbered_schema schema) (batch ∷ []) fault = rw passing.written at cause in
         record {
           stream = with_it;
           some = line;
           fetching = fetching;
           says = says;
-          wrote = subst (λ (all : Rows). Stopped (numbered_schema schema) all start out'.bytes) (append_assoc rows stream.rows (rows_of batch)) (sends (rows ++ stream.rows) start passing.so);
-          why = inr (fault, is, unwritten_by schema with_it stream.rows batch fault refl cause, counted, refl);
+          why = inr (fault, is, unwritten_by schema with_it stream.rows batch fault refl cause, subst (λ (n : ℕ). EndsAt fault (numbered_schema schema) (rows ++ with_it.rows) start out'.bytes n out'.failures) quiet (by fault sends counted), refl);
         }
+      where
+        by : (fault : Fault) → SendsBatch {A = Unit {0}} (Err fault) (numbered_schema schema) batch out.bytes out'.bytes writer.waiting after out.failures out'.failures
+            → CountsWrites {A = Unit {0}} (Err fault) out.failures out'.failures → EndsAt fault (numbered_schema schema) (rows ++ with_it.rows) start out'.bytes out.failures out'.failures
+        by Transport sends counted =
+            (subst (λ (all : Rows). WritesBeginning (numbered_schema schema) all start out'.bytes) (append_assoc rows stream.rows (rows_of batch)) (sends (rows ++ stream.rows) start passing.so), counted)
+        by _ sends counted =
+            subst (λ (all : Rows). BreaksOff (numbered_schema schema) all start out'.bytes out.failures out'.failures) (append_assoc rows stream.rows (rows_of batch)) (sends (rows ++ stream.rows) start passing.so)
 
   -- the stream ended
   pub all_passed : (next : FetchAt) (first : Said) → FetchGives ticket (Ok (ended (with_batch stream next.state None))) begun next.line → KeepsSchema now.state next.state → out.failures ≡ first.failures
@@ -293,15 +311,14 @@ module _ (ticket : Payload) (schema own : Schema) (rows : Rows) (start : Option 
   }
 
   -- it failed
-  pub fetch_failed : (failure : Failure) (line : Line) (first : Said) → FetchGives ticket (Err failure) begun line → out.failures ≡ first.failures
-      → StopsPassing ticket schema own rows start begun failure line first out
-  fetch_failed failure line first fetched quiet = record {
+  pub fetch_failed : (failure : Failure) (line : Line) (first out' : Said) (after : WriterAt) → FetchGives ticket (Err failure) begun line → out.failures ≡ first.failures
+      → BreaksAtFailure {A = Option BatchAt} (Err failure) writer after out out' → StopsPassing ticket schema own rows start begun failure line first out'
+  fetch_failed failure line first out' after fetched quiet breaks = record {
     stream = stream;
     some = now.line;
     fetching = passing.fetching;
     says = passing.says;
-    wrote = stopped_here (numbered_schema schema) (rows ++ stream.rows) (rows ++ stream.rows) [] start out.bytes writer.waiting (sym (append-nil (rows ++ stream.rows))) passing.so;
-    why = inl (fetched, quiet);
+    why = inl (fetched, subst (λ (n : ℕ). BreaksOff (numbered_schema schema) (rows ++ stream.rows) start out'.bytes n out'.failures) quiet (breaks (numbered_schema schema) (rows ++ stream.rows) start passing.so));
   }
 
 -- ---- a stream behind others
@@ -320,25 +337,23 @@ module _ (front behind : List EndpointSaid) (endpoint : EndpointSaid) (streams :
   fetch_stops failure last gives = record { front = front; rest = endpoint ∷ behind; splits = refl; streams = streams; middle = middle; fetched = fetched; why = inl gives }
 
   -- it was not begun
-  pub not_begun : (failure : Failure) (last : Line) (begun out : Said) → WritesSome streams begun.bytes out.bytes → out.failures ≡ begun.failures
+  pub not_begun : (failure : Failure) (last : Line) (begun out : Said) → WritesSome streams begun out
       → FetchGives endpoint.ticket (Err failure) middle last ⊎ HasNoSchema endpoint.ticket failure middle last → StopsAmong (front ++ endpoint ∷ behind) failure first last begun out
-  not_begun failure last begun out wrote quiet (inl gives) = record { streams = streams; some = middle; came = came_front; wrote = wrote; why = inl (fetch_stops failure last gives, quiet) }
-  not_begun failure last begun out wrote quiet (inr lacks) = record {
+  not_begun failure last begun out wrote (inl gives) = record { streams = streams; some = middle; came = came_front; why = inl (fetch_stops failure last gives, wrote) }
+  not_begun failure last begun out wrote (inr lacks) = record {
     streams = streams ++ lacks.stream ∷ [];
     some = last;
     came = came_whole lacks.stream last lacks.whole;
-    wrote = writes_more streams lacks.stream begun.bytes out.bytes wrote;
-    why = inr (BadBatch, lacks.failure_is, record { before = streams; last = lacks.stream; are = refl; lacks = lacks.none }, quiet, refl);
+    why = inr (BadBatch, lacks.failure_is, record { before = streams; last = lacks.stream; are = refl; lacks = lacks.none }, writes_more streams lacks.stream begun out wrote, refl);
   }
 
   -- it has other columns
-  pub has_other : (state : State) (line : Line) (schema own : Schema) (begun out : Said) (it : IsBegun endpoint.ticket state middle line) → WritesSome streams begun.bytes out.bytes → out.failures ≡ begun.failures
+  pub has_other : (state : State) (line : Line) (schema own : Schema) (begun out : Said) (it : IsBegun endpoint.ticket state middle line) → WritesSome streams begun out
       → SaysFirst streams schema → (it.known).schema ≡ own → same_fields schema.fields own.fields ≡ false → StopsAmong (front ++ endpoint ∷ behind) (Found SchemaMismatch) first line begun out
-  has_other state line schema own begun out it wrote quiet says is differ = record {
+  has_other state line schema own begun out it wrote says is differ = record {
     streams = streams ++ it.stream ∷ [];
     some = line;
     came = came_next it.stream line it.fetching;
-    wrote = writes_more streams it.stream begun.bytes out.bytes wrote;
     why = inr (
       SchemaMismatch,
       refl,
@@ -352,7 +367,7 @@ module _ (front behind : List EndpointSaid) (endpoint : EndpointSaid) (streams :
         says = (it.known, it.state_is ∙ it.has_schema, is);
         differ = differ;
       },
-      quiet,
+      writes_more streams it.stream begun out wrote,
       refl,
     );
   }
@@ -364,16 +379,34 @@ module _ (front behind : List EndpointSaid) (endpoint : EndpointSaid) (streams :
     streams = streams ++ stops.stream ∷ [];
     some = stops.some;
     came = came_next stops.stream stops.some stops.fetching;
-    wrote = inr (schema, says stops.stream stops.says, subst (λ (rows : Rows). Stopped (numbered_schema schema) rows begun.bytes out.bytes) (sym (rows_more streams stops.stream)) stops.wrote);
     why = by stops.why;
   }
     where
-      by : ((FetchGives endpoint.ticket (Err failure) middle last × (out.failures ≡ mid.failures))
-          ⊎ ((fault : Fault) × (failure ≡ Found fault) × WhyUnwritten schema stops.stream fault × CountsTransport {A = Unit {0}} (Err fault) mid.failures out.failures × (last ≡ stops.some)))
+      first_says : SaysFirst (streams ++ stops.stream ∷ []) schema
+      first_says = says stops.stream stops.says
+
+      breaks : BreaksOff (numbered_schema schema) (rows_held streams ++ stops.stream.rows) begun.bytes out.bytes mid.failures out.failures → WritesSome (streams ++ stops.stream ∷ []) begun out
+      breaks off = inr (
+        schema,
+        first_says,
+        subst (λ (n : ℕ). BreaksOff (numbered_schema schema) (rows_held (streams ++ stops.stream ∷ [])) begun.bytes out.bytes n out.failures) quiet
+        (subst (λ (rows : Rows). BreaksOff (numbered_schema schema) rows begun.bytes out.bytes mid.failures out.failures) (sym (rows_more streams stops.stream)) off),
+      )
+
+      up_to : (fault : Fault) → EndsAt fault (numbered_schema schema) (rows_held streams ++ stops.stream.rows) begun.bytes out.bytes mid.failures out.failures → WritesUpTo fault (streams ++ stops.stream ∷ []) begun out
+      up_to Transport (part, counted) = (
+        schema,
+        first_says,
+        subst (λ (rows : Rows). WritesBeginning (numbered_schema schema) rows begun.bytes out.bytes) (sym (rows_more streams stops.stream)) part,
+        subst (λ (n : ℕ). out.failures ≡ n + 1) quiet counted,
+      )
+      up_to _ off = breaks off
+
+      by : ((FetchGives endpoint.ticket (Err failure) middle last × BreaksOff (numbered_schema schema) (rows_held streams ++ stops.stream.rows) begun.bytes out.bytes mid.failures out.failures)
+          ⊎ ((fault : Fault) × (failure ≡ Found fault) × WhyUnwritten schema stops.stream fault × EndsAt fault (numbered_schema schema) (rows_held streams ++ stops.stream.rows) begun.bytes out.bytes mid.failures out.failures × (last ≡ stops.some)))
           → Stops (front ++ endpoint ∷ behind) (streams ++ stops.stream ∷ []) failure first stops.some last begun out
-      by (inl (gives, still)) = inl (fetch_stops failure last gives, still ∙ quiet)
-      by (inr (fault, is, why, counted, same)) =
-          inr (fault, is, no_more streams stops.stream schema fault (says stops.stream stops.says) why, subst (λ (n : ℕ). CountsTransport {A = Unit {0}} (Err fault) n out.failures) quiet counted, same)
+      by (inl (gives, off)) = inl (fetch_stops failure last gives, breaks off)
+      by (inr (fault, is, why, ends, same)) = inr (fault, is, no_more streams stops.stream schema fault first_says why, up_to fault ends, same)
 
   -- it came whole
   pub stream_passed : (schema own : Schema) (now : FetchAt) (begun mid out : Said) (writer : WriterAt) → ((stream : StreamAt) → SaysSchema stream own → SaysFirst (streams ++ stream ∷ []) schema) → mid.failures ≡ begun.failures
@@ -391,22 +424,33 @@ module _ (front behind : List EndpointSaid) (endpoint : EndpointSaid) (streams :
 
 -- ---- the first stream
 
+-- where no byte was written, and no write failed, nothing was said
+same_said : (a b : Said) → b.bytes ≡ a.bytes → b.failures ≡ a.failures → b ≡ a
+same_said a b bytes failures =
+    ap (λ (l : Option (List ℕ)). let said : Said = record { bytes = l; failures = b.failures } in said) bytes
+    ∙ ap (λ (n : ℕ). let said : Said = record { bytes = a.bytes; failures = n } in said) failures
+
 -- its schema was not sent
 pub schema_unsent : (endpoint : EndpointSaid) (behind : List EndpointSaid) (state : State) (schema : Schema) (fault : Fault) (first line : Line) (begun out : Said) (it : IsBegun endpoint.ticket state first line) → (it.known).schema ≡ schema
-    → Stopped (numbered_schema schema) [] begun.bytes out.bytes → IsCause (numbered_schema schema) [] fault → CountsTransport {A = Unit {0}} (Err fault) begun.failures out.failures → StopsAmong (endpoint ∷ behind) (Found fault) first line begun out
-schema_unsent endpoint behind state schema fault first line begun out it is stopped cause counted = record {
+    → Begins {A = WriterAt} (λ (writer : WriterAt). writer) (Err fault) (numbered_schema schema) begun.bytes out.bytes → IsCause (numbered_schema schema) [] fault → CountsTransport {A = Unit {0}} (Err fault) begun.failures out.failures → StopsAmong (endpoint ∷ behind) (Found fault) first line begun out
+schema_unsent endpoint behind state schema fault first line begun out it is begins cause counted = record {
   streams = it.stream ∷ [];
   some = line;
   came = inl (refl, it.fetching);
-  wrote = inr (schema, (it.known, it.state_is ∙ it.has_schema, is), subst (λ (rows : Rows). Stopped (numbered_schema schema) rows begun.bytes out.bytes) (sym (append-nil it.stream.rows ∙ it.no_rows)) stopped);
-  why = inr (fault, refl, by fault cause, counted, refl);
+  why = inr (fault, refl, (by fault begins cause counted).0, (by fault begins cause counted).1, refl);
 }
   where
-    by : (fault : Fault) → IsCause (numbered_schema schema) [] fault → WhyNoMore (it.stream ∷ []) fault
-    by Transport cause = tt
-    by OutOfMemory cause = tt
-    by LimitReached cause = absurd (cause (All-nil (HasShortRows (numbered_schema schema))))
-    by _ cause = absurd cause
+    by : (fault : Fault) → Begins {A = WriterAt} (λ (writer : WriterAt). writer) (Err fault) (numbered_schema schema) begun.bytes out.bytes → IsCause (numbered_schema schema) [] fault → CountsTransport {A = Unit {0}} (Err fault) begun.failures out.failures
+        → WhyNoMore (it.stream ∷ []) fault × WritesUpTo fault (it.stream ∷ []) begun out
+    by Transport begins cause counted = (tt, (
+      schema,
+      (it.known, it.state_is ∙ it.has_schema, is),
+      subst (λ (rows : Rows). WritesBeginning (numbered_schema schema) rows begun.bytes out.bytes) (sym (append-nil it.stream.rows ∙ it.no_rows)) begins,
+      counted,
+    ))
+    by OutOfMemory begins cause counted = (tt, inl (same_said begun out begins counted))
+    by LimitReached begins cause counted = absurd (cause (All-nil (HasShortRows (numbered_schema schema))))
+    by _ begins cause counted = absurd cause
 
 -- ---- all streams
 
@@ -416,10 +460,16 @@ come_all [] (s ∷ ss) old new same = absurd same
 come_all (e ∷ es) [] old new same = absurd same
 come_all (e ∷ es) (s ∷ ss) old new fetched = inr (fetched.0, fetched.1, come_all es ss fetched.0 new fetched.2)
 
--- what was sent so far is written, or a beginning of it
-pub have_written : (endpoints : List EndpointSaid) (first : Line) (begun out : Said) (now : PassingAt) (passed : HavePassed endpoints first begun now out) → WritesSome passed.streams begun.bytes out.bytes
-have_written endpoints first begun out now passed =
-    inr (now.schema, passed.says, stopped_here (numbered_schema now.schema) (rows_held passed.streams) (rows_held passed.streams) [] begun.bytes out.bytes (now.writer).waiting (sym (append-nil (rows_held passed.streams))) passed.so)
+-- what was sent so far breaks off
+pub have_written : (endpoints : List EndpointSaid) (first : Line) (begun mid out : Said) (now : PassingAt) (passed : HavePassed endpoints first begun now mid)
+    → ((schema : Schema) (rows : Rows) (start : Option (List ℕ)) → SoFar schema rows start mid.bytes (now.writer).waiting → BreaksOff schema rows start out.bytes mid.failures out.failures)
+    → WritesSome passed.streams begun out
+have_written endpoints first begun mid out now passed breaks = inr (
+  now.schema,
+  passed.says,
+  subst (λ (n : ℕ). BreaksOff (numbered_schema now.schema) (rows_held passed.streams) begun.bytes out.bytes n out.failures) passed.quiet
+  (breaks (numbered_schema now.schema) (rows_held passed.streams) begun.bytes passed.so),
+)
 
 module _ (wanted : Wanted) (endpoints : List EndpointSaid) (old middle : Line) (asked : Asks wanted (Ok endpoints) old middle) (begun out out' : Said) (now : PassingAt) (passed : HavePassed endpoints middle begun now out) where
   -- the end was written
@@ -436,7 +486,7 @@ module _ (wanted : Wanted) (endpoints : List EndpointSaid) (old middle : Line) (
   -- or not
   pub not_ended : (fault : Fault) → WritesStream {A = Unit {0}} {E = Fault} (Err fault) (numbered_schema now.schema) (rows_held passed.streams) begun.bytes out'.bytes → fault ≡ Transport
       → CountsTransport {A = Unit {0}} (Err fault) out.failures out'.failures → Streams wanted (Err (Found fault)) old now.line begun out'
-  not_ended fault stopped is counted = inr (record {
+  not_ended fault part is counted = inr (record {
     endpoints = endpoints;
     middle = middle;
     asked = asked;
@@ -444,8 +494,14 @@ module _ (wanted : Wanted) (endpoints : List EndpointSaid) (old middle : Line) (
       streams = passed.streams;
       some = now.line;
       came = come_all endpoints passed.streams middle now.line passed.fetched;
-      wrote = inr (now.schema, passed.says, stopped);
-      why = inr (fault, refl, subst (WhyNoMore passed.streams) (sym is) tt, subst (λ (n : ℕ). CountsTransport {A = Unit {0}} (Err fault) n out'.failures) passed.quiet counted, refl);
+      why = inr (
+        fault,
+        refl,
+        subst (WhyNoMore passed.streams) (sym is) tt,
+        subst (λ (f : Fault). WritesUpTo f passed.streams begun out') (sym is)
+        (now.schema, passed.says, part, subst (λ (n : ℕ). out'.failures ≡ n + 1) passed.quiet (subst (λ (f : Fault). CountsTransport {A = Unit {0}} (Err f) out.failures out'.failures) is counted)),
+        refl,
+      );
     };
   })
 

@@ -1,5 +1,5 @@
 -- Rows that are written as they come: fetched over one connection, and written as an Arrow IPC stream, batch by batch.
-use Rattle.std.specs.Prelude.{◌≡◌, ◌⊎◌, ℕ, false, List, [], ◌∷◌, ◌++◌, Option, Some, Result, Ok, Err}
+use Rattle.std.specs.Prelude.{◌≡◌, ◌⊎◌, ℕ, ◌+◌, false, List, [], ◌∷◌, ◌++◌, Option, Some, Result, Ok, Err}
 use Rattle.std.specs.List.{flat_map}
 use Rattle.std.specs.Io.KnownBytes.{Appends}
 use Rattle.scan_base.specs.declared.fault.Fault.{Fault}
@@ -12,8 +12,7 @@ use Rattle.table_versions.specs.Table.{Table, same_fields}
 use Rattle.flight_proto.specs.FlightInfo.{EndpointSaid}
 use Rattle.flight_proto.specs.Wanted.{Wanted}
 use Rattle.flight_client.specs.Stream.{StreamAt, schema_said}
-use Rattle.row_stream.specs.Stream.{numbered_schema, CountsTransport, HasShortRows, IsWhole}
-use Rattle.row_stream.specs.Writing.{Stopped}
+use Rattle.row_stream.specs.Stream.{numbered_schema, BreaksOff, HasShortRows, IsWhole, WritesBeginning}
 use Rattle.client_calls.specs.declared.failure.Failure.{Failure}
 use Rattle.client_calls.specs.declared.failure.Failure.TheVariants.{Found}
 use Rattle.client_calls.specs.Outcome.{Line}
@@ -46,10 +45,22 @@ SaysFirst (stream ∷ streams) schema = SaysSchema stream schema
 
 -- ---- what was written of it
 
--- nothing; or a beginning of the Arrow IPC stream of these rows behind the first schema, which says some of them
-abbrev pub WritesSome : List StreamAt → Option (List ℕ) → Option (List ℕ) → Type 0
+-- no write of the rows failed: nothing was written; or an Arrow IPC stream of these rows behind the first schema, which says some of
+-- them and breaks off
+abbrev pub WritesSome : List StreamAt → Said → Said → Type 0
 WritesSome streams old new =
-    (new ≡ old) ⊎ ((schema : Schema) × SaysFirst streams schema × Stopped (numbered_schema schema) (rows_held streams) old new)
+    (new ≡ old)
+    ⊎ ((schema : Schema) × SaysFirst streams schema × BreaksOff (numbered_schema schema) (rows_held streams) old.bytes new.bytes old.failures new.failures)
+
+-- one failed, which is counted: a beginning of a stream was written, which says some of the rows
+abbrev pub WritesPart : List StreamAt → Said → Said → Type 0
+WritesPart streams old new = (schema : Schema) × SaysFirst streams schema
+    × WritesBeginning (numbered_schema schema) (rows_held streams) old.bytes new.bytes × (new.failures ≡ old.failures + 1)
+
+-- what was written where this end found a fault
+abbrev pub WritesUpTo : Fault → List StreamAt → Said → Said → Type 0
+WritesUpTo Transport streams old new = WritesPart streams old new
+WritesUpTo fault streams old new = WritesSome streams old new
 
 -- ---- why no more was, though no fetch failed
 
@@ -97,19 +108,17 @@ pub record IsStreamed (wanted : Wanted) (old new : Line) (out out' : Said) : Typ
   pub wrote : Appends out.bytes out'.bytes stream
   pub quiet : out'.failures ≡ out.failures
 
--- a fetch failed; or there is a fault of these streams, or of writing: a write that failed is counted
+-- a fetch failed; or there is a fault of these streams, or of writing
 abbrev pub Stops : List EndpointSaid → List StreamAt → Failure → Line → Line → Line → Said → Said → Type 0
 Stops endpoints streams failure old some new out out' =
-    (FetchStops endpoints failure old new × (out'.failures ≡ out.failures))
-    ⊎ ((fault : Fault) × (failure ≡ Found fault) × WhyNoMore streams fault
-    × CountsTransport {A = Unit {0}} (Err fault) out.failures out'.failures × (new ≡ some))
+    (FetchStops endpoints failure old new × WritesSome streams out out')
+    ⊎ ((fault : Fault) × (failure ≡ Found fault) × WhyNoMore streams fault × WritesUpTo fault streams out out' × (new ≡ some))
 
 -- these streams came, some of them, and no more were written
 pub record StopsAmong (endpoints : List EndpointSaid) (failure : Failure) (old new : Line) (out out' : Said) : Type 0 where
   pub streams : List StreamAt
   pub some : Line
   pub came : ComeSome endpoints streams old some
-  pub wrote : WritesSome streams out.bytes out'.bytes
   pub why : Stops endpoints streams failure old some new out out'
 
 -- where the rows are was asked, and then it stopped among their streams

@@ -1,20 +1,22 @@
 //! Rows that are written as they come.
 
-ghost use Rattle.std.specs.Prelude.{◌≡◌, ◌≤◌, [], ℕ, List, Option, length};
+ghost use Rattle.std.specs.Prelude.{◌≡◌, ◌≤◌, ◌<◌, [], ℕ, List, Option, length, IfOk, IfSome};
 ghost use Rattle.arrow_schema.specs.declared.schema.Schema.{Schema};
 ghost use Rattle.grpc_frame.specs.Ends.{CanFail};
-ghost use Rattle.ipc_batch.specs.Said.{Rows};
+ghost use Rattle.ipc_batch.specs.Said.{HasColumns, Rows};
 ghost use Rattle.flight_info.specs.Payloads.{Payload};
 ghost use Rattle.flight_proto.specs.FlightInfo.{EndpointSaid, endpoint_said};
 ghost use Rattle.flight_proto.specs.Wanted.{rows_of};
 ghost use Rattle.flight_client.specs.Stream.{StreamAt};
 ghost use Rattle.row_stream.specs.Stream.{numbered_schema};
 ghost use Rattle.client_calls.specs.Outcome.{Line};
+ghost use Rattle.client_calls.specs.Taking.{IsFetching, KeepsSchema, TakesNext};
 ghost use Rattle.command_ends.specs.Printing.{Said, said_of};
 ghost use Rattle.client_commands.specs.Lines.{CanCount};
 ghost use Rattle.client_commands.specs.Streaming.{Streams};
-ghost use Rattle.client_commands.specs.inside.Passing.{FitsSchema, HavePassed, IsPassing, Passes, PassesBatches};
+ghost use Rattle.client_commands.specs.inside.Passing.{BreaksAtFailure, FitsSchema, HavePassed, IsPassing, Passes, PassesBatches};
 
+use arrays::Batch;
 use arrow_schema::Schema;
 use client_calls::{Connection, Failure, Fetching, info};
 use flight_proto::{FlightEndpoint, Wanted};
@@ -54,7 +56,8 @@ impl<R: Input, W: Output> Model for Passing<R, W> {
 ///
 /// # Errors
 ///
-/// The first failure, behind a beginning of the stream that says some of the rows:
+/// The first failure. Where something was written, the stream breaks off in the middle of a message behind some of the rows, so that
+/// no reader takes it for whole. Where a write failed, a beginning of the stream was written, which may end behind a message.
 /// - `Failure::Answered` with the server's fault, and `Failure::Found` with one of this end, as `client_calls::info` and
 ///   `client_calls::fetch` give them.
 /// - F8 (`Fault::BadBatch`) where a stream ended without a schema.
@@ -130,9 +133,16 @@ fn pass_next<R: Input + Drop, W: Output + Drop, O: Output>(
         schema,
         mut writer,
     } = passing;
-    let mut fetching = Fetching::begin(alloc, connection, &endpoint.ticket)?;
+    let mut fetching = match Fetching::begin(alloc, connection, &endpoint.ticket) {
+        Ok(fetching) => fetching,
+        Err(failure) => {
+            writer.break_off(output);
+            return Err(failure);
+        }
+    };
     let columns = fetching.schema().fields.as_slice();
     if !same_fields(schema.fields.as_slice(), columns) {
+        writer.break_off(output);
         return Err(Failure::Found(Fault::SchemaMismatch));
     }
     pass_batches(alloc, &mut fetching, &mut writer, output)?;
@@ -160,8 +170,36 @@ fn pass_batches<R: Input + Drop, W: Output + Drop, O: Output>(
         PassesBatches result ticket schema own rows start begun fetching.new
         (said_of O.Output output.old) (said_of O.Output output.new) writer.new }
 {
-    while let Some(batch) = fetching.next(alloc)? {
+    while let Some(batch) = next_batch(alloc, fetching, writer, output)? {
         writer.write_batch(output, &batch)?;
     }
     Ok(())
+}
+
+// Takes the next batch of a stream, as `Fetching::next` gives it. At a failure of that the stream that is written breaks off.
+fn next_batch<R: Input + Drop, W: Output + Drop, O: Output>(
+    alloc: Global,
+    fetching: &mut Fetching<R, W>,
+    writer: &mut StreamWriter,
+    output: &mut O,
+) -> Result<Option<Batch>, Failure>
+    requires reads { CanFail (fetching.old.line.incoming.failed) }
+    requires writes { CanFail (O.failures output.old) }
+    ensures next { (ticket : Payload) (stream : StreamAt) (begun : Line) → stream.state ≡ fetching.old.state →
+        IsFetching ticket stream begun fetching.old.line →
+        TakesNext ticket stream begun result fetching.new.state fetching.new.line }
+    ensures columns { IfOk result (λ batch. HasColumns batch fetching.new.state) }
+    ensures kept { KeepsSchema fetching.old.state fetching.new.state }
+    ensures quiet { IfOk result (λ _. fetching.new.line.incoming.failed ≡ fetching.old.line.incoming.failed) }
+    ensures fewer { IfOk result (λ batch. IfSome batch (λ _. fetching.new.work < fetching.old.work)) }
+    ensures written { BreaksAtFailure result writer.old writer.new
+        (said_of O.Output output.old) (said_of O.Output output.new) }
+{
+    match fetching.next(alloc) {
+        Ok(batch) => Ok(batch),
+        Err(failure) => {
+            writer.break_off(output);
+            Err(failure)
+        }
+    }
 }

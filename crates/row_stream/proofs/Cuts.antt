@@ -1,8 +1,10 @@
 -- A batch that is sent cut by cut.
-use Rattle.std.proofs.Common.{◌≡◌, ◌≤◌, ℕ, zero, suc, ◌+◌, ◌-◌, List, [], ◌∷◌, ◌++◌, length, map, take, drop, Option, refl, sym, ap, subst, ◌∙◌, append-nil, append_assoc, arith}
+use Rattle.std.proofs.Common.{◌≡◌, ◌≤◌, ℕ, zero, suc, ◌+◌, ◌-◌, List, [], ◌∷◌, ◌++◌, length, map, take, drop, Option, Err, refl, sym, ap, subst, ◌∙◌, append-nil, append_assoc, arith}
 use Rattle.std.specs.List.{flat_map}
 use Rattle.std.proofs.Math.Seq.{take-add}
 use Rattle.std.proofs.lemmas.List.{take_all}
+use Rattle.scan_base.specs.declared.fault.Fault.{Fault}
+use Rattle.scan_base.specs.declared.fault.Fault.TheVariants.{LimitReached, OutOfMemory}
 use Rattle.arrow_schema.specs.declared.schema.Field.{Field}
 use Rattle.arrow_schema.specs.declared.schema.Schema.{Schema}
 use Rattle.arrays.specs.Column.{ColumnAt, cut}
@@ -12,11 +14,12 @@ use Rattle.arrays.proofs.Slices.{batches_keep}
 use Rattle.ipc_batch.specs.Said.{Rows}
 use Rattle.ipc_stream.specs.Stream.{frame}
 use Rattle.grpc_frame.specs.Sending.{Sent, NotSent}
-use Rattle.row_stream.specs.Writing.{SoFar, Stopped, SentBehind}
-use Rattle.row_stream.specs.inside.Cuts.{IsCut}
+use Rattle.row_stream.specs.Stream.{BreaksOff, WritesBeginning, WritesCounted, unfinished}
+use Rattle.row_stream.specs.Writing.{SendsBatch, SoFar, SentBehind}
+use Rattle.row_stream.specs.inside.Cuts.{IsCut, IsUncut}
 use Rattle.row_stream.specs.declared.cutting.Cut.{Cut}
 use Rattle.row_stream.proofs.Messages.{length-rows_of}
-use Rattle.row_stream.proofs.SoFar.{went_on, stopped_here, stopped}
+use Rattle.row_stream.proofs.SoFar.{broken_here, went_on, stopped}
 
 -- ---- rows of a batch
 
@@ -92,16 +95,25 @@ left_behind batch at rows within =
     sym (append_assoc rows (rows_of (cut_batch batch 0 at)) (rows_of (cut_batch batch at batch.rows))
     ∙ ap (λ (l : Rows). rows ++ l) (cuts_join batch 0 at batch.rows (omega arith) within (omega arith) ∙ cut_whole batch batch.rows refl))
 
--- no more was sent
-pub sent_no_more : (schema : Schema) (batch : BatchAt) (at : ℕ) (old new : Option (List ℕ)) (before after : List ℕ) → at ≤ batch.rows → SentTo schema batch at old new before after
-    → (rows : Rows) (start : Option (List ℕ)) → SoFar schema rows start old before → Stopped schema (rows ++ rows_of batch) start new
-sent_no_more schema batch at old new before after within sent rows start so =
-    stopped_here schema (rows ++ rows_of batch) (rows ++ rows_of (cut_batch batch 0 at)) (rows_of (cut_batch batch at batch.rows)) start new after (left_behind batch at rows within) (sent rows start so)
+-- no more was sent, and the stream breaks off
+pub sent_no_more : (schema : Schema) (batch : BatchAt) (at : ℕ) (a b c : Option (List ℕ)) (before mid : List ℕ) (failed failed' : ℕ) → at ≤ batch.rows → SentTo schema batch at a b before mid
+    → WritesCounted b c (mid ++ unfinished) failed failed'
+    → (rows : Rows) (start : Option (List ℕ)) → SoFar schema rows start a before → BreaksOff schema (rows ++ rows_of batch) start c failed failed'
+sent_no_more schema batch at a b c before mid failed failed' within sent wrote rows start so =
+    broken_here schema (rows ++ rows_of batch) (rows ++ rows_of (cut_batch batch 0 at)) (rows_of (cut_batch batch at batch.rows)) start b c mid failed failed' (left_behind batch at rows within) (sent rows start so) wrote
+
+-- where no more rows were cut, that is told
+pub told_uncut : (fault : Fault) (schema : Schema) (batch : BatchAt) (old new : Option (List ℕ)) (before after : List ℕ) (failed failed' : ℕ) → IsUncut schema batch fault
+    → ((rows : Rows) (start : Option (List ℕ)) → SoFar schema rows start old before → BreaksOff schema (rows ++ rows_of batch) start new failed failed')
+    → SendsBatch {A = Unit {0}} (Err fault) schema batch old new before after failed failed'
+told_uncut OutOfMemory schema batch old new before after failed failed' why breaks = breaks
+told_uncut LimitReached schema batch old new before after failed failed' why breaks = breaks
+told_uncut _ schema batch old new before after failed failed' why breaks = absurd why
 
 -- a cut more of which a write failed
 pub cut_not_sent : (schema : Schema) (batch : BatchAt) (at most : ℕ) (cut : Cut) (a b c : Option (List ℕ)) (before mid after : List ℕ) → IsCut schema batch at most cut → SentTo schema batch at a b before mid
     → NotSent b c mid after (flat_map frame cut.parcel)
-    → (rows : Rows) (start : Option (List ℕ)) → SoFar schema rows start a before → Stopped schema (rows ++ rows_of batch) start c
+    → (rows : Rows) (start : Option (List ℕ)) → SoFar schema rows start a before → WritesBeginning schema (rows ++ rows_of batch) start c
 cut_not_sent schema batch at most cut a b c before mid after is sent failed rows start so =
     let some = rows ++ rows_of (cut_batch batch 0 at) in
     let part = cut_batch batch at cut.end in

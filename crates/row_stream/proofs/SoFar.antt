@@ -1,22 +1,24 @@
 -- What was sent so far of a stream.
 use Rattle.std.proofs.Common.{◌≡◌, inl, inr, ℕ, List, [], ◌∷◌, ◌++◌, map, All, Option, Result, Ok, Err, refl, sym, ap, subst, ◌∙◌, append-nil, append_assoc}
 use Rattle.std.specs.List.{flat_map}
-use Rattle.std.proofs.KnownBytes.{Appends-nil}
+use Rattle.std.specs.Io.KnownBytes.{Appends}
+use Rattle.std.proofs.KnownBytes.{Appends-trans}
 use Rattle.std.proofs.lemmas.Grind.{flat_map-append}
 use Rattle.std.proofs.lemmas.List.Elements.{All-append, All-nil, All-cons}
-use Rattle.scan_base.specs.declared.fault.Fault.{Fault}
 use Rattle.arrow_schema.specs.declared.schema.Schema.{Schema}
 use Rattle.arrays.specs.Batch.{BatchAt, rows_of}
-use Rattle.grpc_frame.specs.Ends.{AppendsBeginning, Writes}
-use Rattle.grpc_frame.specs.Sending.{Sent, NotSent, Sends}
-use Rattle.grpc_frame.proofs.Sending.{both_sent, second_not_sent, begun_alone, flushed}
-use Rattle.ipc_batch.specs.Said.{Rows, Says, Sent as SentMessage}
+use Rattle.grpc_frame.specs.Ends.{AppendsBeginning, CountsFailure, Writes}
+use Rattle.grpc_frame.specs.Sending.{Sent, NotSent}
+use Rattle.grpc_frame.proofs.Growing.{beginning_of_content}
+use Rattle.grpc_frame.proofs.Sending.{both_sent, second_not_sent, begun_alone}
+use Rattle.ipc_batch.specs.Said.{Rows, Says}
 use Rattle.ipc_stream.specs.declared.message.IpcMessage.{IpcMessage}
 use Rattle.ipc_stream.specs.Stream.{frame, IsMessage, end_marker}
-use Rattle.row_stream.specs.Stream.{sent_in, AreDressedBehind, HasShortBody, StreamSays, IsWhole, WritesStream}
-use Rattle.row_stream.specs.Writing.{SoFar, Stopped}
+use Rattle.row_stream.specs.Stream.{sent_in, AreDressedBehind, BreaksOff, HasShortBody, StreamSays, IsWhole, WritesBeginning, WritesCounted, WritesStream, unfinished}
+use Rattle.row_stream.specs.Writing.{SoFar}
 use Rattle.row_stream.specs.inside.Cuts.{SayBatch}
-use Rattle.row_stream.specs.inside.Frames.{SaysSchema, FrameSent, SendsMessage}
+use Rattle.row_stream.specs.inside.Frames.{SaysSchema}
+use Rattle.row_stream.proofs.Broken.{unfinished_refused}
 use Rattle.row_stream.proofs.Dressed.{batch_dressed, none_behind, stands_behind}
 use Rattle.row_stream.proofs.Messages.{first_said, more_said, schema_short}
 
@@ -66,25 +68,38 @@ messages_alone messages schema rows say = record {
   short = say.short;
 }
 
--- nothing was written
-pub nothing_written : (schema : Schema) (rows : Rows) (a : Option (List ℕ)) → Stopped schema rows a a
-nothing_written schema rows a = ([], inl refl, record { front = []; rest = []; splits = refl; wrote = Appends-nil a })
+-- ---- what waited was written, and bytes behind it
+
+written_behind : (a b c : Option (List ℕ)) (mid bytes part : List ℕ) → Sent a b [] mid bytes → Appends b c (mid ++ part) → Appends a c (bytes ++ part)
+written_behind a b c mid bytes part sent wrote =
+    subst (Appends a c) (sym (append_assoc sent.written mid part) ∙ ap (λ (l : List ℕ). l ++ part) sent.whole) (Appends-trans a b c sent.written (mid ++ part) sent.wrote wrote)
+
+begun_behind : (a b c : Option (List ℕ)) (mid bytes part : List ℕ) → Sent a b [] mid bytes → AppendsBeginning b c (mid ++ part) → AppendsBeginning a c (bytes ++ part)
+begun_behind a b c mid bytes part sent wrote =
+    subst (AppendsBeginning a c) (sym (append_assoc sent.written mid part) ∙ ap (λ (l : List ℕ). l ++ part) sent.whole) (beginning_of_content a b c sent.written (mid ++ part) sent.wrote wrote)
+
+-- what was gathered was written with bytes that were gathered behind it
+pub flushed_behind : {A E : Type 0} (r : Result A E) (a b c : Option (List ℕ)) (before mid part : List ℕ) → Sent a b before mid part → Writes r b c mid → Writes r a c (before ++ part)
+flushed_behind (Ok x) a b c before mid part sent wrote = subst (Appends a c) sent.whole (Appends-trans a b c sent.written mid sent.wrote wrote)
+flushed_behind (Err e) a b c before mid part sent wrote = subst (AppendsBeginning a c) sent.whole (beginning_of_content a b c sent.written mid sent.wrote wrote)
+
+-- whichever came of it
+pub wrote_either : {A E : Type 0} (r : Result A E) (a b : Option (List ℕ)) (bytes : List ℕ) (failed failed' : ℕ) → Writes r a b bytes → CountsFailure r failed failed' → WritesCounted a b bytes failed failed'
+wrote_either (Ok x) a b bytes failed failed' wrote counted = inl (wrote, counted)
+wrote_either (Err e) a b bytes failed failed' wrote counted = inr (wrote, counted)
 
 -- ---- the schema
 
-pub begun : (schema : Schema) (a b : Option (List ℕ)) (before after : List ℕ) → before ≡ [] → FrameSent (SaysSchema schema) a b before after → SoFar schema [] a b after
-begun schema a b before after none sends =
-    so_far (sends.message ∷ []) schema [] a b after (say_schema sends.message schema sends.fits sends.tells)
-    (subst (λ (l : List ℕ). Sent a b l after (frame sends.message ++ [])) none (subst (Sent a b before after) (sym (append-nil (frame sends.message))) sends.sent))
+pub begun : (schema : Schema) (message : IpcMessage) (a b : Option (List ℕ)) (before : List ℕ) → before ≡ [] → IsMessage message → SaysSchema schema (sent_in message) → Appends a b (before ++ frame message) → SoFar schema [] a b []
+begun schema message a b before none fits tells wrote =
+    so_far (message ∷ []) schema [] a b [] (say_schema message schema fits tells)
+    (record { written = frame message; wrote = subst (λ (l : List ℕ). Appends a b (l ++ frame message)) none wrote; whole = refl })
 
-pub not_begun : (schema : Schema) (rows : Rows) (a b : Option (List ℕ)) (before after : List ℕ) (fault : Fault) → before ≡ [] → SendsMessage {A = Unit {0}} (SaysSchema schema) (Err fault) a b before after → Stopped schema rows a b
-not_begun schema rows a b before after fault none (inl sends) =
-    let stream = flat_map frame (sends.message ∷ []) in
-    let says = messages_alone (sends.message ∷ []) schema [] (say_schema sends.message schema sends.fits sends.tells) in
-    let wrote = begun_alone a b before after (frame sends.message) none sends.failed in
-    (stream, inr (record { some = []; others = rows; splits = refl; rest = []; says = says }), subst (AppendsBeginning a b) (sym (append-nil (frame sends.message))) wrote)
-not_begun schema rows a b before after fault none (inr same) =
-    subst (Stopped schema rows a) (sym same.0) (nothing_written schema rows a)
+pub not_begun : (schema : Schema) (message : IpcMessage) (a b : Option (List ℕ)) (before : List ℕ) → before ≡ [] → IsMessage message → SaysSchema schema (sent_in message) → AppendsBeginning a b (before ++ frame message) → WritesBeginning schema [] a b
+not_begun schema message a b before none fits tells wrote =
+    let says = messages_alone (message ∷ []) schema [] (say_schema message schema fits tells) in
+    let bytes : before ++ frame message ≡ frame message ++ [] = ap (λ (l : List ℕ). l ++ frame message) none ∙ sym (append-nil (frame message)) in
+    (flat_map frame (message ∷ []), record { some = []; others = []; splits = refl; rest = []; says = says }, subst (AppendsBeginning a b) bytes wrote)
 
 -- ---- a batch more
 
@@ -94,32 +109,33 @@ went_on schema rows batch a b c mid after so messages one sent =
     so_far (so.messages ++ messages) schema (rows ++ rows_of batch) a c after (say_more so.messages messages schema rows batch (say_so_far schema rows a b mid so) one)
     (subst (Sent a c [] after) (sym (flat_map-append frame so.messages messages)) (both_sent a b c [] mid after (flat_map frame so.messages) (flat_map frame messages) so.sent sent))
 
--- what was sent so far is written, or a beginning of it
-pub stopped_here : (schema : Schema) (rows some others : Rows) (a b : Option (List ℕ)) (mid : List ℕ) → rows ≡ some ++ others → SoFar schema some a b mid → Stopped schema rows a b
-stopped_here schema rows some others a b mid splits so = (
-  flat_map frame so.messages,
-  inr (record { some = some; others = others; splits = splits; rest = []; says = messages_alone so.messages schema some (say_so_far schema some a b mid so) }),
-  record { front = so.sent.written; rest = mid; splits = sym so.sent.whole; wrote = so.sent.wrote },
+-- what was sent so far breaks off
+pub broken_here : (schema : Schema) (rows some others : Rows) (a b c : Option (List ℕ)) (mid : List ℕ) (failed failed' : ℕ) → rows ≡ some ++ others → SoFar schema some a b mid → WritesCounted b c (mid ++ unfinished) failed failed'
+    → BreaksOff schema rows a c failed failed'
+broken_here schema rows some others a b c mid failed failed' splits so wrote = (
+  flat_map frame so.messages ++ unfinished,
+  record {
+    stream = flat_map frame so.messages;
+    says = record { some = some; others = others; splits = splits; rest = []; says = messages_alone so.messages schema some (say_so_far schema some a b mid so) };
+    ends = refl;
+    refused = unfinished_refused so.messages so.each;
+  },
+  by wrote,
 )
+  where
+    by : WritesCounted b c (mid ++ unfinished) failed failed' → WritesCounted a c (flat_map frame so.messages ++ unfinished) failed failed'
+    by (inl whole) = inl (written_behind a b c mid (flat_map frame so.messages) unfinished so.sent whole.0, whole.1)
+    by (inr part) = inr (begun_behind a b c mid (flat_map frame so.messages) unfinished so.sent part.0, part.1)
 
 -- a batch more of which a write failed
 pub stopped : (schema : Schema) (rows some others : Rows) (batch : BatchAt) (a b c : Option (List ℕ)) (mid after : List ℕ) → rows ≡ (some ++ rows_of batch) ++ others → SoFar schema some a b mid
-    → (messages : List IpcMessage) → SayBatch (HasShortBody schema) schema batch messages → NotSent b c mid after (flat_map frame messages) → Stopped schema rows a c
+    → (messages : List IpcMessage) → SayBatch (HasShortBody schema) schema batch messages → NotSent b c mid after (flat_map frame messages) → WritesBeginning schema rows a c
 stopped schema rows some others batch a b c mid after splits so messages one failed =
     let all = so.messages ++ messages in
     let says = messages_alone all schema (some ++ rows_of batch) (say_more so.messages messages schema some batch (say_so_far schema some a b mid so) one) in
     let wrote : AppendsBeginning a c (flat_map frame so.messages ++ flat_map frame messages) =
     begun_alone a c [] after _ refl (second_not_sent a b c [] mid after (flat_map frame so.messages) (flat_map frame messages) so.sent failed) in
-    (flat_map frame all, inr (record { some = some ++ rows_of batch; others = others; splits = splits; rest = []; says = says }), subst (AppendsBeginning a c) (sym (flat_map-append frame so.messages messages)) wrote)
-
--- it says some of more rows too
-pub stopped_before : (schema : Schema) (all rows others : Rows) (a b : Option (List ℕ)) → all ≡ rows ++ others → Stopped schema rows a b → Stopped schema all a b
-stopped_before schema all rows others a b splits (stream, inl none, wrote) = (stream, inl none, wrote)
-stopped_before schema all rows others a b splits (stream, inr says, wrote) = (
-  stream,
-  inr (record { some = says.some; others = says.others ++ others; splits = splits ∙ ap (λ (l : Rows). l ++ others) says.splits ∙ append_assoc says.some says.others others; rest = says.rest; says = says.says }),
-  wrote,
-)
+    (flat_map frame all, record { some = some ++ rows_of batch; others = others; splits = splits; rest = []; says = says }, subst (AppendsBeginning a c) (sym (flat_map-append frame so.messages messages)) wrote)
 
 -- ---- the end
 
@@ -133,29 +149,12 @@ ended schema rows a b mid so = record {
   short = so.short;
 }
 
-pub not_ended : (schema : Schema) (rows : Rows) (a b c : Option (List ℕ)) (mid after : List ℕ) → SoFar schema rows a b mid → NotSent b c mid after end_marker → Stopped schema rows a c
-not_ended schema rows a b c mid after so failed = (
+-- it was written, or a beginning of it
+pub ended_by : {E : Type 0} (result : Result (Unit {0}) E) (schema : Schema) (rows : Rows) (a b c : Option (List ℕ)) (mid : List ℕ) → SoFar schema rows a b mid → Writes result b c (mid ++ end_marker) → WritesStream result schema rows a c
+ended_by (Ok done) schema rows a b c mid so wrote =
+    (flat_map frame so.messages ++ end_marker, ended schema rows a b mid so, written_behind a b c mid (flat_map frame so.messages) end_marker so.sent wrote)
+ended_by (Err fault) schema rows a b c mid so wrote = (
   flat_map frame so.messages ++ end_marker,
-  inr (record { some = rows; others = []; splits = sym (append-nil rows); rest = end_marker; says = ended schema rows a b mid so }),
-  begun_alone a c [] after _ refl (second_not_sent a b c [] mid after (flat_map frame so.messages) end_marker so.sent failed),
+  record { some = rows; others = []; splits = sym (append-nil rows); rest = end_marker; says = ended schema rows a b mid so },
+  begun_behind a b c mid (flat_map frame so.messages) end_marker so.sent wrote,
 )
-
-pub flushed_whole : (result : Result (Unit {0}) Fault) (schema : Schema) (rows : Rows) (a b c d : Option (List ℕ)) (mid last : List ℕ) → SoFar schema rows a b mid → Sent b c mid last end_marker
-    → Writes result c d last → WritesStream result schema rows a d
-flushed_whole (Ok done) schema rows a b c d mid last so sent wrote =
-    let stream = flat_map frame so.messages ++ end_marker in
-    (stream, ended schema rows a b mid so, flushed {A = Unit {0}} {E = Fault} (Ok done) a c d [] last stream refl (both_sent a b c [] mid last (flat_map frame so.messages) end_marker so.sent sent) wrote)
-flushed_whole (Err fault) schema rows a b c d mid last so sent wrote =
-    let stream = flat_map frame so.messages ++ end_marker in (
-      stream,
-      inr (record { some = rows; others = []; splits = sym (append-nil rows); rest = end_marker; says = ended schema rows a b mid so }),
-      flushed {A = Unit {0}} {E = Fault} (Err fault) a c d [] last stream refl (both_sent a b c [] mid last (flat_map frame so.messages) end_marker so.sent sent) wrote,
-    )
-
--- ---- one message
-
--- a message that was sent in its frame, or not
-pub sent_message : (Tells : SentMessage → Type 0) (result : Result (Unit {0}) Fault) (old new : Option (List ℕ)) (before after : List ℕ) (message : IpcMessage) → IsMessage message → Tells (sent_in message)
-    → Sends result old new before after (frame message) → SendsMessage Tells result old new before after
-sent_message Tells (Ok done) old new before after message fits tells sends = record { message = message; fits = fits; tells = tells; sent = sends }
-sent_message Tells (Err fault) old new before after message fits tells sends = inl (record { message = message; fits = fits; tells = tells; failed = sends })

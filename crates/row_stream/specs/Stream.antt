@@ -1,5 +1,5 @@
 -- What is written of rows as an Arrow IPC stream.
-use Rattle.std.specs.Prelude.{◌≡◌, ◌⊎◌, ◌≤◌, ◌<◌, ◌^◌, ℕ, ◌+◌, List, [], ◌∷◌, ◌++◌, All, length, map, Option, Some, Result, Ok, Err}
+use Rattle.std.specs.Prelude.{◌≡◌, ◌⊎◌, ◌≤◌, ◌<◌, ◌^◌, ℕ, ◌+◌, List, [], ◌∷◌, ◌++◌, All, length, map, Option, Result, Ok, Err}
 use Rattle.std.specs.Io.KnownBytes.{Appends}
 use Rattle.scan_base.specs.declared.fault.Fault.{Fault}
 use Rattle.scan_base.specs.declared.fault.Fault.TheVariants.{LimitReached, OutOfMemory, Transport}
@@ -12,7 +12,7 @@ use Rattle.ipc_batch.specs.Said.{Sent, Rows, Says}
 use Rattle.ipc_batch.specs.Dressed.{SaysWhole, AddsRows, AreDressed}
 use Rattle.dressed_batches.specs.Lengths.{dressed_length}
 use Rattle.ipc_stream.specs.declared.message.IpcMessage.{IpcMessage}
-use Rattle.ipc_stream.specs.Stream.{Framed, end_marker}
+use Rattle.ipc_stream.specs.Stream.{announced, Framed, IsStream, end_marker}
 use Rattle.grpc_frame.specs.Ends.{AppendsBeginning}
 
 -- the columns of a stream, of which the first has this number: each dictionary of texts is the one of its column's number, with
@@ -75,17 +75,45 @@ pub record SaysSome (schema : Schema) (rows : Rows) (stream : List ℕ) : Type 0
   pub rest : List ℕ
   pub says : StreamSays stream rest schema some
 
--- the whole stream of these rows was written; or a beginning of a stream that says some of them, or of nothing
+-- the start of a message that never ends: a header of eight bytes is announced, and four of them come
+abbrev pub unfinished : List ℕ
+unfinished = announced 8 (0 ∷ 0 ∷ 0 ∷ 0 ∷ [])
+
+-- a stream that breaks off: it says some of these rows, from the first one on, and ends in the middle of a message, so it is none
+pub record IsBrokenOff (schema : Schema) (rows : Rows) (bytes : List ℕ) : Type 0 where
+  pub stream : List ℕ
+  pub says : SaysSome schema rows stream
+  pub ends : bytes ≡ stream ++ unfinished
+  pub refused : ¬ IsStream bytes
+
+-- a beginning of a stream was written, which says some of these rows
+abbrev pub WritesBeginning : Schema → Rows → Option (List ℕ) → Option (List ℕ) → Type 0
+WritesBeginning schema rows old new = (stream : List ℕ) × SaysSome schema rows stream × AppendsBeginning old new stream
+
+-- the whole stream of these rows was written, or a write failed
 abbrev pub WritesStream : {A E : Type 0} → Result A E → Schema → Rows → Option (List ℕ) → Option (List ℕ) → Type 0
 WritesStream (Ok done) schema rows old new = (stream : List ℕ) × IsWhole schema rows stream × Appends old new stream
-WritesStream (Err fault) schema rows old new =
-    (stream : List ℕ) × ((stream ≡ []) ⊎ SaysSome schema rows stream) × AppendsBeginning old new stream
+WritesStream (Err fault) schema rows old new = WritesBeginning schema rows old new
+
+-- bytes were written; or a write failed, which is counted, and a beginning of them was
+abbrev pub WritesCounted : Option (List ℕ) → Option (List ℕ) → List ℕ → ℕ → ℕ → Type 0
+WritesCounted old new bytes failed failed' = (Appends old new bytes × (failed' ≡ failed)) ⊎ (AppendsBeginning old new bytes × (failed' ≡ failed + 1))
+
+-- a stream that breaks off was written, or a beginning of it
+abbrev pub BreaksOff : Schema → Rows → Option (List ℕ) → Option (List ℕ) → ℕ → ℕ → Type 0
+BreaksOff schema rows old new failed failed' = (stream : List ℕ) × IsBrokenOff schema rows stream × WritesCounted old new stream failed failed'
 
 -- a write that failed is counted, and no other fault
 abbrev pub CountsTransport : {A : Type 0} → Result A Fault → ℕ → ℕ → Type 0
 CountsTransport (Ok done) old new = new ≡ old
 CountsTransport (Err Transport) old new = new ≡ old + 1
 CountsTransport (Err fault) old new = new ≡ old
+
+-- a write that failed is counted; at another fault one that breaks the stream off may have failed, too
+abbrev pub CountsWrites : {A : Type 0} → Result A Fault → ℕ → ℕ → Type 0
+CountsWrites (Ok done) old new = new ≡ old
+CountsWrites (Err Transport) old new = new ≡ old + 1
+CountsWrites (Err fault) old new = (new ≡ old) ⊎ (new ≡ old + 1)
 
 -- each row of a batch alone, and its dictionaries, have bodies of fewer than 2 to the 31 bytes together
 abbrev pub HasShortRows : Schema → BatchAt → Type 0

@@ -1,14 +1,15 @@
 //! Cutting a batch into messages.
 
-ghost use Rattle.std.specs.Prelude.{◌≡◌, ◌≤◌, ◌<◌, ◌+◌, ◌^◌, IfNone, IfOk, IfSome};
+ghost use Rattle.std.specs.Prelude.{◌≡◌, ◌≤◌, ◌<◌, ◌+◌, ◌^◌, IfNone, IfOk, IfSome, MatchResult};
 ghost use Rattle.arrays.specs.Batch.{cut_batch};
 ghost use Rattle.arrays.specs.Typed.{AreOfTypes};
 ghost use Rattle.dressed_batches.specs.Lengths.{dressed_length};
-ghost use Rattle.row_stream.specs.inside.Cuts.{IsCut};
+ghost use Rattle.row_stream.specs.inside.Cuts.{IsCut, IsUncut};
 
 use crate::dresser::Dresser;
 use crate::message::{Parcel, batch_parcel};
 use arrays::Batch;
+use scan_base::Fault;
 use std::alloc::AllocError;
 
 // The most bytes of the bodies of two rows or more and of their dictionaries.
@@ -24,14 +25,34 @@ pub(crate) struct Cut {
     pub end: usize,
 }
 
-/// The messages of the rows of a batch from `at` on: of as many as a message may have, or of all that are left. Where their
-/// bodies would have too many bytes, they are of half as many rows, down to one. Nothing where those of one row have 2 to the 31
-/// bytes or more.
+/// The messages of the rows of a batch from `at` on, of as many as a message may have.
 ///
 /// # Errors
 ///
-/// `AllocError` where memory is refused.
-pub(crate) fn next_cut(
+/// `Fault::OutOfMemory` where memory is refused, and `Fault::LimitReached` where the bodies of one row have 2 to the 31 bytes or
+/// more.
+pub(crate) fn some_cut(
+    dresser: &Dresser,
+    batch: &Batch,
+    at: usize,
+    most: usize,
+) -> Result<Cut, Fault>
+    requires typed { AreOfTypes dresser.now.fields batch.now.columns }
+    requires more { at < batch.now.rows }
+    requires some { 0 < most }
+    requires few { most ≤ 65536 }
+    ensures { MatchResult result (IsCut dresser.now batch.now at most) (IsUncut dresser.now batch.now) }
+{
+    match next_cut(dresser, batch, at, most)? {
+        Some(cut) => Ok(cut),
+        None => Err(Fault::LimitReached),
+    }
+}
+
+// The messages of the rows of a batch from `at` on: of as many as a message may have, or of all that are left. Where their
+// bodies would have too many bytes, they are of half as many rows, down to one. Nothing where those of one row have 2 to the 31
+// bytes or more.
+fn next_cut(
     dresser: &Dresser,
     batch: &Batch,
     at: usize,

@@ -1,31 +1,31 @@
 //! Sending the messages of a stream through an outbox.
 
-ghost use Rattle.std.specs.Prelude.{◌≡◌, ◌≤◌, ◌<◌, ◌^◌, [], ◌∷◌, All, length, MatchResult};
+ghost use Rattle.std.specs.Prelude.{◌≡◌, ◌≤◌, ◌<◌, ◌^◌, [], ◌∷◌, ◌++◌, All, length, MatchResult};
 ghost use Rattle.std.specs.List.{flat_map};
 ghost use Rattle.flatbuf.specs.Block.{padded};
-ghost use Rattle.arrow_schema.specs.Schema.{IsSchema};
 ghost use Rattle.arrays.specs.Typed.{AreOfTypes};
 ghost use Rattle.ipc_batch.specs.Written.{body_of};
 ghost use Rattle.ipc_stream.specs.Stream.{announced, frame, IsMessage};
-ghost use Rattle.grpc_frame.specs.Ends.{CanFail, CountsFailure, FailsByTransport};
+ghost use Rattle.grpc_frame.specs.Ends.{CanFail, CountsFailure, FailsByTransport, Writes};
 ghost use Rattle.grpc_frame.specs.Sending.{Sends};
-ghost use Rattle.row_stream.specs.Stream.{CountsTransport, IsCause};
+ghost use Rattle.row_stream.specs.Stream.{CountsWrites, IsCause, WritesCounted, unfinished};
 ghost use Rattle.row_stream.specs.Writing.{SendsBatch};
-ghost use Rattle.row_stream.specs.inside.Frames.{SaysSchema, SendsMessage, written_frame};
+ghost use Rattle.row_stream.specs.inside.Frames.{written_frame};
 
-use crate::cutting::next_cut;
+use crate::cutting::some_cut;
 use crate::dresser::Dresser;
-use crate::message::{Parcel, Ready, schema_message};
+use crate::message::{Parcel, Ready};
 use arrays::Batch;
-use arrow_schema::Schema;
 use bytes::Bytes;
 use grpc_frame::{Outbox, Output};
 use ipc_batch::WrittenMessage;
 use scan_base::Fault;
-use std::alloc::Global;
 
 // The most rows of a cut. After one of few rows, the next one may have twice as many.
 const MOST_ROWS: usize = 65_536;
+
+// A header of eight bytes is announced, and four of them come.
+const UNFINISHED: [u8; 12] = [0xff, 0xff, 0xff, 0xff, 8, 0, 0, 0, 0, 0, 0, 0];
 
 // Sends what stands in front of a header of so many bytes.
 fn send_announcement<W: Output>(writer: &mut W, outbox: &mut Outbox, len: u32) -> Result<(), Fault>
@@ -128,26 +128,53 @@ fn send_parcel<W: Output>(writer: &mut W, outbox: &mut Outbox, parcel: &Parcel) 
     send_frame(writer, outbox, &parcel.rows)
 }
 
-/// Sends the message of a schema.
+/// Writes what waits, and these bytes behind it.
 ///
 /// # Errors
 ///
-/// `Fault::Transport` where a write failed. It is counted. `Fault::OutOfMemory` where memory is refused.
-pub(crate) fn send_schema<W: Output>(
-    alloc: Global,
+/// `Fault::Transport` where a write failed. It is counted.
+pub(crate) fn write_last<W: Output>(
     writer: &mut W,
     outbox: &mut Outbox,
-    schema: &Schema,
+    part: &[u8],
+) -> Result<(), Fault>
+    requires { CanFail (W.failures writer.old) }
+    ensures bytes { Writes result (W.contents writer.old) (W.contents writer.new) (outbox.old ++ part.now) }
+    ensures counted { CountsFailure result (W.failures writer.old) (W.failures writer.new) }
+    ensures fault { FailsByTransport result }
+{
+    outbox.send_part(writer, part)?;
+    outbox.flush(writer)
+}
+
+/// Breaks a stream off: writes what waits, and the start of a message that never ends. A write that failed is counted.
+pub(crate) fn break_off<W: Output>(writer: &mut W, outbox: &mut Outbox)
+    requires { CanFail (W.failures writer.old) }
+    ensures { WritesCounted (W.contents writer.old) (W.contents writer.new) (outbox.old ++ unfinished)
+        (W.failures writer.old) (W.failures writer.new) }
+{
+    let _written = write_last(writer, outbox, &UNFINISHED);
+}
+
+/// Writes a message in its frame, behind what waits.
+///
+/// # Errors
+///
+/// `Fault::Transport` where a write failed. It is counted.
+pub(crate) fn write_frame<W: Output>(
+    writer: &mut W,
+    outbox: &mut Outbox,
+    message: &Ready,
 ) -> Result<(), Fault>
     requires failures { CanFail (W.failures writer.old) }
-    requires schema { IsSchema schema.now }
-    ensures bytes { SendsMessage (SaysSchema schema.now) result
-        (W.contents writer.old) (W.contents writer.new) outbox.old outbox.new }
-    ensures counted { CountsTransport result (W.failures writer.old) (W.failures writer.new) }
-    ensures cause { MatchResult result (λ _. Unit {0}) (IsCause schema.now []) }
+    requires fits { length message.now.header < 2 ^ 31 }
+    ensures bytes { Writes result (W.contents writer.old) (W.contents writer.new) (outbox.old ++ frame message.now) }
+    ensures empty { outbox.new ≡ [] }
+    ensures counted { CountsFailure result (W.failures writer.old) (W.failures writer.new) }
+    ensures fault { FailsByTransport result }
 {
-    let message = schema_message(alloc, schema)?;
-    send_frame(writer, outbox, &message)
+    send_frame(writer, outbox, message)?;
+    outbox.flush(writer)
 }
 
 /// Sends the messages of a batch, cut by cut: each cut has as many of the next rows as it may, behind the dictionaries of their
@@ -155,8 +182,8 @@ pub(crate) fn send_schema<W: Output>(
 ///
 /// # Errors
 ///
-/// `Fault::Transport` where a write failed. It is counted. `Fault::OutOfMemory` where memory is refused, and
-/// `Fault::LimitReached` where the bodies of one row would have 2 to the 31 bytes or more.
+/// `Fault::Transport` where a write failed. It is counted. At these the stream breaks off: `Fault::OutOfMemory` where memory is
+/// refused, and `Fault::LimitReached` where the bodies of one row would have 2 to the 31 bytes or more.
 pub(crate) fn send_batch<W: Output>(
     dresser: &Dresser,
     writer: &mut W,
@@ -165,17 +192,21 @@ pub(crate) fn send_batch<W: Output>(
 ) -> Result<(), Fault>
     requires failures { CanFail (W.failures writer.old) }
     requires typed { AreOfTypes dresser.now.fields batch.now.columns }
-    ensures bytes { SendsBatch result dresser.now batch.now
-        (W.contents writer.old) (W.contents writer.new) outbox.old outbox.new }
-    ensures counted { CountsTransport result (W.failures writer.old) (W.failures writer.new) }
+    ensures bytes { SendsBatch result dresser.now batch.now (W.contents writer.old) (W.contents writer.new)
+        outbox.old outbox.new (W.failures writer.old) (W.failures writer.new) }
+    ensures counted { CountsWrites result (W.failures writer.old) (W.failures writer.new) }
     ensures cause { MatchResult result (λ _. Unit {0}) (IsCause dresser.now (batch.now ∷ [])) }
 {
     let rows = batch.rows();
     let mut at = 0;
     let mut most = MOST_ROWS;
     while at < rows {
-        let Some(cut) = next_cut(dresser, batch, at, most)? else {
-            return Err(Fault::LimitReached);
+        let cut = match some_cut(dresser, batch, at, most) {
+            Ok(cut) => cut,
+            Err(fault) => {
+                break_off(writer, outbox);
+                return Err(fault);
+            }
         };
         send_parcel(writer, outbox, &cut.parcel)?;
         most = ((cut.end - at) * 2).min(MOST_ROWS);

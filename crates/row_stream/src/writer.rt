@@ -6,11 +6,12 @@ ghost use Rattle.arrow_schema.specs.Schema.{IsSchema};
 ghost use Rattle.arrays.specs.Typed.{AreOfTypes};
 ghost use Rattle.ipc_batch.specs.Said.{Rows};
 ghost use Rattle.grpc_frame.specs.Ends.{CanFail, FailsByTransport};
-ghost use Rattle.row_stream.specs.Stream.{numbered_schema, CountsTransport, IsCause, WritesStream};
+ghost use Rattle.row_stream.specs.Stream.{numbered_schema, BreaksOff, CountsTransport, CountsWrites, IsCause, WritesStream};
 ghost use Rattle.row_stream.specs.Writing.{Begins, SendsBatch, SoFar};
 
 use crate::dresser::Dresser;
-use crate::sending::{send_batch, send_schema};
+use crate::message::schema_message;
+use crate::sending::{break_off, send_batch, write_frame, write_last};
 use arrays::Batch;
 use arrow_schema::Schema;
 use grpc_frame::{Outbox, Output};
@@ -47,9 +48,8 @@ impl StreamWriter {
     ///
     /// # Errors
     ///
-    /// A beginning of a stream without rows is written then.
-    /// - `Fault::Transport` (F22) where a write failed. It is counted.
-    /// - `Fault::OutOfMemory` (F21) where memory is refused.
+    /// - `Fault::Transport` (F22) where a write failed. It is counted, and a beginning of the stream is written.
+    /// - `Fault::OutOfMemory` (F21) where memory is refused. Nothing is written then.
     pub fn begin<W: Output>(
         alloc: Global,
         seed: HashSeed,
@@ -65,7 +65,8 @@ impl StreamWriter {
     {
         let mut outbox = Outbox::new(alloc);
         let dresser = Dresser::new(alloc, seed, schema)?;
-        send_schema(alloc, output, &mut outbox, &dresser.schema)?;
+        let message = schema_message(alloc, &dresser.schema)?;
+        write_frame(output, &mut outbox, &message)?;
         Ok(StreamWriter { dresser, outbox })
     }
 
@@ -75,20 +76,33 @@ impl StreamWriter {
     ///
     /// # Errors
     ///
-    /// A beginning of a stream is written then, which says some of the rows.
-    /// - `Fault::Transport` (F22) where a write failed. It is counted.
+    /// - `Fault::Transport` (F22) where a write failed. It is counted, and a beginning of the stream is written, which says some
+    ///   of the rows.
+    ///
+    /// At these the stream breaks off behind some of the rows, as `break_off` does it:
     /// - `Fault::OutOfMemory` (F21) where memory is refused.
     /// - `Fault::LimitReached` (F12) where the bodies of one row would have 2 to the 31 bytes or more.
     pub fn write_batch<W: Output>(&mut self, output: &mut W, batch: &Batch) -> Result<(), Fault>
         requires failures { CanFail (W.failures output.old) }
         requires typed { AreOfTypes (self.old.schema).fields batch.now.columns }
-        ensures bytes { SendsBatch result self.old.schema batch.now
-            (W.contents output.old) (W.contents output.new) self.old.waiting self.new.waiting }
+        ensures bytes { SendsBatch result self.old.schema batch.now (W.contents output.old) (W.contents output.new)
+            self.old.waiting self.new.waiting (W.failures output.old) (W.failures output.new) }
         ensures kept { self.new.schema ≡ self.old.schema }
-        ensures counted { CountsTransport result (W.failures output.old) (W.failures output.new) }
+        ensures counted { CountsWrites result (W.failures output.old) (W.failures output.new) }
         ensures cause { MatchResult result (λ _. Unit {0}) (IsCause self.old.schema (batch.now ∷ [])) }
     {
         send_batch(&self.dresser, output, &mut self.outbox, batch)
+    }
+
+    /// Breaks the stream off: writes what waits, and behind it the start of a message that never ends. So no reader takes what is
+    /// written for a whole stream. A write that failed is counted.
+    pub fn break_off<W: Output>(&mut self, output: &mut W)
+        requires { CanFail (W.failures output.old) }
+        ensures { (schema : Schema) (rows : Rows) (start : Option (List ℕ)) →
+            SoFar schema rows start (W.contents output.old) self.old.waiting →
+            BreaksOff schema rows start (W.contents output.new) (W.failures output.old) (W.failures output.new) }
+    {
+        break_off(output, &mut self.outbox);
     }
 
     /// Ends the stream: writes the end marker, and what waits.
@@ -104,7 +118,6 @@ impl StreamWriter {
         ensures cause { FailsByTransport result }
     {
         let mut outbox = self.outbox;
-        outbox.send_part(output, &END_MARKER)?;
-        outbox.flush(output)
+        write_last(output, &mut outbox, &END_MARKER)
     }
 }

@@ -200,7 +200,7 @@ where
 
 // Connections whose server answers so.
 #[derive(Drop)]
-struct Answering<'a> {
+pub(crate) struct Answering<'a> {
     alloc: Global,
     answer: &'a [u8],
     made: u32,
@@ -227,6 +227,15 @@ impl<'a> Connect for Answering<'a> {
     fn connect(&mut self, _port: u16) -> io::Result<(MemoryInput<'a>, MemoryOutput)> {
         self.made = self.made.saturating_add(1);
         Ok((MemoryInput::new(self.answer), MemoryOutput::new(self.alloc)))
+    }
+}
+
+// Connections whose server answers so, of which none was made.
+pub(crate) fn answering(alloc: Global, answer: &[u8]) -> Answering<'_> {
+    Answering {
+        alloc,
+        answer,
+        made: 0,
     }
 }
 
@@ -293,11 +302,7 @@ pub(crate) static PUTS: [Case; 8] = [
 
 // What a put comes to: its exit status, how many connections it made, its lines, and what is said of faults.
 pub(crate) fn told_put(alloc: Global, case: &Case) -> Result<String, AllocError> {
-    let mut network = Answering {
-        alloc,
-        answer: case.answer,
-        made: 0,
-    };
+    let mut network = answering(alloc, case.answer);
     let mut input = MemoryInput::new(case.input).failing_after(case.calls);
     let mut lines = MemoryOutput::new(alloc);
     let mut said = MemoryOutput::new(alloc);

@@ -4,6 +4,7 @@
 
 mod asking;
 mod at_once;
+mod breaking;
 mod clients;
 mod expiring;
 mod formats;
@@ -12,6 +13,7 @@ mod side_by_side;
 mod streams;
 mod texts;
 
+use crate::breaking::{STOPPING, told_stream};
 use crate::clients::{PUTS, told_port, told_put};
 use crate::serving::{Client, beside};
 use crate::side_by_side::told_order;
@@ -41,6 +43,10 @@ fn main(rt: HostRuntime) -> io::Result<()> {
     for case in PUTS.iter() {
         let put = told_put(alloc, case)?;
         println!(rt; "{}: {put}", case.name)?;
+    }
+    for case in STOPPING.iter() {
+        let stream = told_stream(&rt, alloc, case)?;
+        println!(rt; "{}: {stream}", case.name)?;
     }
     let order = told_order(&rt, alloc)?;
     println!(rt; "second ends first: {order}")

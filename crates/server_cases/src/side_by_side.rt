@@ -19,7 +19,7 @@ use std::time::{Clock, Duration};
 use std::{io, thread};
 
 // The answer to an info: one FlightInfo of two endpoints, with the tickets `A` and `B`, and status 0.
-const INFO: &[u8] =
+pub(crate) const INFO: &[u8] =
     b"\x02\x00\x00\x00\x00\x0e\x1a\x05\x0a\x03\x0a\x01A\x1a\x05\x0a\x03\x0a\x01B\x04\x00\x00\x00";
 
 // An input whose reads behind the first one wait until another connection was closed, or for 10,000 turns.
@@ -135,7 +135,10 @@ fn part(from: usize, to: usize) -> &'static [u8] {
 }
 
 // Adds the answer to a fetch: the schema, a batch of five rows with these letters of texts, and status 0.
-fn add_stream(answer: &mut Vec<u8>, letters: &'static [u8]) -> Result<(), AllocError> {
+pub(crate) fn add_stream(
+    answer: &mut Vec<u8>,
+    letters: &'static [u8],
+) -> Result<(), AllocError> {
     let pieces = [
         b"\x02\x00\x00\x00\x01\x03\x12\x80\x02",
         part(8, 264),

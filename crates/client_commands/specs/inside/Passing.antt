@@ -1,5 +1,5 @@
 -- Inside: streams that are written as they come.
-use Rattle.std.specs.Prelude.{◌≡◌, ◌⊎◌, ℕ, true, List, [], ◌∷◌, ◌++◌, Option, Some, Result, Ok, Err}
+use Rattle.std.specs.Prelude.{◌≡◌, ◌⊎◌, ℕ, ◌+◌, true, List, [], ◌∷◌, ◌++◌, Option, Some, Result, Ok, Err}
 use Rattle.scan_base.specs.declared.fault.Fault.{Fault}
 use Rattle.scan_base.specs.declared.fault.Fault.TheVariants.{LimitReached, OutOfMemory, Transport}
 use Rattle.arrow_schema.specs.declared.schema.Schema.{Schema}
@@ -10,8 +10,8 @@ use Rattle.flight_proto.specs.FlightInfo.{EndpointSaid}
 use Rattle.flight_client.specs.Join.{joined}
 use Rattle.flight_client.specs.Stream.{StreamAt}
 use Rattle.flight_info.specs.Payloads.{Payload}
-use Rattle.row_stream.specs.Stream.{numbered_schema, CountsTransport}
-use Rattle.row_stream.specs.Writing.{WriterAt, SoFar, Stopped}
+use Rattle.row_stream.specs.Stream.{numbered_schema, BreaksOff, WritesBeginning}
+use Rattle.row_stream.specs.Writing.{WriterAt, SoFar}
 use Rattle.client_calls.specs.declared.failure.Failure.{Failure}
 use Rattle.client_calls.specs.declared.failure.Failure.TheVariants.{Found}
 use Rattle.client_calls.specs.Outcome.{Line}
@@ -56,6 +56,11 @@ pub record HasPassed (ticket : Payload) (schema own : Schema) (rows : Rows) (sta
   pub so : SoFar (numbered_schema schema) (rows ++ stream.rows) start out'.bytes writer.waiting
   pub quiet : out'.failures ≡ out.failures
 
+-- what was written where this end found a fault: a write that failed is counted, and at another one the stream breaks off
+abbrev pub EndsAt : Fault → Schema → Rows → Option (List ℕ) → Option (List ℕ) → ℕ → ℕ → Type 0
+EndsAt Transport schema rows old new failed failed' = WritesBeginning schema rows old new × (failed' ≡ failed + 1)
+EndsAt fault schema rows old new failed failed' = BreaksOff schema rows old new failed failed'
+
 -- it stopped behind some rows
 pub record StopsPassing (ticket : Payload) (schema own : Schema) (rows : Rows) (start : Option (List ℕ)) (begun : Line)
     (failure : Failure) (now : Line) (out out' : Said) : Type 0 where
@@ -63,10 +68,17 @@ pub record StopsPassing (ticket : Payload) (schema own : Schema) (rows : Rows) (
   pub some : Line
   pub fetching : IsFetching ticket stream begun some
   pub says : SaysSchema stream own
-  pub wrote : Stopped (numbered_schema schema) (rows ++ stream.rows) start out'.bytes
-  pub why : (FetchGives ticket (Err failure) begun now × (out'.failures ≡ out.failures))
+  pub why : (FetchGives ticket (Err failure) begun now
+      × BreaksOff (numbered_schema schema) (rows ++ stream.rows) start out'.bytes out.failures out'.failures)
       ⊎ ((fault : Fault) × (failure ≡ Found fault) × WhyUnwritten schema stream fault
-      × CountsTransport {A = Unit {0}} (Err fault) out.failures out'.failures × (now ≡ some))
+      × EndsAt fault (numbered_schema schema) (rows ++ stream.rows) start out'.bytes out.failures out'.failures × (now ≡ some))
+
+-- a failure breaks off what is written, and else nothing more is written
+abbrev pub BreaksAtFailure : {A : Type 0} → Result A Failure → WriterAt → WriterAt → Said → Said → Type 0
+BreaksAtFailure (Ok x) old new out out' = (new ≡ old) × (out' ≡ out)
+BreaksAtFailure (Err failure) old new out out' =
+    (schema : Schema) (rows : Rows) (start : Option (List ℕ)) → SoFar schema rows start out.bytes old.waiting
+    → BreaksOff schema rows start out'.bytes out.failures out'.failures
 
 abbrev pub PassesBatches : Result (Unit {0}) Failure → Payload → Schema → Schema → Rows → Option (List ℕ) → Line → FetchAt → Said → Said → WriterAt → Type 0
 PassesBatches (Ok done) ticket schema own rows start begun now out out' writer = HasPassed ticket schema own rows start begun now out out' writer

@@ -1,5 +1,7 @@
 -- Inside: a batch that is cut into messages.
 use Rattle.std.specs.Prelude.{◌≡◌, ◌≤◌, ◌<◌, ℕ, ◌+◌, List, [], ◌∷◌, ◌++◌, All, length, map}
+use Rattle.scan_base.specs.declared.fault.Fault.{Fault}
+use Rattle.scan_base.specs.declared.fault.Fault.TheVariants.{LimitReached, OutOfMemory}
 use Rattle.arrow_schema.specs.declared.schema.Schema.{Schema}
 use Rattle.arrays.specs.Batch.{BatchAt, cut_batch, rows_of}
 use Rattle.ipc_batch.specs.Dressed.{IsDressed}
@@ -7,7 +9,7 @@ use Rattle.ipc_batch.specs.Written.{SaysBatch}
 use Rattle.dressed_batches.specs.Lengths.{bodies_length}
 use Rattle.ipc_stream.specs.declared.message.IpcMessage.{IpcMessage}
 use Rattle.ipc_stream.specs.Stream.{IsMessage}
-use Rattle.row_stream.specs.Stream.{sent_in, HasShortBody}
+use Rattle.row_stream.specs.Stream.{sent_in, HasShortBody, HasShortRows}
 use Rattle.row_stream.specs.declared.cutting.Cut.{Cut}
 
 -- messages of dictionaries, and one that says a batch behind them, in bodies that together have no more bytes than there is room for
@@ -37,3 +39,9 @@ pub record IsCut (schema : Schema) (batch : BatchAt) (at most : ℕ) (cut : Cut)
   pub few : cut.end ≤ at + most
   pub within : cut.end ≤ batch.rows
   pub says : SayBatch (HasShortBody schema) schema (cut_batch batch at cut.end) cut.parcel
+
+-- why no more rows of a batch were cut: memory was refused, or one row and its dictionaries have bodies of 2 to the 31 bytes or more
+abbrev pub IsUncut : Schema → BatchAt → Fault → Type 0
+IsUncut schema batch OutOfMemory = Unit {0}
+IsUncut schema batch LimitReached = ¬ HasShortRows schema batch
+IsUncut schema batch _ = ⊥

@@ -1,8 +1,9 @@
-use Rattle.std.proofs.Common.{Some, Err, refl, subst, ◌∙◌, ℕ}
+use Rattle.std.proofs.Common.{Some, refl, ap, ◌∙◌}
 use Rattle.std.proofs.lemmas.Result.{err_from_is_err_and}
-use Rattle.row_stream.specs.Stream.{CountsTransport}
+use Rattle.row_stream.specs.Writing.{WriterAt}
 use Rattle.client_calls.specs.Taking.{with_batch}
-use Rattle.client_commands.proofs.Passing.{all_passed, batch_passed, batch_stopped, fetch_failed, fits_next, typed_by}
+use Rattle.command_ends.specs.Printing.{Said}
+use Rattle.client_commands.proofs.Passing.{all_passed, batch_passed, batch_stopped, fetch_failed, fits_next, same_passing, typed_by}
 use Rattle.client_commands.proofs.streaming.pass_batches.Goals as goal
 
 pub loop-batch-init : goal.loop-batch-init
@@ -12,20 +13,23 @@ pub write_batch-requires-clause-typed : goal.write_batch-requires-clause-typed
 write_batch-requires-clause-typed g c =
     let i = c.loop-batch.invariant in
     let has = rw c.in-Some.is at c.in_ok-batch.ensures.columns in
-    typed_by c.next.new.self.state c.loop-batch.writer.schema c.in-Some.batch (fits_next _ _ _ _ i.fits c.in_ok-batch.ensures.kept refl) has
+    let still = c.in_ok-batch.ensures.written in
+    typed_by c.next_batch.new.fetching.state c.next_batch.new.writer.schema c.in-Some.batch (fits_next _ _ _ _ i.fits c.in_ok-batch.ensures.kept (ap (λ (w : WriterAt). w.schema) still.0)) has
 
 pub loop-batch-preserved : goal.loop-batch-preserved
 loop-batch-preserved g c =
     let i = c.loop-batch.invariant in
     let came = rw c.in-Some.is at c.in_ok-batch.ensures.next in
+    let still = c.in_ok-batch.ensures.written in
     record {
       passes = λ ticket schema own rows start begun stream none passing.
-          let before = i.passes ticket schema own rows start begun stream none passing in (
-            with_batch before.0 c.next.new.self.state (Some c.in-Some.batch),
-            batch_passed ticket schema own rows start begun before.0 _ _ _ before.1 c.next.new.self.state c.next.new.self.line c.in-Some.batch (came ticket before.0 begun before.1.state before.1.fetching) c.in_ok-batch.ensures.kept _ _ c.write_batch.new.self refl refl c.in_ok-write_batch.ensures.kept c.in_ok-write_batch.ensures.bytes,
+          let before = i.passes ticket schema own rows start begun stream none passing in
+          let passing = same_passing ticket schema own rows start begun before.0 _ _ _ before.1 _ _ still.0 still.1 in (
+            with_batch before.0 c.next_batch.new.fetching.state (Some c.in-Some.batch),
+            batch_passed ticket schema own rows start begun before.0 _ _ _ passing c.next_batch.new.fetching.state c.next_batch.new.fetching.line c.in-Some.batch (came ticket before.0 begun before.1.state before.1.fetching) c.in_ok-batch.ensures.kept _ _ c.write_batch.new.self refl refl c.in_ok-write_batch.ensures.kept c.in_ok-write_batch.ensures.bytes,
           );
-      fits = fits_next _ _ _ _ i.fits c.in_ok-batch.ensures.kept c.in_ok-write_batch.ensures.kept;
-      count = c.in_ok-write_batch.ensures.counted ∙ i.count;
+      fits = fits_next _ _ _ _ i.fits c.in_ok-batch.ensures.kept (c.in_ok-write_batch.ensures.kept ∙ ap (λ (w : WriterAt). w.schema) still.0);
+      count = c.in_ok-write_batch.ensures.counted ∙ ap (λ (s : Said). s.failures) still.1 ∙ i.count;
       reads = c.in_ok-batch.ensures.quiet ∙ i.reads;
     }
 
@@ -34,21 +38,24 @@ returns-in_err-batch g c ticket schema own rows start begun stream none passing 
     let i = c.loop-batch.invariant in
     let before = i.passes ticket schema own rows start begun stream none passing in
     let p = err_from_is_err_and c.from_residual.result c.from_residual.ensures.1 in
-    rw (p.1, p.2) (fetch_failed ticket schema own rows start begun before.0 _ _ _ before.1 _ _ _ (c.in_err-batch.ensures.next ticket before.0 begun before.1.state before.1.fetching) i.count)
+    rw (p.1, p.2) (fetch_failed ticket schema own rows start begun before.0 _ _ _ before.1 _ _ _ _ _ (c.in_err-batch.ensures.next ticket before.0 begun before.1.state before.1.fetching) i.count c.in_err-batch.ensures.written)
 
 pub returns-in_err-write_batch : goal.returns-in_err-write_batch
 returns-in_err-write_batch g c ticket schema own rows start begun stream none passing =
     let i = c.loop-batch.invariant in
     let before = i.passes ticket schema own rows start begun stream none passing in
     let came = rw c.in-Some.is at c.in_ok-batch.ensures.next in
+    let still = c.in_ok-batch.ensures.written in
+    let passing = same_passing ticket schema own rows start begun before.0 _ _ _ before.1 _ _ still.0 still.1 in
     let p = err_from_is_err_and c.from_residual-in_err-write_batch.result c.from_residual-in_err-write_batch.ensures.1 in
     rw (p.1, p.2)
-    (batch_stopped ticket schema own rows start begun before.0 _ _ _ before.1 c.next.new.self.state c.next.new.self.line c.in-Some.batch (came ticket before.0 begun before.1.state before.1.fetching) c.in_ok-batch.ensures.kept _ _ _ _ c.write_batch.new.self.waiting refl c.in_err-write_batch.ensures.bytes c.in_err-write_batch.ensures.cause
-    (subst (λ (n : ℕ). CountsTransport {A = Unit {0}} (Err c.in_err-write_batch.field-0.0) n (g.O.Output.failures c.write_batch.new.output)) i.count c.in_err-write_batch.ensures.counted))
+    (batch_stopped ticket schema own rows start begun before.0 _ _ _ passing c.next_batch.new.fetching.state c.next_batch.new.fetching.line c.in-Some.batch (came ticket before.0 begun before.1.state before.1.fetching) c.in_ok-batch.ensures.kept _ _ _ _ c.write_batch.new.self.waiting refl (ap (λ (s : Said). s.failures) still.1 ∙ i.count) c.in_err-write_batch.ensures.bytes c.in_err-write_batch.ensures.cause c.in_err-write_batch.ensures.counted)
 
 pub returns : goal.returns
 returns g c ticket schema own rows start begun stream none passing =
     let i = c.loop-batch.invariant in
     let before = i.passes ticket schema own rows start begun stream none passing in
     let came = rw c.in_default.is at c.in_ok-batch.ensures.next in
-    all_passed ticket schema own rows start begun before.0 _ _ _ before.1 _ _ (came ticket before.0 begun before.1.state before.1.fetching) c.in_ok-batch.ensures.kept i.count
+    let still = c.in_ok-batch.ensures.written in
+    let passing = same_passing ticket schema own rows start begun before.0 _ _ _ before.1 _ _ still.0 still.1 in
+    all_passed ticket schema own rows start begun before.0 _ _ _ passing _ _ (came ticket before.0 begun before.1.state before.1.fetching) c.in_ok-batch.ensures.kept (ap (λ (s : Said). s.failures) still.1 ∙ i.count)

@@ -11,7 +11,7 @@ pub returns-in_err-fetching : goal.returns-in_err-fetching
 returns-in_err-fetching g c =
     let p = err_from_is_err_and c.from_residual.result c.from_residual.ensures.1 in
     let e = rw c.deref.ensures.value at c.in_err-fetching.ensures in
-    rw (p.1, p.2) (λ behind. (e.0, not_begun [] behind (endpoint_said c.args.endpoint.now) [] c.args.connection c.args.connection refl _ e.0 _ _ (inl refl) refl e.1))
+    rw (p.1, p.2) (λ behind. (e.0, not_begun [] behind (endpoint_said c.args.endpoint.now) [] c.args.connection c.args.connection refl _ e.0 _ _ (inl refl) e.1))
 
 pub returns-in_err-writer : goal.returns-in_err-writer
 returns-in_err-writer g c =

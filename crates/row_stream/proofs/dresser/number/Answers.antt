@@ -1,4 +1,4 @@
-use Rattle.std.proofs.Common.{◌≡◌, ◌<◌, length, List, sym, subst, get_or, arith}
+use Rattle.std.proofs.Common.{◌≡◌, ◌<◌, length, List, subst, get_or, arith}
 use Rattle.arrow_schema.specs.declared.schema.Field.{Field}
 use Rattle.row_stream.proofs.Numbers.{numbered_next}
 use Rattle.row_stream.proofs.dresser.number.Goals as goal

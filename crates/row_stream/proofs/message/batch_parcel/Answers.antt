@@ -1,4 +1,4 @@
-use Rattle.std.proofs.Common.{length, map, Option, Result, IfOk, IfSome, List, sym, subst, arith}
+use Rattle.std.proofs.Common.{IfOk, IfSome, sym, subst, arith}
 use Rattle.arrow_schema.specs.declared.schema.Schema.{Schema}
 use Rattle.arrays.specs.Typed.{AreOfTypes}
 use Rattle.dressed_batches.specs.Dress.{IsDressedBatch}
