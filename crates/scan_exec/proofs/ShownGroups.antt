@@ -33,7 +33,7 @@ use Rattle.row_sources.proofs.Giving.{filter-all}
 use Rattle.row_sources.proofs.JoinSteps.{as_many, whole_part}
 use Rattle.scan_exec.specs.Answering.{answer_for}
 use Rattle.scan_exec.specs.Different.{StandFor, item_at}
-use Rattle.scan_exec.specs.Giving.{GivingAt, GivingOn, GivesBatch, GivesNone, GivesNext}
+use Rattle.scan_exec.specs.Giving.{GivingAt, GivingOn, GivesBatch, GivesNone, GivesNext, MakesReady}
 use Rattle.scan_exec.specs.ShownGroups.{ShowsAll, with_cells}
 
 -- a row with its cells of these numbers
@@ -66,6 +66,23 @@ module _ (before after : GivingAt) (picker : Picker) (shows : ShowsAll before pi
     all = gives.all;
     on = on_shown gives.on;
   }
+
+  -- what is made before the first row
+  pub ready_shown : (result : Result (Unit {0}) AllocError) → MakesReady before result after → MakesReady (with_cells picker.shown.items before) result (with_cells picker.shown.items after)
+  ready_shown (Ok _) ready = record { same = ap (map (show picker.shown.items)) ready.same; on = on_shown ready.on }
+  ready_shown (Err refused) on = on_shown on
+
+  -- all rows are shown then too
+  pub still_shows : (result : Result (Unit {0}) AllocError) → MakesReady before result after → ShowsAll after picker
+  still_shows result ready = record {
+    all = shows.all;
+    unread = shows.unread;
+    there = ap (λ (types : List DataType). are_within (length types) picker.shown.items) (types result ready) ∙ shows.there;
+  }
+    where
+      types : (result : Result (Unit {0}) AllocError) → MakesReady before result after → after.types ≡ before.types
+      types (Ok _) ready = ready.on.types
+      types (Err refused) on = on.types
 
   -- what is given of all rows of a batch
   given_whole : (part : Part) → part.from ≡ 0 → part.to ≡ part.batch.now.rows →

@@ -4,4 +4,4 @@ use Rattle.group_workers.proofs.workers.groups_beside.Goals as goal
 
 pub in_order-requires-clause-takes : goal.in_order-requires-clause-takes
 in_order-requires-clause-takes g c lifetimes met =
-    can_merge (work_at c.args.work.now) c.part_count-parts.result c.args.workers c.requires c.part_count-parts.ensures
+    (can_merge (work_at c.args.work.now) c.part_count-parts.result c.args.workers c.requires.can c.part_count-parts.ensures, c.requires.ready)
