@@ -2,7 +2,7 @@
 
 ghost use Rattle.std.specs.Prelude.{◌≡◌, IfOk, OnOk};
 ghost use Rattle.group_workers.specs.Merging.{AreNextGroups, CanMerge, IsNextPart};
-ghost use Rattle.scan_exec.specs.GroupWork.{work_at};
+ghost use Rattle.scan_exec.specs.GroupWork.{GroupsOfAll, work_at};
 
 use crate::parts::{count_before, row_count};
 use grouping::Groups;
@@ -18,13 +18,13 @@ const TURN_ROWS: usize = 1_048_576;
 
 // Parts of the batches as morsels, each answered by its groups. A worker feeds some of its batches ahead, turn by turn.
 #[derive(Clone, Copy, Drop)]
-pub(crate) struct PartGroups<'w, 't, 'p> {
-    pub(crate) work: &'w GroupWork<'t, 'p>,
+pub(crate) struct PartGroups<'w, 't> {
+    pub(crate) work: &'w GroupWork<'t>,
     pub(crate) parts: usize,
 }
 
-impl<'w, 't, 'p> Work for PartGroups<'w, 't, 'p> {
-    type Answer = Result<FedPart<'t, 'p>, Fault>;
+impl<'w, 't> Work for PartGroups<'w, 't> {
+    type Answer = Result<FedPart<'t>, Fault>;
 
     ghost use Rattle.group_workers.specs.Merging.{IsPartAt};
     ghost use Rattle.scan_exec.specs.GroupWork.{CanBeGrouped, work_at};
@@ -39,7 +39,7 @@ impl<'w, 't, 'p> Work for PartGroups<'w, 't, 'p> {
         self.parts
     }
 
-    fn answer(&self, alloc: Global, morsel: usize) -> Result<FedPart<'t, 'p>, Fault> {
+    fn answer(&self, alloc: Global, morsel: usize) -> Result<FedPart<'t>, Fault> {
         let work = self.work;
         let batches = work.shape.batches.len();
         let from = count_before(batches, self.parts, morsel);
@@ -47,7 +47,7 @@ impl<'w, 't, 'p> Work for PartGroups<'w, 't, 'p> {
         work.begin_part(alloc, from, to)
     }
 
-    fn go_on(&self, alloc: Global, answer: &mut Result<FedPart<'t, 'p>, Fault>) -> bool {
+    fn go_on(&self, alloc: Global, answer: &mut Result<FedPart<'t>, Fault>) -> bool {
         let Ok(part) = std::mem::replace(answer, Err(Fault::OutOfMemory)) else {
             return false;
         };
@@ -62,13 +62,13 @@ impl<'w, 't, 'p> Work for PartGroups<'w, 't, 'p> {
 }
 
 // Merges the groups of each part behind those of the parts before it, watched.
-pub(crate) struct Merging<'w, 't, 'p, 'l, L> {
+pub(crate) struct Merging<'w, 't, 'l, L> {
     pub(crate) alloc: Global,
-    pub(crate) work: &'w GroupWork<'t, 'p>,
+    pub(crate) work: &'w GroupWork<'t>,
     pub(crate) watch: &'l mut L,
 }
 
-impl<'w, 't, 'p, 'l, L: Watches> Reads<Result<FedPart<'t, 'p>, Fault>> for Merging<'w, 't, 'p, 'l, L> {
+impl<'w, 't, 'l, L: Watches> Reads<Result<FedPart<'t>, Fault>> for Merging<'w, 't, 'l, L> {
     type Out = Result<Groups<'t>, Fault>;
 
     ghost use Rattle.std.specs.Prelude.{◌≡◌, OnOk};
@@ -80,30 +80,47 @@ impl<'w, 't, 'p, 'l, L: Watches> Reads<Result<FedPart<'t, 'p>, Fault>> for Mergi
     ghost reads = { λ m right count out new. GroupsOfAll (work_at m.work.now) out
         × (new.watch.ghost_name ≡ m.watch.ghost_name) × OnOk out (L.ready new.watch.now) × L.watched m.watch.now new.watch.now };
 
-    fn read<P: Answers<Result<FedPart<'t, 'p>, Fault>>>(
+    fn read<P: Answers<Result<FedPart<'t>, Fault>>>(
         &mut self,
         answers: &mut P,
     ) -> Result<Groups<'t>, Fault> {
-        let (alloc, work) = (self.alloc, self.work);
-        let mut untold = row_count(work.shape.batches);
-        let Some(first) = next_groups(alloc, work, answers, &mut untold, self.watch)? else {
-            return Ok(Groups::new(alloc, work.seed, work.shape)?);
-        };
-        let mut groups = first;
-        while let Some(part) = next_groups(alloc, work, answers, &mut untold, self.watch)? {
-            groups.merge(alloc, part)?;
-        }
-        Ok(groups)
+        merge_parts(self.alloc, self.work, answers, self.watch)
     }
+}
+
+// The groups of all parts, merged in the order of the parts, watched.
+fn merge_parts<'t, P: Answers<Result<FedPart<'t>, Fault>>, L: Watches>(
+    alloc: Global,
+    work: &GroupWork<'t>,
+    answers: &mut P,
+    watch: &mut L,
+) -> Result<Groups<'t>, Fault>
+    requires ready { P.ready answers.old }
+    requires begin { P.given answers.old ≡ 0 }
+    requires can { CanMerge (work_at work.now) P.right (P.count answers.old) }
+    requires watch { L.ready watch.old }
+    ensures groups { GroupsOfAll (work_at work.now) result }
+    ensures watch { OnOk result (L.ready watch.new) }
+    ensures watched { L.watched watch.old watch.new }
+{
+    let mut untold = row_count(work.shape.batches);
+    let Some(first) = next_groups(alloc, work, answers, &mut untold, watch)? else {
+        return Ok(Groups::new(alloc, work.seed, work.shape)?);
+    };
+    let mut groups = first;
+    while let Some(part) = next_groups(alloc, work, answers, &mut untold, watch)? {
+        groups.merge(alloc, part)?;
+    }
+    Ok(groups)
 }
 
 // The part that is answered next, or none behind the last one. Behind each turn of its worker, who watches may end it. So many
 // rows of turns are untold.
-fn next_part<'t, 'p, P: Answers<Result<FedPart<'t, 'p>, Fault>>, L: Watches>(
+fn next_part<'t, P: Answers<Result<FedPart<'t>, Fault>>, L: Watches>(
     answers: &mut P,
     untold: &mut usize,
     watch: &mut L,
-) -> Result<Option<FedPart<'t, 'p>>, Fault>
+) -> Result<Option<FedPart<'t>>, Fault>
     requires ready { P.ready answers.old }
     requires watch { L.ready watch.old }
     ensures ready { P.ready answers.new }
@@ -131,9 +148,9 @@ fn next_part<'t, 'p, P: Answers<Result<FedPart<'t, 'p>, Fault>>, L: Watches>(
 }
 
 // The groups of the part that is answered next, or none behind the last one. What its worker has not fed is fed here.
-fn next_groups<'t, 'p, P: Answers<Result<FedPart<'t, 'p>, Fault>>, L: Watches>(
+fn next_groups<'t, P: Answers<Result<FedPart<'t>, Fault>>, L: Watches>(
     alloc: Global,
-    work: &GroupWork<'t, 'p>,
+    work: &GroupWork<'t>,
     answers: &mut P,
     untold: &mut usize,
     watch: &mut L,

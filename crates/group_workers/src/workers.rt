@@ -31,7 +31,7 @@ pub trait StartsGroupWorkers {
     fn groups_beside<'t, L: Watches>(
         &self,
         alloc: Global,
-        work: &GroupWork<'t, '_>,
+        work: &GroupWork<'t>,
         workers: usize,
         watch: &mut L,
     ) -> Result<Groups<'t>, Fault>
@@ -51,7 +51,7 @@ impl<R: Threads + Wait + Sync> StartsGroupWorkers for R {
     fn groups_beside<'t, L: Watches>(
         &self,
         alloc: Global,
-        work: &GroupWork<'t, '_>,
+        work: &GroupWork<'t>,
         workers: usize,
         watch: &mut L,
     ) -> Result<Groups<'t>, Fault> {
@@ -89,7 +89,7 @@ impl<'h, R: StartsGroupWorkers> GroupsBatches for GroupWorkers<'h, R> {
     fn groups_of_all<'t, L: Watches>(
         &self,
         alloc: Global,
-        work: &GroupWork<'t, '_>,
+        work: &GroupWork<'t>,
         watch: &mut L,
     ) -> Result<Groups<'t>, Fault> {
         let batches = work.shape.batches;
@@ -105,7 +105,7 @@ impl<'h, R: StartsGroupWorkers> GroupsBatches for GroupWorkers<'h, R> {
 fn groups_beside<'t, R: Threads + Wait + Sync, L: Watches>(
     rt: &R,
     alloc: Global,
-    work: &GroupWork<'t, '_>,
+    work: &GroupWork<'t>,
     workers: usize,
     watch: &mut L,
 ) -> Result<Groups<'t>, Fault>

@@ -17,19 +17,19 @@ const TURN_ROWS: usize = 1_048_576;
 
 /// What is grouped: those rows of batches that filters let through.
 #[derive(Clone, Copy, Drop)]
-pub struct GroupWork<'t, 'p> {
+pub struct GroupWork<'t> {
     /// What the hashes of keys begin with.
     pub seed: HashSeed,
     /// The batches, the types of their columns, the columns that are the key, and what is wanted of each group.
     pub shape: Grouping<'t>,
     /// The filters.
-    pub picker: &'p Picker,
+    pub picker: &'t Picker,
 }
 
 /// A part of the batches, from one up to, not with, another, with the groups of those before `at`, which were fed. A contract sees
 /// what is grouped, and where the part begins, stands and ends.
-pub struct FedPart<'t, 'p> {
-    work: GroupWork<'t, 'p>,
+pub struct FedPart<'t> {
+    work: GroupWork<'t>,
     groups: Groups<'t>,
     from: usize,
     at: usize,
@@ -38,7 +38,7 @@ pub struct FedPart<'t, 'p> {
     selection: Selection,
 }
 
-impl<'t, 'p> Model for FedPart<'t, 'p> {
+impl<'t> Model for FedPart<'t> {
     ghost use Rattle.scan_exec.specs.GroupWork.{IsPartFed, PartAt, part_at, work_at};
 
     ghost Value = { PartAt };
@@ -49,7 +49,7 @@ impl<'t, 'p> Model for FedPart<'t, 'p> {
 }
 
 // Written out, so that dropping it is one call (docs/DECISIONS.md).
-impl<'t, 'p> Drop for FedPart<'t, 'p> {
+impl<'t> Drop for FedPart<'t> {
     fn drop(self) {
         let FedPart {
             work: _,
@@ -75,7 +75,7 @@ pub trait GroupsBatches {
     fn groups_of_all<'t, W: Watches>(
         &self,
         alloc: Global,
-        work: &GroupWork<'t, '_>,
+        work: &GroupWork<'t>,
         watch: &mut W,
     ) -> Result<Groups<'t>, Fault>
         requires can { CanBeGrouped (work_at work.now) }
@@ -93,7 +93,7 @@ impl GroupsBatches for InOneWalk {
     fn groups_of_all<'t, W: Watches>(
         &self,
         alloc: Global,
-        work: &GroupWork<'t, '_>,
+        work: &GroupWork<'t>,
         watch: &mut W,
     ) -> Result<Groups<'t>, Fault> {
         let part = work.begin_part(alloc, 0, work.shape.batches.len())?;
@@ -101,18 +101,13 @@ impl GroupsBatches for InOneWalk {
     }
 }
 
-impl<'t, 'p> GroupWork<'t, 'p> {
+impl<'t> GroupWork<'t> {
     /// A part of the batches, of which none was fed yet.
     ///
     /// # Errors
     ///
     /// F21 (`Fault::OutOfMemory`) where memory is refused.
-    pub fn begin_part(
-        &self,
-        alloc: Global,
-        from: usize,
-        to: usize,
-    ) -> Result<FedPart<'t, 'p>, Fault>
+    pub fn begin_part(&self, alloc: Global, from: usize, to: usize) -> Result<FedPart<'t>, Fault>
         requires can { CanBeGrouped (work_at self.now) }
         requires ordered { from ≤ to }
         requires there { to ≤ length self.now.shape.batches.now }
@@ -130,9 +125,9 @@ impl<'t, 'p> GroupWork<'t, 'p> {
     }
 }
 
-impl<'t, 'p> FedPart<'t, 'p> {
+impl<'t> FedPart<'t> {
     // The same part, with its next batch fed, and how many rows that has.
-    fn feed_next(self, alloc: Global) -> Result<(FedPart<'t, 'p>, usize), Fault>
+    fn feed_next(self, alloc: Global) -> Result<(FedPart<'t>, usize), Fault>
         requires more { self.at < self.to }
         ensures next { IfOk result (λ fed. fed.0 ≡ record self.entry { at = self.entry.at + 1 }) }
         ensures rows { IfOk result (λ fed. CountsNext self.entry fed.1) }
@@ -169,7 +164,7 @@ impl<'t, 'p> FedPart<'t, 'p> {
     /// # Errors
     ///
     /// F21 (`Fault::OutOfMemory`) where memory is refused.
-    pub fn feed_turn(self, alloc: Global) -> Result<(FedPart<'t, 'p>, bool), Fault>
+    pub fn feed_turn(self, alloc: Global) -> Result<(FedPart<'t>, bool), Fault>
         ensures { IfOk result (λ fed. IsSamePart self.entry fed.0) }
     {
         let mut part = self;

@@ -1,5 +1,3 @@
-use Rattle.std.proofs.Common.{ℕ, ◌+◌, ap, ◌∙◌}
-use Rattle.group_workers.specs.Parts.{batches_before}
 use Rattle.scan_exec.specs.GroupWork.{work_at}
 use Rattle.group_workers.proofs.Merged.{begun_at}
 use Rattle.group_workers.proofs.merging.PartGroupsWork.answer.Goals as goal
@@ -8,5 +6,4 @@ pub returns : goal.returns
 returns c =
     let part = c.args.self.now in
     begun_at (work_at part.work.now) part.parts c.args.morsel c.count_before-from.result c.count_before-to.result c.begin_part.result
-    (c.count_before-from.ensures ∙ ap (λ (n : ℕ). batches_before n part.parts c.args.morsel) c.len-batches.ensures)
-    (c.count_before-to.ensures ∙ ap (λ (n : ℕ). batches_before n part.parts (c.args.morsel + 1)) c.len-batches.ensures) c.begin_part.ensures
+    c.count_before-from.ensures c.count_before-to.ensures c.begin_part.ensures
