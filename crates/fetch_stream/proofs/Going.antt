@@ -132,7 +132,10 @@ stream_by schema begun left count refused = record { schema = schema; begun = be
 -- a stream whose source has made what it needs is the same
 pub same_stream : (cutter : Cutter) (source new : Source) (begun : Bool) (refused : Option Fault) → Waits cutter source cutter new →
     stream_by (schema_behind new) begun (rows_left cutter new) (rows_cut cutter new) refused ≡ stream_by (schema_behind source) begun (rows_left cutter source) (rows_cut cutter source) refused
-same_stream cutter source new begun refused waits = rw (waits.keeps.schema, waits.rows, waits.same) refl
+same_stream cutter source new begun refused waits =
+    ap (λ (schema : Schema). stream_by schema begun (rows_left cutter new) (rows_cut cutter new) refused) waits.keeps.schema
+    ∙ ap (λ (left : List Row). stream_by (schema_behind source) begun left (rows_cut cutter new) refused) waits.rows
+    ∙ ap (λ (count : ℕ). stream_by (schema_behind source) begun (rows_left cutter source) count refused) waits.same
 
 -- a turn of a stream that nothing refused gives this, whatever names it has
 pub gives_so : (patience : Patience) (before one after other : StreamAt) (result : Result (Turn Parcel) Fault) (given : Turn Parcel) → before ≡ one → result ≡ Ok given → after ≡ other

@@ -256,9 +256,9 @@ impl FetchStream {
         ensures ready { OnOk result (W.ready watch.new) }
         ensures watched { W.watched watch.old watch.new }
     {
-        if self.refused.is_some() {
+        let None = self.refused else {
             return Ok(self);
-        }
+        };
         let FetchStream {
             begun,
             cutter,

@@ -11,5 +11,5 @@ invariant_of-result g c none =
 pub returns-clause-stream : goal.returns-clause-stream
 returns-clause-stream g c =
     let s = c.self.inside in
-    let none = cc in
-    same_stream s.cutter s.source c.in_ok-source.source s.begun s.refused (keeps_still s.cutter s.source c.in_ok-source.source (c.self.invariant none) c.in_ok-source.ensures.source) ∙ c.self.view_is
+    let new = c.in_ok-source.source in
+    same_stream s.cutter s.source new s.begun s.refused (keeps_still s.cutter s.source new (c.self.invariant c.in-None.is) c.in_ok-source.ensures.source) ∙ c.self.view_is
