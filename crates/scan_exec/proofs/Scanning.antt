@@ -18,7 +18,6 @@ use Rattle.scan_exec.specs.Giving.{GivingAt, GivingOn, IsOfLast, GivesBatch, Giv
 use Rattle.scan_exec.specs.Answering.{CountsNext, CountsTurn, IsScan, number_in, renumbered, scan_at}
 use Rattle.row_sources.specs.Running.{RowsAt, FindsPiece, FindsNone, Ends}
 use Rattle.row_sources.specs.declared.turn.Patience.{Patience}
-use Rattle.row_sources.specs.declared.turn.Patience.TheVariants.{Endless}
 use Rattle.row_sources.specs.declared.turn.Turn.{Turn}
 use Rattle.row_sources.specs.declared.turn.Turn.TheVariants.{Given, Working, End}
 use Rattle.scan_exec.specs.Scan.{ScanAt, Continues, IsLatest, GivesRows, GivesTurn, IsReadied, MayRefuse, Gives}

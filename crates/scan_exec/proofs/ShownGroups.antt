@@ -1,5 +1,5 @@
 -- Groups of which each different item is made once.
-use Rattle.std.proofs.Common.{◌≡◌, ◌≤◌, ◌<◌, ℕ, true, List, [], ◌∷◌, ◌++◌, length, map, get_or, nat_lt, unwrap_or, Option, Some, None, option_map, Result, Ok, Err, refl, sym, ap, ◌∙◌, arith}
+use Rattle.std.proofs.Common.{◌≡◌, ◌<◌, ℕ, true, List, [], ◌∷◌, ◌++◌, length, map, nat_lt, unwrap_or, Option, Some, None, option_map, Result, Ok, Err, refl, sym, ap, ◌∙◌, arith}
 use Rattle.std.specs.List.{filter}
 use Rattle.std.specs.declared.alloc.AllocError.{AllocError}
 use Rattle.std.proofs.lemmas.Bool.{ltb-true, and_parts}
@@ -11,7 +11,7 @@ use Rattle.arrow_schema.specs.declared.data_type.DataType.{DataType}
 use Rattle.arrow_schema.specs.declared.data_type.DataType.TheVariants.{Utf8}
 use Rattle.arrays.specs.Batch.{BatchAt, cut_batch, rows_of}
 use Rattle.arrays.specs.Typed.{AreOf}
-use Rattle.scan_base.specs.Predicate.{Pred, cell_in}
+use Rattle.scan_base.specs.Predicate.{Pred}
 use Rattle.scan_base.specs.View.{pred_of}
 use Rattle.scan_base.specs.declared.value.Value.{Value}
 use Rattle.table_versions.specs.Table.{Row}
@@ -26,7 +26,7 @@ use Rattle.opened_batches.specs.Chosen.{are_within}
 use Rattle.row_sources.specs.declared.part.Part.{Part}
 use Rattle.row_sources.specs.declared.picker.Picker.{Picker}
 use Rattle.row_sources.specs.Picked.{Picks, given_of_part}
-use Rattle.row_sources.specs.Picking.{PickAt, IsPick, cells_at, holds, pick_of}
+use Rattle.row_sources.specs.Picking.{IsPick, cells_at, holds, pick_of}
 use Rattle.row_sources.specs.Running.{RowsAt}
 use Rattle.row_sources.proofs.Cells.{cell-map}
 use Rattle.row_sources.proofs.Giving.{filter-all}

@@ -30,3 +30,7 @@ loop-part-preserved g c =
       watched = g.met.W.Watches.again _ _ _ is.watched c.in_ok-tell.ensures.watched;
       told = rw counted (g.met.W.Watches.told_again _ _ _ _ _ is.told c.in_ok-tell.ensures.told);
     }
+
+-- who watches ended it
+pub returns-in_err-tell-clause-watched : goal.returns-in_err-tell-clause-watched
+returns-in_err-tell-clause-watched g c = g.met.W.Watches.again _ _ _ c.loop-part.invariant.watched c.in_err-tell.ensures.watched

@@ -1,4 +1,4 @@
-use Rattle.std.proofs.Common.{◌≡◌, refl, sym, ◌∙◌, subst}
+use Rattle.std.proofs.Common.{refl, sym, ◌∙◌, subst}
 use Rattle.scan_exec.specs.declared.grouped.Stage.{Stage}
 use Rattle.scan_exec.specs.declared.grouped.Stage.TheVariants.{Waiting, Made}
 use Rattle.scan_exec.specs.Giving.{GivingAt, GivingOn, GivesNoneYet}
@@ -20,8 +20,8 @@ returns-in-Refused-clause-makes g c =
     let s = c.self.inside in
     subst (λ (giving : GivingAt). GivingOn giving giving) c.self.view_is (groups_on s.wanted s.rows s.rows s.stage s.stage (goes_still s.rows c.self.invariant.front))
 
-pub invariant_of-self-in-Ok : goal.invariant_of-self-in-Ok
-invariant_of-self-in-Ok g c =
+pub invariant_of-self : goal.invariant_of-self
+invariant_of-self g c =
     let made = c.in-Ok.ensures.made in
     record { front = c.made.ensures.on.opened; holds = (made.answering, made.all ∙ sym c.made.ensures.on.batches) }
 
