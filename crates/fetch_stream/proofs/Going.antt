@@ -130,9 +130,9 @@ abbrev stream_by : Schema → Bool → List Row → ℕ → Option Fault → Str
 stream_by schema begun left count refused = record { schema = schema; begun = begun; left = left; given = count; refused = refused }
 
 -- a stream whose source has made what it needs is the same
-pub same_stream : (cutter : Cutter) (source new : Source) (begun : Bool) (refused : Option Fault) → Waits cutter source cutter new →
+pub readied_stream : (cutter : Cutter) (source new : Source) (begun : Bool) (refused : Option Fault) → Waits cutter source cutter new →
     stream_by (schema_behind new) begun (rows_left cutter new) (rows_cut cutter new) refused ≡ stream_by (schema_behind source) begun (rows_left cutter source) (rows_cut cutter source) refused
-same_stream cutter source new begun refused waits =
+readied_stream cutter source new begun refused waits =
     ap (λ (schema : Schema). stream_by schema begun (rows_left cutter new) (rows_cut cutter new) refused) waits.keeps.schema
     ∙ ap (λ (left : List Row). stream_by (schema_behind source) begun left (rows_cut cutter new) refused) waits.rows
     ∙ ap (λ (count : ℕ). stream_by (schema_behind source) begun (rows_left cutter source) count refused) waits.same
