@@ -1,8 +1,8 @@
-use Rattle.std.proofs.Common.{◌≡◌, ℕ, Ok, length, take, refl, sym, ◌∙◌, subst, arith}
+use Rattle.std.proofs.Common.{◌≡◌, ℕ, Ok, length, take, sym, ◌∙◌, subst, arith}
 use Rattle.std.specs.List.{flat_map}
 use Rattle.arrays.specs.Batch.{rows_of}
 use Rattle.grouping.specs.Fed.{HasMerged}
-use Rattle.group_workers.specs.Merging.{AreNextGroups, GroupsOfPartAt}
+use Rattle.group_workers.specs.Merging.{GroupsOfPartAt}
 use Rattle.group_workers.specs.Parts.{batches_before}
 use Rattle.scan_exec.specs.GroupWork.{AreGroupsOf, passing, work_at}
 use Rattle.group_workers.proofs.Merged.{all_are, are_alike, first_are, merge_few, more_merged}
@@ -63,3 +63,9 @@ returns-clause-groups g c =
     let n = g.P.Answers.given c.loop-groups.answers in
     let next = rw (c.in_ok-part.was, c.in_default-2.is, inv.0) at c.next_groups-in-loop-groups.ensures.groups in
     all_are work parts n c.loop-groups.groups (omega (arith, next.0, inv.2, inv.0)) c.requires.can.all inv.3
+
+pub returns-clause-watched : goal.returns-clause-watched
+returns-clause-watched g c = g.met.L.Watches.again _ _ _ c.loop-groups.invariant.5 c.next_groups-in-loop-groups.ensures.watched
+
+pub returns-in_err-merge-clause-watched : goal.returns-in_err-merge-clause-watched
+returns-in_err-merge-clause-watched g c = g.met.L.Watches.again _ _ _ c.loop-groups.invariant.5 c.next_groups-in-loop-groups.ensures.watched
