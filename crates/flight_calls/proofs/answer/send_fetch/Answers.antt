@@ -45,8 +45,8 @@ returns-in-Some-clause-bytes g c database handle opens =
     (stream_rest law _ opening _ _ made _ _ _ _ _ _ waited c.send_rest.ensures.bytes)
 
 -- no memory for the rest
-pub returns-in-None-clause-bytes : goal.returns-in-None-clause-bytes
-returns-in-None-clause-bytes g c database handle opens =
+pub returns-clause-bytes : goal.returns-clause-bytes
+returns-clause-bytes g c database handle opens =
     let law = c.streams_answer.ensures in
     let opening = c.args.opening in
     let gives = first_given opening c.in-Ok.first c.in-Ok.ensures.before c.in-Ok.ensures.gives in
