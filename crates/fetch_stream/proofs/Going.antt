@@ -14,7 +14,7 @@ use Rattle.fetch_stream.specs.Streams.{StreamAt, Parcel, GivesParcel, GivesTurn,
 use Rattle.fetch_stream.specs.declared.cutter.Cutter.{Cutter}
 use Rattle.fetch_stream.specs.declared.source.Source.{Source}
 use Rattle.fetch_stream.specs.inside.Ahead.{IsGoing, schema_behind, rows_cut}
-use Rattle.fetch_stream.specs.inside.Steps.{GivesFirst, GivesRows, rows_left}
+use Rattle.fetch_stream.specs.inside.Steps.{GivesFirst, GivesRows, Waits, rows_left}
 use Rattle.fetch_stream.specs.inside.Written.{SaysRows, SaysSchema}
 use Rattle.fetch_stream.proofs.Streaming.{say_first, say_more, together_short}
 
@@ -128,6 +128,14 @@ goes_on patience cutter source End new_cutter new ends = ends.0.going
 -- a stream as it is, by its parts
 abbrev stream_by : Schema → Bool → List Row → ℕ → Option Fault → StreamAt
 stream_by schema begun left count refused = record { schema = schema; begun = begun; left = left; given = count; refused = refused }
+
+-- a stream whose source has made what it needs is the same
+pub readied_stream : (cutter : Cutter) (source new : Source) (begun : Bool) (refused : Option Fault) → Waits cutter source cutter new →
+    stream_by (schema_behind new) begun (rows_left cutter new) (rows_cut cutter new) refused ≡ stream_by (schema_behind source) begun (rows_left cutter source) (rows_cut cutter source) refused
+readied_stream cutter source new begun refused waits =
+    ap (λ (schema : Schema). stream_by schema begun (rows_left cutter new) (rows_cut cutter new) refused) waits.keeps.schema
+    ∙ ap (λ (left : List Row). stream_by (schema_behind source) begun left (rows_cut cutter new) refused) waits.rows
+    ∙ ap (λ (count : ℕ). stream_by (schema_behind source) begun (rows_left cutter source) count refused) waits.same
 
 -- a turn of a stream that nothing refused gives this, whatever names it has
 pub gives_so : (patience : Patience) (before one after other : StreamAt) (result : Result (Turn Parcel) Fault) (given : Turn Parcel) → before ≡ one → result ≡ Ok given → after ≡ other

@@ -20,11 +20,11 @@ use Rattle.dressed_batches.specs.Dress.{IsNumbered, AreNumbered, HoldsTexts, IsD
 use Rattle.row_sources.specs.declared.turn.Patience.{Patience}
 use Rattle.row_sources.specs.declared.turn.Turn.{Turn}
 use Rattle.row_sources.specs.declared.turn.Turn.TheVariants.{Given, Working, End}
-use Rattle.scan_exec.specs.Scan.{ScanAt, GivesRows, Gives, GivesTurn, MayRefuse, left}
+use Rattle.scan_exec.specs.Scan.{ScanAt, GivesRows, Gives, GivesTurn, IsReadied, MayRefuse, left}
 use Rattle.scan_exec.specs.Scan as of_scan
 use Rattle.table_versions.specs.Table.{Row, is_long_text}
 use Rattle.table_versions.proofs.Storable.{first_false, second_false}
-use Rattle.fetch_stream.specs.declared.source.Source.TheVariants.{Scanned}
+use Rattle.fetch_stream.specs.declared.source.Source.TheVariants.{Scanned, Listed}
 use Rattle.fetch_stream.specs.inside.Ahead.{IsSource, AnsweredAs}
 use Rattle.fetch_stream.specs.inside.Given.{GoesOn, GivesNext, GivesNoneYet, GivesBatch, TurnsBatch, MayRefuseSource}
 
@@ -212,3 +212,12 @@ scan_turns patience before after (Ok (Given batch)) is gives = scan_gives before
 scan_turns patience before after (Ok Working) is gives = (none_yet before after is gives.1, gives.2)
 scan_turns patience before after (Ok End) is gives = scan_gives before after (Ok None) is gives
 scan_turns patience before after (Err fault) is gives = scan_gives before after (Err fault) is gives
+
+-- the same scan, where what it needs is made
+pub scan_readied : (before after : ScanAt) → IsSource (Scanned before) → IsReadied before after → GivesNoneYet (Scanned before) (Scanned after)
+scan_readied before after is ready =
+    none_yet before after is (record { same = ready.same; given = ready.given; on = ready.on; refused = ready.refused ∙ is.begins })
+
+-- and the list of tables, which needs nothing
+pub listed_readied : (schema : Schema) → IsSource (Listed schema) → GivesNoneYet (Listed schema) (Listed schema)
+listed_readied schema is = record { on = record { source = is; schema = refl }; rows = refl; counted = λ last. refl }

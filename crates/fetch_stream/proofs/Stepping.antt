@@ -64,6 +64,23 @@ half_reaches schema cutter old same rows some within over = inr (
 
 -- ---- the next batch
 
+-- none yet: the source is behind the same rows
+pub keeps_still : (cutter : Cutter) (source new : Source) → IsGoing cutter source → GivesNoneYet source new → Waits cutter source cutter new
+keeps_still cutter source new is none = record {
+  keeps = record {
+    going = record {
+      placed = is.placed;
+      counted = omega (arith, is.counted, none.counted cutter.batch);
+      within = omega (arith, is.within, none.counted cutter.batch);
+      behind = none.on.source;
+      columns = λ more. subst (λ schema. AnsweredAs schema cutter.batch.columns) (sym none.on.schema) (is.columns more);
+    };
+    schema = none.on.schema;
+  };
+  rows = ap (λ (rows : List Row). uncut cutter ++ rows) none.rows;
+  same = omega (arith, none.counted cutter.batch);
+}
+
 module _ (keep : BatchSlicesKeepRows) (cutter : Cutter) (source new : Source) (is : IsGoing cutter source) (high : cutter.batch.rows ≤ cutter.at) where
   behind : rows_left cutter source ≡ left_behind source
   behind = ap (λ (rows : List Row). rows ++ left_behind source) (all_cut keep cutter is.placed high)
@@ -105,20 +122,7 @@ module _ (keep : BatchSlicesKeepRows) (cutter : Cutter) (source new : Source) (i
 
   -- or it is not there yet
   pub waits : GivesNoneYet source new → Waits cutter source cutter new
-  waits none = record {
-    keeps = record {
-      going = record {
-        placed = is.placed;
-        counted = omega (arith, is.counted, none.counted cutter.batch);
-        within = omega (arith, is.within, none.counted cutter.batch);
-        behind = none.on.source;
-        columns = λ more. absurd (omega (arith, more, high));
-      };
-      schema = none.on.schema;
-    };
-    rows = ap (λ (rows : List Row). uncut cutter ++ rows) none.rows;
-    same = omega (arith, none.counted cutter.batch);
-  }
+  waits none = keeps_still cutter source new is none
 
   -- or it is refused
   pub batch_refused : (fault : Fault) → MayRefuseSource source fault → Fails cutter source fault

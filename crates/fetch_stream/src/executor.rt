@@ -1,14 +1,15 @@
 //! Who makes the payloads of a stream, and who reads them.
 
-ghost use Rattle.std.specs.Prelude.{Result};
+ghost use Rattle.std.specs.Prelude.{◌≡◌, IfOk, Result, OnOk};
 ghost use Rattle.scan_base.specs.declared.fault.Fault.{Fault as FaultAt};
 ghost use Rattle.fetch_stream.specs.Streams.{StreamAt, Gives, GivesTurn};
 
 use crate::parcel::Parcel;
 use crate::stream::FetchStream;
-use row_sources::{Patience, Turn};
+use row_sources::{Patience, Turn, Watches};
 use scan_base::Fault;
-use std::alloc::Global;
+use scan_exec::InOneWalk;
+use std::alloc::{AllocError, Global};
 
 /// The payloads of an answer, one parcel at a time, whoever makes them.
 pub trait Payloads {
@@ -84,6 +85,23 @@ pub trait Executor {
     ) -> Result<(), Fault>
         requires { S.takes reader.old }
         ensures { S.reads reader.old stream result reader.new };
+
+    /// Has what a stream needs before its rows made: the groups of a grouped query. Who watches may end it. What it gives is the
+    /// same, made or not.
+    ///
+    /// # Errors
+    ///
+    /// `AllocError` where memory is refused, or who watches ends it.
+    fn ready<W: Watches>(
+        &self,
+        alloc: Global,
+        stream: FetchStream,
+        watch: &mut W,
+    ) -> Result<FetchStream, AllocError>
+        requires ready { W.ready watch.old }
+        ensures stream { IfOk result (λ readied. readied ≡ stream) }
+        ensures ready { OnOk result (W.ready watch.new) }
+        ensures watched { W.watched watch.old watch.new };
 }
 
 /// The thread that reads makes each payload itself, when it is asked for, however many workers a stream asks for.
@@ -99,6 +117,15 @@ impl Executor for OneWorker {
     ) -> Result<(), Fault> {
         let mut stream = stream;
         reader.read(alloc, &mut stream)
+    }
+
+    fn ready<W: Watches>(
+        &self,
+        alloc: Global,
+        stream: FetchStream,
+        watch: &mut W,
+    ) -> Result<FetchStream, AllocError> {
+        stream.readied(alloc, &InOneWalk, watch)
     }
 }
 

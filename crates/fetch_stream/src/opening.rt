@@ -1,6 +1,6 @@
 //! Openings: what a handle means, before a row of it is read.
 
-ghost use Rattle.std.specs.Prelude.{◌≡◌, ◌≢◌, ◌≤◌, true, false, length, nat_le, Err, IfOk, IfErr};
+ghost use Rattle.std.specs.Prelude.{◌≡◌, ◌≢◌, ◌≤◌, true, false, length, nat_le, Err, IfOk, IfErr, OnOk};
 ghost use Rattle.scan_base.specs.declared.fault.Fault.TheVariants.{BadTicket, LimitReached, OutOfMemory};
 ghost use Rattle.scan_base.specs.Limits.{most_query_bytes};
 ghost use Rattle.scan_base.specs.Reading.{RefusesFirst, demand};
@@ -24,6 +24,7 @@ use arrow_schema::Schema;
 use endpoint_split::{Handle, Range};
 use flight_info::{Planned, plan_text, tables_batch, tables_schema};
 use hash_seed::HashSeed;
+use row_sources::{Reading, Unwatched, Watches};
 use scan_base::Fault;
 use scan_exec::Scan;
 use std::alloc::{AllocError, Global};
@@ -182,34 +183,58 @@ impl Opening {
     pub fn stream(self, alloc: Global) -> Result<FetchStream, AllocError>
         ensures { IfOk result (λ stream. stream ≡ self) }
     {
+        self.stream_watched(alloc, &mut Unwatched)
+    }
+
+    /// The same, watched: who watches may end it while the further places of a join are read.
+    ///
+    /// # Errors
+    ///
+    /// `AllocError` where memory is refused, or who watches ends it.
+    pub fn stream_watched<W: Watches>(
+        self,
+        alloc: Global,
+        watch: &mut W,
+    ) -> Result<FetchStream, AllocError>
+        requires ready { W.ready watch.old }
+        ensures stream { IfOk result (λ stream. stream ≡ self) }
+        ensures ready { OnOk result (W.ready watch.new) }
+        ensures watched { W.watched watch.old watch.new }
+    {
         let Opening {
             meaning,
             workers,
             rows,
         } = self;
-        let stream = meaning.stream(alloc)?;
+        let stream = meaning.stream(alloc, watch)?;
         Ok(stream.with_work(workers, rows))
     }
 }
 
 impl Meaning {
-    // The stream of it.
-    fn stream(self, alloc: Global) -> Result<FetchStream, AllocError>
-        requires { IsMeaning self }
-        ensures { IfOk result (λ stream. stream ≡ stream_meant self) }
+    // The stream of it, watched.
+    fn stream<W: Watches>(self, alloc: Global, watch: &mut W) -> Result<FetchStream, AllocError>
+        requires meaning { IsMeaning self }
+        requires ready { W.ready watch.old }
+        ensures stream { IfOk result (λ stream. stream ≡ stream_meant self) }
+        ensures ready { OnOk result (W.ready watch.new) }
+        ensures watched { W.watched watch.old watch.new }
     {
         match self {
-            Meaning::Planned(scan) => scan.stream(alloc),
+            Meaning::Planned(scan) => scan.stream(alloc, watch),
             Meaning::Listed(stream) => Ok(stream),
         }
     }
 }
 
 impl PlannedScan {
-    // The stream of it. The scan is made here.
-    fn stream(self, alloc: Global) -> Result<FetchStream, AllocError>
-        requires { IsSchema self.plan.schema }
-        ensures { IfOk result (λ stream. stream ≡ before_schema self.plan.schema (rows_meant self)) }
+    // The stream of it. The scan is made here, watched.
+    fn stream<W: Watches>(self, alloc: Global, watch: &mut W) -> Result<FetchStream, AllocError>
+        requires schema { IsSchema self.plan.schema }
+        requires ready { W.ready watch.old }
+        ensures stream { IfOk result (λ stream. stream ≡ before_schema self.plan.schema (rows_meant self)) }
+        ensures ready { OnOk result (W.ready watch.new) }
+        ensures watched { W.watched watch.old watch.new }
     {
         let PlannedScan {
             seed,
@@ -217,7 +242,7 @@ impl PlannedScan {
             from,
             to,
         } = self;
-        let scan = Scan::new(alloc, seed, plan, from..to)?;
+        let scan = Scan::watched(alloc, plan, Reading { seed, from, to }, watch)?;
         let nothing = Batch::new(Vec::new(alloc), 0);
         Ok(FetchStream::of(seed, nothing, Source::Scanned(scan)))
     }

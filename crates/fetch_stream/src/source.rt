@@ -1,16 +1,16 @@
 //! What the rows of an answer come from.
 
-ghost use Rattle.std.specs.Prelude.{◌≡◌};
+ghost use Rattle.std.specs.Prelude.{◌≡◌, IfOk, OnOk};
 ghost use Rattle.arrays.specs.Batch.{BatchAt};
 ghost use Rattle.fetch_stream.specs.inside.Ahead.{schema_behind, rows_taken, IsSource};
-ghost use Rattle.fetch_stream.specs.inside.Given.{TurnsBatch};
+ghost use Rattle.fetch_stream.specs.inside.Given.{GivesNoneYet, TurnsBatch};
 
 use arrays::Batch;
 use arrow_schema::Schema;
-use row_sources::Turn;
+use row_sources::{Turn, Watches};
 use scan_base::Fault;
 use scan_exec::{GroupsBatches, Making, Scan};
-use std::alloc::Global;
+use std::alloc::{AllocError, Global};
 
 // What gives the batches of an answer.
 pub(crate) enum Source {
@@ -48,6 +48,29 @@ impl Source {
         match self {
             Source::Scanned(scan) => scan.given(),
             Source::Listed(_) => last,
+        }
+    }
+
+    /// The same source, whose groups are made, if it makes groups. Who watches may end it.
+    ///
+    /// # Errors
+    ///
+    /// `AllocError` where memory is refused, or who watches ends it.
+    pub(crate) fn readied<G: GroupsBatches, W: Watches>(
+        self,
+        alloc: Global,
+        by: &G,
+        watch: &mut W,
+    ) -> Result<Source, AllocError>
+        requires source { IsSource self }
+        requires ready { W.ready watch.old }
+        ensures source { IfOk result (GivesNoneYet self) }
+        ensures ready { OnOk result (W.ready watch.new) }
+        ensures watched { W.watched watch.old watch.new }
+    {
+        match self {
+            Source::Scanned(scan) => Ok(Source::Scanned(scan.readied(alloc, by, watch)?)),
+            Source::Listed(schema) => Ok(Source::Listed(schema)),
         }
     }
 

@@ -1,6 +1,6 @@
 //! Streams: an answer, one parcel at a time.
 
-ghost use Rattle.std.specs.Prelude.{◌≡◌, ◌≢◌, ◌≤◌, ◌<◌, ◌+◌, ◌++◌, true, false, None, length, nat_le, Err, IfOk, IfErr, IfSome};
+ghost use Rattle.std.specs.Prelude.{◌≡◌, ◌≢◌, ◌≤◌, ◌<◌, ◌+◌, ◌++◌, true, false, None, length, nat_le, Err, IfOk, IfErr, IfSome, OnOk};
 ghost use Rattle.std.specs.List.{list_any};
 ghost use Rattle.scan_base.specs.declared.fault.Fault.TheVariants.{BadTicket, LimitReached, OutOfMemory};
 ghost use Rattle.scan_base.specs.Limits.{most_answer_rows, most_query_bytes};
@@ -29,10 +29,10 @@ use arrays::laws::batch_slices_keep_rows;
 use arrow_schema::Schema;
 use endpoint_split::Handle;
 use hash_seed::HashSeed;
-use row_sources::{Patience, Turn};
+use row_sources::{Patience, Turn, Watches};
 use scan_base::Fault;
 use scan_exec::{GroupsBatches, InOneWalk, Making};
-use std::alloc::Global;
+use std::alloc::{AllocError, Global};
 use std::marker::Model;
 use table_versions::Snapshot;
 
@@ -238,6 +238,46 @@ impl FetchStream {
         }
         let count = scan.morsels()?;
         Some(Morsels::new(scan, count, self.begun, self.seed))
+    }
+
+    /// The same stream, whose groups are made, if it makes groups. Who watches may end it.
+    ///
+    /// # Errors
+    ///
+    /// `AllocError` where memory is refused, or who watches ends it.
+    pub fn readied<G: GroupsBatches, W: Watches>(
+        self,
+        alloc: Global,
+        by: &G,
+        watch: &mut W,
+    ) -> Result<FetchStream, AllocError>
+        requires ready { W.ready watch.old }
+        ensures stream { IfOk result (λ stream. stream ≡ self) }
+        ensures ready { OnOk result (W.ready watch.new) }
+        ensures watched { W.watched watch.old watch.new }
+    {
+        let None = self.refused else {
+            return Ok(self);
+        };
+        let FetchStream {
+            begun,
+            cutter,
+            source,
+            refused,
+            seed,
+            workers,
+            rows,
+        } = self;
+        let source = source.readied(alloc, by, watch)?;
+        Ok(FetchStream {
+            begun,
+            cutter,
+            source,
+            refused,
+            seed,
+            workers,
+            rows,
+        })
     }
 
     /// The next parcel, and `None` behind the last one: first the message of the schema, and then record batches of at

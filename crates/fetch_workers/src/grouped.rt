@@ -1,13 +1,13 @@
 //! Streams whose groups several workers make.
 
-ghost use Rattle.std.specs.Prelude.{◌≡◌};
+ghost use Rattle.std.specs.Prelude.{◌≡◌, IfOk, OnOk};
 
 use fetch_stream::{FetchStream, Parcel, Payloads, ReadsPayloads};
 use group_workers::GroupWorkers;
-use row_sources::{Patience, Turn};
+use row_sources::{Patience, Turn, Watches};
 use scan_base::Fault;
 use scan_exec::{GroupsBatches, Making};
-use std::alloc::Global;
+use std::alloc::{AllocError, Global};
 use std::sync::Wait;
 use std::thread::Threads;
 
@@ -65,4 +65,24 @@ pub(crate) fn read_grouped<R: Threads + Wait + Sync, S: ReadsPayloads>(
     let by = GroupWorkers::new(rt, workers);
     let mut grouped = GroupedStream::new(stream, &by);
     reader.read(alloc, &mut grouped)
+}
+
+// A stream whose groups are made by so many workers, watched.
+pub(crate) fn ready_grouped<R: Threads + Wait + Sync, L: Watches>(
+    rt: &R,
+    work: GroupedWork,
+    watch: &mut L,
+) -> Result<FetchStream, AllocError>
+    requires ready { L.ready watch.old }
+    ensures stream { IfOk result (λ stream. stream ≡ work.stream) }
+    ensures ready { OnOk result (L.ready watch.new) }
+    ensures watched { L.watched watch.old watch.new }
+{
+    let GroupedWork {
+        alloc,
+        stream,
+        workers,
+    } = work;
+    let by = GroupWorkers::new(rt, workers);
+    stream.readied(alloc, &by, watch)
 }

@@ -1,14 +1,15 @@
 //! Several workers on one fetch.
 
-ghost use Rattle.std.specs.Prelude.{◌≡◌, IfSome, None};
+ghost use Rattle.std.specs.Prelude.{◌≡◌, IfOk, IfSome, None, OnOk};
 
-use crate::grouped::{GroupedWork, read_grouped};
+use crate::grouped::{GroupedWork, read_grouped, ready_grouped};
 use crate::joined::Joined;
 use crate::work::MorselWork;
 use fetch_stream::{Ahead, Executor, FetchStream, Morsels, OneWorker, ReadsPayloads};
+use row_sources::Watches;
 use scan_base::Fault;
 use scan_workers::{Answers, NoGate, Reads, in_order};
-use std::alloc::Global;
+use std::alloc::{AllocError, Global};
 use std::marker::Model;
 use std::sync::Wait;
 use std::thread::Threads;
@@ -53,6 +54,22 @@ pub trait StartsWorkers {
         requires shared { shared self.now }
         requires takes { S.takes reader.old }
         ensures { S.reads reader.old work.stream result reader.new };
+
+    /// Has the groups of a stream made by several workers. Who watches may end it.
+    ///
+    /// # Errors
+    ///
+    /// `AllocError` where memory is refused, or who watches ends it.
+    fn ready_grouped<L: Watches>(
+        &self,
+        work: GroupedWork,
+        watch: &mut L,
+    ) -> Result<FetchStream, AllocError>
+        requires shared { shared self.now }
+        requires ready { L.ready watch.old }
+        ensures stream { IfOk result (λ stream. stream ≡ work.stream) }
+        ensures ready { OnOk result (L.ready watch.new) }
+        ensures watched { L.watched watch.old watch.new };
 }
 
 impl<R: Threads + Wait + Sync> StartsWorkers for R {
@@ -74,6 +91,14 @@ impl<R: Threads + Wait + Sync> StartsWorkers for R {
         reader: &mut S,
     ) -> Result<(), Fault> {
         read_grouped(self, work, reader)
+    }
+
+    fn ready_grouped<L: Watches>(
+        &self,
+        work: GroupedWork,
+        watch: &mut L,
+    ) -> Result<FetchStream, AllocError> {
+        ready_grouped(self, work, watch)
     }
 }
 
@@ -143,6 +168,24 @@ impl<'h, R: StartsWorkers> Executor for Workers<'h, R> {
             workers,
         };
         self.rt.read_grouped(work, reader)
+    }
+
+    fn ready<L: Watches>(
+        &self,
+        alloc: Global,
+        stream: FetchStream,
+        watch: &mut L,
+    ) -> Result<FetchStream, AllocError> {
+        let workers = self.worth(&stream);
+        if workers < 2 {
+            return OneWorker.ready(alloc, stream, watch);
+        }
+        let work = GroupedWork {
+            alloc,
+            stream,
+            workers,
+        };
+        self.rt.ready_grouped(work, watch)
     }
 }
 

@@ -10,3 +10,4 @@ pub mod Exchanges
 pub mod Laws
 pub mod Joining
 pub mod Answered
+pub mod Watched

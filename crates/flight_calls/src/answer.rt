@@ -1,6 +1,6 @@
 //! Writing the answer of a call.
 
-ghost use Rattle.std.specs.Prelude.{◌≡◌, [], ◌∷◌, Result, Ok, OnErr, map};
+ghost use Rattle.std.specs.Prelude.{◌≡◌, [], ◌∷◌, Result, Ok, IfOk, IfSome, OnErr, map, OnOk};
 ghost use Rattle.std.specs.List.{flat_map};
 ghost use Rattle.scan_base.specs.declared.fault.Fault.{Fault as FaultAt};
 ghost use Rattle.grpc_frame.specs.declared.record.Record.TheVariants.{Message};
@@ -27,9 +27,9 @@ use flight_core::Reply;
 use flight_core::laws::streams_answer;
 use flight_proto::floor_message;
 use grpc_frame::{Outbox, Output};
-use row_sources::{Patience, Turn};
+use row_sources::{Patience, Turn, Watches};
 use scan_base::Fault;
-use std::alloc::Global;
+use std::alloc::{AllocError, Global};
 
 // How many rows are looked at before it is looked whether the client is still there.
 const LOOKED_ROWS: usize = 1_048_576;
@@ -180,10 +180,116 @@ fn send_fetch<W: Output, X: Executor>(
         Err(fault) => return outbox.send_status(writer, Some(fault)),
     };
     send_first(writer, outbox, &first, opening.takes_long())?;
-    match opening.stream(alloc) {
-        Ok(stream) => send_rest(setting, writer, outbox, stream.behind_schema()),
-        Err(_) => outbox.send_status(writer, Some(Fault::OutOfMemory)),
+    match make_stream(setting, writer, outbox, opening)? {
+        Some(stream) => send_rest(setting, writer, outbox, stream.behind_schema()),
+        None => outbox.send_status(writer, Some(Fault::OutOfMemory)),
     }
+}
+
+// Makes the stream of a fetch, with what it needs before its first row, or none where memory is refused. What was sent before is
+// written where that takes long, and the other end is looked at.
+fn make_stream<W: Output, X: Executor>(
+    setting: &Setting<'_, X>,
+    writer: &mut W,
+    outbox: &mut Outbox,
+    opening: Opening,
+) -> Result<Option<FetchStream>, Fault>
+    requires failures { CanFail (W.failures writer.old) }
+    ensures stream { IfOk result (λ made. IfSome made (λ stream. stream ≡ opening)) }
+    ensures bytes { Sends result (W.contents writer.old) (W.contents writer.new) outbox.old outbox.new [] }
+    ensures counted { CountsFailure result (W.failures writer.old) (W.failures writer.new) }
+    ensures kind { FailsByTransport result }
+{
+    let mut watching = Watching {
+        writer,
+        outbox,
+        rows: 0,
+        failed: None,
+    };
+    let made = made_stream(setting, opening, &mut watching);
+    let Watching {
+        writer,
+        outbox,
+        rows: _,
+        failed,
+    } = watching;
+    take_back(writer);
+    take_back(outbox);
+    if let Some(fault) = failed {
+        return Err(fault);
+    }
+    match made {
+        Ok(stream) => Ok(Some(stream)),
+        Err(_) => Ok(None),
+    }
+}
+
+// The stream of a fetch, with what it needs before its first row. Who watches may end it.
+fn made_stream<X: Executor, L: Watches>(
+    setting: &Setting<'_, X>,
+    opening: Opening,
+    watch: &mut L,
+) -> Result<FetchStream, AllocError>
+    requires ready { L.ready watch.old }
+    ensures stream { IfOk result (λ stream. stream ≡ opening) }
+    ensures ready { OnOk result (L.ready watch.new) }
+    ensures watched { L.watched watch.old watch.new }
+{
+    let stream = opening.stream_watched(setting.alloc, watch)?;
+    setting.executor.ready(setting.alloc, stream, watch)
+}
+
+// Where what was sent is written while a stream is made, how many rows were looked at since then, and why the other end is gone.
+struct Watching<'w, 'o, W> {
+    writer: &'w mut W,
+    outbox: &'o mut Outbox,
+    rows: usize,
+    failed: Option<Fault>,
+}
+
+// Behind so many rows what was sent is written, and the other end is looked at.
+impl<'w, 'o, W: Output> Watches for Watching<'w, 'o, W> {
+    ghost use Rattle.std.specs.Prelude.{◌≡◌, None, refl};
+    ghost use Rattle.std.proofs.Common.{◌∙◌};
+    ghost use Rattle.grpc_frame.specs.Ends.{CanFail};
+    ghost use Rattle.flight_calls.specs.Watched.{IsWatched, still_watched, watched_again};
+
+    ghost ready = { λ w. (w.failed ≡ None) × CanFail (W.failures w.writer.now) };
+
+    ghost watched = { λ old new.
+        (new.writer.ghost_name ≡ old.writer.ghost_name) × (new.outbox.ghost_name ≡ old.outbox.ghost_name)
+        × IsWatched old.failed new.failed (W.contents old.writer.now) (W.contents new.writer.now)
+        old.outbox.now new.outbox.now (W.failures old.writer.now) (W.failures new.writer.now) };
+
+    ghost told = { λ _ _ _. Unit {0} };
+
+    fn goes_on(&mut self, rows: usize) -> bool {
+        self.rows = self.rows.saturating_add(rows);
+        if self.rows < LOOKED_ROWS {
+            return true;
+        }
+        self.rows = 0;
+        match self.outbox.look(self.writer) {
+            Ok(()) => true,
+            Err(fault) => {
+                self.failed = Some(fault);
+                false
+            }
+        }
+    }
+
+    ghost unasked = { λ one. (refl, refl, still_watched one.failed (W.contents one.writer.now) one.outbox.now (W.failures one.writer.now)) };
+
+    ghost again = { λ one next last first then. (
+      then.0 ∙ first.0,
+      then.1 ∙ first.1,
+      watched_again one.failed next.failed last.failed (W.contents one.writer.now) (W.contents next.writer.now) (W.contents last.writer.now)
+          one.outbox.now next.outbox.now last.outbox.now (W.failures one.writer.now) (W.failures next.writer.now) (W.failures last.writer.now) first.2 then.2,
+    ) };
+
+    ghost untold = { λ _. tt };
+
+    ghost told_again = { λ _ _ _ _ _ _ _. tt };
 }
 
 // Sends the payload of a schema. Where the next one may come late, it is written at once. The other end is not looked at: it may

@@ -1,19 +1,22 @@
 -- Groups of parts of the batches, and what merging those of the next part gives.
-use Rattle.std.proofs.Common.{◌≡◌, ◌≤◌, ◌+◌, ◌-◌, ℕ, List, ◌++◌, length, take, sym, ap, ◌∙◌, subst, arith}
+use Rattle.std.proofs.Common.{◌≡◌, ◌≤◌, ◌+◌, ◌-◌, ℕ, List, ◌++◌, length, take, Result, Ok, Err, sym, ap, ◌∙◌, subst, arith}
 use Rattle.std.specs.List.{flat_map}
+use Rattle.std.specs.Result.{IfOk}
 use Rattle.std.proofs.Math.Seq.{take-add, take-length}
 use Rattle.std.proofs.lemmas.Grind.{flat_map-append}
 use Rattle.std.proofs.lemmas.List.{length-append}
 use Rattle.std.proofs.lemmas.List.Elements.{filter-append}
 use Rattle.arrays.specs.Batch.{BatchAt, rows_of}
 use Rattle.scan_base.specs.Limits.{most_rows}
+use Rattle.scan_base.specs.declared.fault.Fault.{Fault}
 use Rattle.table_versions.specs.Table.{Row}
 use Rattle.grouping.specs.Fed.{GroupsAt, HasMerged, Holds, IsAlike}
 use Rattle.row_sources.specs.Picking.{PickAt, holds}
+use Rattle.group_workers.specs.Merging.{IsPartAt}
 use Rattle.group_workers.specs.Parts.{batches_before}
 use Rattle.group_workers.proofs.Parting.{before_next, none_before}
-use Rattle.scan_exec.specs.GroupWork.{AreGroupsOf, GroupWorkAt, batches_between, passing}
-use Rattle.scan_exec.proofs.Grouping.{between_few, from_first, passing_few}
+use Rattle.scan_exec.specs.GroupWork.{AreGroupsOf, GroupWorkAt, IsPartOf, PartAt, batches_between, part_at, passing}
+use Rattle.scan_exec.proofs.Grouping.{begun_part, between_few, from_first, passing_few}
 
 -- groups of the same batches, by the same, are alike
 pub are_alike : (work : GroupWorkAt) (groups other : GroupsAt) (some rows : List Row) → AreGroupsOf work some groups → AreGroupsOf work rows other → IsAlike groups other
@@ -90,3 +93,11 @@ pub all_are : (work : GroupWorkAt) (parts given : ℕ) (groups : GroupsAt) → g
 all_are work parts given groups end all is =
     subst (λ (some : List BatchAt). AreGroupsOf work (passing work.pick (flat_map rows_of some)) groups)
     (ap (λ (n : ℕ). take (batches_before (length work.batches) parts n) work.batches) end ∙ ap (λ (n : ℕ). take n work.batches) all ∙ take-length work.batches) is
+
+-- a part that is begun is that of its number
+pub begun_at : (work : GroupWorkAt) (parts number from to : ℕ) (result : Result PartAt Fault) → from ≡ batches_before (length work.batches) parts number →
+    to ≡ batches_before (length work.batches) parts (number + 1) → IfOk result (λ part. part ≡ part_at work from from to) → IsPartAt work parts number result
+begun_at work parts number from to (Err fault) first last is = tt
+begun_at work parts number from to (Ok part) first last is =
+    subst (λ (n : ℕ). IsPartOf work n (batches_before (length work.batches) parts (number + 1)) part) first
+    (subst (λ (n : ℕ). IsPartOf work from n part) last (begun_part work from from to part is))

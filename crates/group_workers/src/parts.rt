@@ -3,6 +3,8 @@
 ghost use Rattle.std.specs.Prelude.{◌≡◌, ◌≤◌, ◌<◌, max, min};
 ghost use Rattle.group_workers.specs.Parts.{batches_before};
 
+use arrays::Batch;
+
 // Into how many parts so many batches are cut for so many workers. Each has one batch or more. The groups of a part are made anew
 // and merged by the thread that reads them, which makes no groups meanwhile. So there are no more parts than workers.
 pub(crate) fn part_count(batches: usize, workers: usize) -> usize
@@ -18,4 +20,13 @@ pub(crate) fn count_before(batches: usize, parts: usize, number: usize) -> usize
     ensures { result ≡ batches_before batches parts number }
 {
     number * (batches / parts) + number.min(batches % parts)
+}
+
+// How many rows batches have.
+pub(crate) fn row_count(batches: &[Batch]) -> usize {
+    let mut rows = 0usize;
+    for batch in batches {
+        rows = rows.saturating_add(batch.rows());
+    }
+    rows
 }

@@ -1,6 +1,6 @@
 //! A plan made ready to give its rows.
 
-ghost use Rattle.std.specs.Prelude.{◌≡◌, ◌≤◌, true, IfOk, length, map};
+ghost use Rattle.std.specs.Prelude.{◌≡◌, ◌≤◌, true, IfOk, length, map, OnOk};
 ghost use Rattle.std.specs.List.{flat_map, range_with_len};
 ghost use Rattle.arrays.specs.Batch.{rows_of};
 ghost use Rattle.table_versions.specs.Stored.{TableAt};
@@ -20,6 +20,7 @@ use crate::picker::Picker;
 use crate::row_source::Reading;
 use crate::rows::{Rows, Source};
 use crate::scan_source::scan_source;
+use crate::watch::Watches;
 use arrow_schema::DataType;
 use scan_base::Predicate;
 use std::alloc::{AllocError, Global};
@@ -37,22 +38,26 @@ pub(crate) struct Sourced {
 }
 
 // What gives the rows of a plan over a range of its first place, which begins in the first batch that is read, and of which
-// each such batch has a row. The tables are those of its places, in order. The further places are read here.
-pub(crate) fn build(
+// each such batch has a row. The tables are those of its places, in order. The further places are read here, watched.
+pub(crate) fn build<W: Watches>(
     alloc: Global,
     plan: Plan,
     tables: Vec<OpenedTable>,
     reading: Reading,
+    watch: &mut W,
 ) -> Result<Sourced, AllocError>
     requires typed { IsTypedTree (tree_of plan) }
     requires schemas { tree_schemas (tree_of plan) ≡ map (λ (table : TableAt). table.schema) tables.items }
     requires first { BeginsInFirst reading.from (first_batches tables.items) }
     requires each { batches_in reading.from reading.to (first_batches tables.items)
         ≡ range_with_len 0 (length (first_batches tables.items)) }
+    requires ready { W.ready watch.old }
     ensures sourced { IfOk result IsSourced }
     ensures begun { IfOk result (λ made. IsBegun (tree_of plan) tables.items reading.from reading.to (sourced_at made)) }
     ensures few { IfOk result (λ made. is_place (tree_of plan) ≡ true →
         length (source_at made.source).ahead ≤ length (flat_map rows_of (first_batches tables.items))) }
+    ensures ready { OnOk result (W.ready watch.new) }
+    ensures watched { W.watched watch.old watch.new }
 {
     typed_predicates_name_columns();
     let mut tables = tables;
@@ -62,13 +67,13 @@ pub(crate) fn build(
             scan_source(alloc, &columns, table, reading)
         }
         Plan::Filter { predicate, input } => {
-            let mut made = build(alloc, Box::into_inner(input), tables, reading)?;
+            let mut made = build(alloc, Box::into_inner(input), tables, reading, watch)?;
             made.filters.push(predicate)?;
             Ok(made)
         }
         Plan::Join { left, right, on } => {
             let table = tables.pop().ok_or(AllocError)?;
-            let left = build(alloc, Box::into_inner(left), tables, reading)?;
+            let left = build(alloc, Box::into_inner(left), tables, reading, watch)?;
             let (seed, from, to) = (reading.seed, 0, table.rows());
             let mut last = Vec::new(alloc);
             last.push(table)?;
@@ -77,8 +82,9 @@ pub(crate) fn build(
                 Box::into_inner(right),
                 last,
                 Reading { seed, from, to },
+                watch,
             )?;
-            join_source(alloc, seed, Sides { left, right }, on.as_slice())
+            join_source(alloc, seed, Sides { left, right }, on.as_slice(), watch)
         }
     }
 }

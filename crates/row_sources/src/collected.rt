@@ -1,10 +1,12 @@
 //! All rows that are still to be given, at once.
 
-ghost use Rattle.std.specs.Prelude.{◌≡◌, IfOk, length, take};
+ghost use Rattle.std.specs.Prelude.{◌≡◌, IfOk, length, take, OnOk};
 ghost use Rattle.row_sources.specs.Collected.{AreCollected};
 ghost use Rattle.row_sources.specs.Running.{GoesOn};
 
 use crate::rows::Rows;
+use crate::turn::{Looking, Turn, patience_of};
+use crate::watch::{Unwatched, Watches, tell};
 use arrays::Batch;
 use std::alloc::{AllocError, Global};
 
@@ -18,9 +20,41 @@ pub fn collect_batches(alloc: Global, rows: &mut Rows) -> Result<Vec<Batch>, All
     ensures on { GoesOn rows.old rows.new }
     ensures collected { IfOk result (λ batches. AreCollected rows.old batches.items rows.new) }
 {
+    collect_watched(alloc, rows, &mut Unwatched)
+}
+
+/// The same, watched: behind each batch and each turn that gives none, who watches may end it.
+///
+/// # Errors
+///
+/// `AllocError` where memory is refused, or who watches ends it.
+pub fn collect_watched<W: Watches>(
+    alloc: Global,
+    rows: &mut Rows,
+    watch: &mut W,
+) -> Result<Vec<Batch>, AllocError>
+    requires front { take (length rows.old.opened) rows.old.batches ≡ rows.old.opened }
+    requires ready { W.ready watch.old }
+    ensures on { GoesOn rows.old rows.new }
+    ensures collected { IfOk result (λ batches. AreCollected rows.old batches.items rows.new) }
+    ensures ready { OnOk result (W.ready watch.new) }
+    ensures watched { W.watched watch.old watch.new }
+{
     let mut batches = Vec::new(alloc);
-    while let Some(piece) = rows.next(alloc)? {
-        batches.push(piece.batch)?;
+    let mut turns = u64::MAX;
+    loop {
+        let patience = patience_of(turns);
+        let mut looking = Looking { alloc, patience };
+        match rows.turn(&mut looking)? {
+            Turn::Given(piece) => {
+                batches.push(piece.batch)?;
+                tell(watch, looking.looked())?;
+            }
+            Turn::Working => {
+                turns -= 1;
+                tell(watch, looking.looked())?;
+            }
+            Turn::End => return Ok(batches),
+        }
     }
-    Ok(batches)
 }

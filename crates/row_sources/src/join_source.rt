@@ -1,6 +1,6 @@
 //! What gives joined rows.
 
-ghost use Rattle.std.specs.Prelude.{◌≡◌, ◌≤◌, [], ◌++◌, IfOk, length, map};
+ghost use Rattle.std.specs.Prelude.{◌≡◌, ◌≤◌, [], ◌++◌, IfOk, length, map, OnOk};
 ghost use Rattle.arrow_schema.specs.Answer.{copied_type};
 ghost use Rattle.join_batches.specs.Joiner.{joined_types};
 ghost use Rattle.scan_base.specs.Limits.{most_rows};
@@ -10,9 +10,11 @@ ghost use Rattle.row_sources.specs.Collected.{plain_rows};
 ghost use Rattle.row_sources.specs.Joined.{IsJoined};
 
 use crate::build::Sourced;
-use crate::collected::collect_batches;
+use crate::collected::collect_watched;
 use crate::columns::numbers_below;
 use crate::rows::{Joining, Source};
+use crate::watch::{Watches, tell};
+use arrays::Batch;
 use arrow_schema::DataType;
 use hash_seed::HashSeed;
 use join_batches::{JoinSide, JoinSides, Joiner};
@@ -26,23 +28,27 @@ pub(crate) struct Sides {
     pub(crate) right: Sourced,
 }
 
-// What gives the joined rows of both sides that fit. The right ones are read here.
-pub(crate) fn join_source(
+// What gives the joined rows of both sides that fit. The right ones are read here, watched.
+pub(crate) fn join_source<W: Watches>(
     alloc: Global,
     seed: HashSeed,
     sides: Sides,
     on: &[JoinKey],
+    watch: &mut W,
 ) -> Result<Sourced, AllocError>
     requires left { IsSourced sides.left }
     requires right { IsSourced sides.right }
     requires joinable { CanJoin on.now (sourced_at sides.left) (sourced_at sides.right) }
+    requires ready { W.ready watch.old }
     ensures sourced { IfOk result IsSourced }
     ensures joins { IfOk result (λ made. JoinsRows on.now (sourced_at sides.left) (sourced_at sides.right) (sourced_at made)) }
+    ensures ready { OnOk result (W.ready watch.new) }
+    ensures watched { W.watched watch.old watch.new }
 {
     let Sides { left, right } = sides;
     let types = copied_types(alloc, left.types.as_slice(), right.types.as_slice())?;
     let sides = join_sides(alloc, left.types.as_slice(), right.types.as_slice(), on)?;
-    let joiner = joiner_of(alloc, seed, sides, right)?;
+    let joiner = joiner_of(alloc, seed, sides, right, watch)?;
     joined(alloc, left, joiner, types)
 }
 
@@ -84,23 +90,37 @@ fn join_sides(
     Ok(JoinSides { left, right })
 }
 
-// The join with all rows of the right side, which are read here.
-fn joiner_of(
+// The join with all rows of the right side, which are read and hashed here, watched.
+fn joiner_of<W: Watches>(
     alloc: Global,
     seed: HashSeed,
     sides: JoinSides,
     right: Sourced,
+    watch: &mut W,
 ) -> Result<Joiner, AllocError>
     requires right { IsSourced right }
     requires unopened { (sourced_at right).opened ≡ [] }
     requires few { length (sourced_at right).ahead ≤ most_rows }
     requires typed { sides.right.types.items ≡ (sourced_at right).types }
     requires keys { HasKeys sides }
-    ensures { IfOk result (λ joiner. joiner ≡ joiner_with sides (plain_rows (sourced_at right).ahead)) }
+    requires ready { W.ready watch.old }
+    ensures joiner { IfOk result (λ joiner. joiner ≡ joiner_with sides (plain_rows (sourced_at right).ahead)) }
+    ensures ready { OnOk result (W.ready watch.new) }
+    ensures watched { W.watched watch.old watch.new }
 {
     let mut rows = right.rows(alloc)?;
-    let batches = collect_batches(alloc, &mut rows)?;
+    let batches = collect_watched(alloc, &mut rows, watch)?;
+    tell(watch, rows_in(batches.as_slice()))?;
     Joiner::new(alloc, seed, sides, batches)
+}
+
+// How many rows batches have.
+fn rows_in(batches: &[Batch]) -> usize {
+    let mut rows = 0usize;
+    for batch in batches {
+        rows = rows.saturating_add(batch.rows());
+    }
+    rows
 }
 
 // What gives the joined rows of left ones, in columns of these types.

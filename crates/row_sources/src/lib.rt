@@ -16,8 +16,9 @@ pub mod row_source;
 pub mod rows;
 mod scan_source;
 pub mod turn;
+pub mod watch;
 
-pub use crate::collected::collect_batches;
+pub use crate::collected::{collect_batches, collect_watched};
 pub use crate::opened_table::{OpenedTable, opened_tables};
 pub use crate::part::Part;
 pub use crate::picker::Picker;
@@ -25,3 +26,4 @@ pub use crate::piece::Piece;
 pub use crate::row_source::{Reading, RowSource, UnfilteredRows};
 pub use crate::rows::Rows;
 pub use crate::turn::{Looking, Patience, Turn};
+pub use crate::watch::{Unwatched, Watches, tell};

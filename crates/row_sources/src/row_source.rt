@@ -1,6 +1,6 @@
 //! What gives the rows of a plan's tree.
 
-ghost use Rattle.std.specs.Prelude.{◌≡◌, ◌≤◌, true, IfOk, IsTrue, length, map};
+ghost use Rattle.std.specs.Prelude.{◌≡◌, ◌≤◌, true, IfOk, IsTrue, length, map, OnOk};
 ghost use Rattle.std.specs.List.{flat_map, range_with_len};
 ghost use Rattle.arrays.specs.Batch.{rows_of};
 ghost use Rattle.table_versions.specs.Stored.{TableAt};
@@ -18,6 +18,7 @@ use crate::build::{Sourced, build};
 use crate::opened_table::OpenedTable;
 use crate::picker::Picker;
 use crate::rows::Rows;
+use crate::watch::{Unwatched, Watches};
 use arrow_schema::DataType;
 use hash_seed::HashSeed;
 use std::alloc::{AllocError, Global};
@@ -92,7 +93,35 @@ impl RowSource {
         ensures few { IfOk result (λ source. is_place (tree_of plan) ≡ true →
             source.count ≤ length (flat_map rows_of (first_batches tables.items))) }
     {
-        let sourced = build(alloc, plan, tables, reading)?;
+        RowSource::watched(alloc, plan, tables, reading, &mut Unwatched)
+    }
+
+    /// The same, watched: who watches may end it behind each batch of a further place that is read, and before the rows of one are
+    /// hashed.
+    ///
+    /// # Errors
+    ///
+    /// `AllocError` where memory is refused, or who watches ends it.
+    pub fn watched<W: Watches>(
+        alloc: Global,
+        plan: Plan,
+        tables: Vec<OpenedTable>,
+        reading: Reading,
+        watch: &mut W,
+    ) -> Result<RowSource, AllocError>
+        requires typed { IsTypedTree (tree_of plan) }
+        requires schemas { tree_schemas (tree_of plan) ≡ map (λ (table : TableAt). table.schema) tables.items }
+        requires first { BeginsInFirst reading.from (first_batches tables.items) }
+        requires each { batches_in reading.from reading.to (first_batches tables.items)
+            ≡ range_with_len 0 (length (first_batches tables.items)) }
+        requires ready { W.ready watch.old }
+        ensures begun { IfOk result (λ source. IsBegun (tree_of plan) tables.items reading.from reading.to source.rows) }
+        ensures few { IfOk result (λ source. is_place (tree_of plan) ≡ true →
+            source.count ≤ length (flat_map rows_of (first_batches tables.items))) }
+        ensures ready { OnOk result (W.ready watch.new) }
+        ensures watched { W.watched watch.old watch.new }
+    {
+        let sourced = build(alloc, plan, tables, reading, watch)?;
         Ok(RowSource { sourced })
     }
 

@@ -5,6 +5,9 @@ ghost use Rattle.row_sources.specs.declared.turn.Patience.TheVariants.{Endless};
 
 use std::alloc::Global;
 
+// How many rows a turn of watched work looks at.
+const WATCHED_ROWS: usize = 1_048_576;
+
 /// What a turn gives.
 #[derive(Drop)]
 pub enum Turn<T> {
@@ -50,4 +53,22 @@ impl Looking {
     {
         matches!(self.patience, Patience::Rows(0))
     }
+
+    // How many rows were looked at in a turn of watched work.
+    pub(crate) fn looked(&self) -> usize {
+        match self.patience {
+            Patience::Endless => 0,
+            Patience::Rows(left) => WATCHED_ROWS.saturating_sub(left),
+        }
+    }
+}
+
+// The patience of a turn of watched work, behind which there may be so many more.
+pub(crate) fn patience_of(turns: u64) -> Patience
+    ensures { turns ≡ 0 → result ≡ Endless }
+{
+    if turns == 0 {
+        return Patience::Endless;
+    }
+    Patience::Rows(WATCHED_ROWS)
 }

@@ -32,7 +32,7 @@ use Rattle.scan_exec.specs.declared.grouped.Wanted.{Wanted}
 use Rattle.scan_exec.specs.Giving.{GivingAt, GivingOn, GivesNext}
 use Rattle.row_sources.specs.Collected.{AreCollected, IsBatchOf}
 use Rattle.scan_exec.specs.Grouped.{AnswersAll, AreMade, IsAnswering, of_groups, passing_before, wanted_rows, wanted_types}
-use Rattle.scan_exec.specs.GroupWork.{AreGroupsOf, GroupsOfAll, GroupsOfPart, GroupWorkAt, batches_between, passing}
+use Rattle.scan_exec.specs.GroupWork.{AreGroupsOf, CountsNext, GroupsOfAll, GroupsOfPart, GroupWorkAt, IsPartFed, IsPartOf, IsSamePart, PartAt, batches_between, part_at, passing, rows_between}
 use Rattle.row_sources.specs.Picking.{PickAt, IsPick, holds, chosen_rows, pick_of}
 use Rattle.row_sources.specs.Running.{RowsAt, GoesOn}
 use Rattle.row_sources.proofs.Giving.{filter-map}
@@ -57,15 +57,6 @@ alike_still first groups after before now = record {
 }
 
 -- ---- a part of a batch more
-
--- no part of it yet
-pub none_fed : (groups : GroupsAt) → groups.refused ≡ None → HasFed groups groups []
-none_fed groups ready = record {
-  alike = record { batches = refl; types = refl; keys = refl; items = refl };
-  refused = ready;
-  count = omega arith;
-  held = λ earlier held. subst (Holds groups) (sym (append-nil earlier)) held;
-}
 
 -- one part behind others
 both_fed : (first groups after : GroupsAt) (some more : List Row) → HasFed first groups some → HasFed groups after more → HasFed first after (some ++ more)
@@ -129,50 +120,56 @@ between_few from to batches = omega (arith, rows_split from batches, rows_split 
 pub from_first : (n : ℕ) (batches : List BatchAt) → batches_between 0 n batches ≡ take n batches
 from_first n batches = let whole : n - 0 ≡ n = omega arith in ap (λ (m : ℕ). take m batches) whole
 
--- of no batches yet no row is fed
-pub of_none_fed : (pick : PickAt) (from : ℕ) (batches : List BatchAt) (groups : GroupsAt) → groups.refused ≡ None →
-    HasFed groups groups (passing pick (flat_map rows_of (batches_between from from batches)))
-of_none_fed pick from batches groups ready = let none : from - from ≡ 0 = omega arith in rw none (none_fed groups ready)
-
-module _ (pick : PickAt) (batches : List BatchAt) (from k : ℕ) (batch : BatchAt) (ordered : from ≤ k) (there : k < length batches) (is : batch ≡ get_or batches k batch) where
+module _ (work : GroupWorkAt) (from k : ℕ) (batch : BatchAt) (ordered : from ≤ k) (there : k < length work.batches) (is : batch ≡ get_or work.batches k batch) where
   abbrev so_far : List Row
-  so_far = passing pick (flat_map rows_of (batches_between from k batches))
+  so_far = passing work.pick (flat_map rows_of (batches_between from k work.batches))
 
   -- the batches so far, with this one
-  batches_more : batches_between from (k + 1) batches ≡ batches_between from k batches ++ batch ∷ []
+  batches_more : batches_between from (k + 1) work.batches ≡ batches_between from k work.batches ++ batch ∷ []
   batches_more =
       let next : k + 1 - from ≡ suc (k - from) = omega (arith, ordered) in
       let place : from + (k - from) ≡ k = omega (arith, ordered) in
-      let within : k - from < length (drop from batches) = omega (arith, length-drop from batches, ordered, there) in
-      ap (λ (n : ℕ). take n (drop from batches)) next
-      ∙ take-suc (drop from batches) (k - from) batch within
-      ∙ ap (λ (b : BatchAt). batches_between from k batches ++ b ∷ [])
-      (get_or-drop from batches (k - from) batch ∙ ap (λ (n : ℕ). get_or batches n batch) place ∙ sym is)
+      let within : k - from < length (drop from work.batches) = omega (arith, length-drop from work.batches, ordered, there) in
+      ap (λ (n : ℕ). take n (drop from work.batches)) next
+      ∙ take-suc (drop from work.batches) (k - from) batch within
+      ∙ ap (λ (b : BatchAt). batches_between from k work.batches ++ b ∷ [])
+      (get_or-drop from work.batches (k - from) batch ∙ ap (λ (n : ℕ). get_or work.batches n batch) place ∙ sym is)
 
   -- and their rows
-  pub rows_more : passing pick (flat_map rows_of (batches_between from (k + 1) batches)) ≡ so_far ++ passing pick (rows_of batch)
+  rows_more : passing work.pick (flat_map rows_of (batches_between from (k + 1) work.batches)) ≡ so_far ++ passing work.pick (rows_of batch)
   rows_more =
-      ap (λ (some : List BatchAt). passing pick (flat_map rows_of some)) batches_more
-      ∙ ap (passing pick) (flat_map-append rows_of (batches_between from k batches) (batch ∷ []))
-      ∙ ap (λ (some : List Row). passing pick (flat_map rows_of (batches_between from k batches) ++ some)) (append-nil (rows_of batch))
-      ∙ filter-append (holds pick) (flat_map rows_of (batches_between from k batches)) (rows_of batch)
+      ap (λ (some : List BatchAt). passing work.pick (flat_map rows_of some)) batches_more
+      ∙ ap (passing work.pick) (flat_map-append rows_of (batches_between from k work.batches) (batch ∷ []))
+      ∙ ap (λ (some : List Row). passing work.pick (flat_map rows_of (batches_between from k work.batches) ++ some)) (append-nil (rows_of batch))
+      ∙ filter-append (holds work.pick) (flat_map rows_of (batches_between from k work.batches)) (rows_of batch)
 
-  -- so many rows can be fed to groups that had none
-  pub few_enough : (first groups : GroupsAt) → first.count ≡ 0 → HasFed first groups so_far → length (flat_map rows_of batches) ≤ most_rows → groups.count + batch.rows ≤ most_rows
-  few_enough first groups none fed few =
-      let all = between_few from (k + 1) batches in
-      let long : length (flat_map rows_of (batches_between from (k + 1) batches)) ≡ length (flat_map rows_of (batches_between from k batches)) + length (rows_of batch) =
+  -- so many rows they have
+  pub counted_more : rows_between from (k + 1) work.batches ≡ rows_between from k work.batches + batch.rows
+  counted_more =
+      let long : rows_between from (k + 1) work.batches ≡ rows_between from k work.batches + length (rows_of batch) =
       ap (λ (some : List BatchAt). length (flat_map rows_of some)) batches_more
-      ∙ ap length (flat_map-append rows_of (batches_between from k batches) (batch ∷ []) ∙ ap (λ (some : List Row). flat_map rows_of (batches_between from k batches) ++ some) (append-nil (rows_of batch)))
-      ∙ length-append (flat_map rows_of (batches_between from k batches)) (rows_of batch) in
-      let size = passing_few (holds pick) (flat_map rows_of (batches_between from k batches)) in
-      omega (arith, all, long, size, few, none, fed.count, length-rows_of batch)
+      ∙ ap length (flat_map-append rows_of (batches_between from k work.batches) (batch ∷ []) ∙ ap (λ (some : List Row). flat_map rows_of (batches_between from k work.batches) ++ some) (append-nil (rows_of batch)))
+      ∙ length-append (flat_map rows_of (batches_between from k work.batches)) (rows_of batch) in
+      omega (arith, long, length-rows_of batch)
 
-  -- and then the rows so far are fed
-  pub more_fed : (first groups after : GroupsAt) → HasFed first groups so_far → HasFed groups after (passing pick (rows_of batch)) →
-      HasFed first after (passing pick (flat_map rows_of (batches_between from (k + 1) batches)))
-  more_fed first groups after fed has =
-      subst (HasFed first after) (sym rows_more) (both_fed first groups after so_far (passing pick (rows_of batch)) fed has)
+  -- so many rows can be fed to the groups of those so far
+  pub few_enough : (groups : GroupsAt) → AreGroupsOf work so_far groups → length (flat_map rows_of work.batches) ≤ most_rows → groups.count + batch.rows ≤ most_rows
+  few_enough groups are few =
+      let all = between_few from (k + 1) work.batches in
+      let size = passing_few (holds work.pick) (flat_map rows_of (batches_between from k work.batches)) in
+      omega (arith, all, counted_more, size, few, are.held.count)
+
+  -- and then they are the groups of one batch more
+  pub more_fed : (groups after : GroupsAt) → AreGroupsOf work so_far groups → HasFed groups after (passing work.pick (rows_of batch)) →
+      AreGroupsOf work (passing work.pick (flat_map rows_of (batches_between from (k + 1) work.batches))) after
+  more_fed groups after are has = record {
+    batches_are = has.alike.batches ∙ are.batches_are;
+    types_are = has.alike.types ∙ are.types_are;
+    keys_are = has.alike.keys ∙ are.keys_are;
+    items_are = has.alike.items ∙ are.items_are;
+    refused = has.refused;
+    held = subst (Holds after) (sym rows_more) (has.held so_far are.held);
+  }
 
 module _ (pick : PickAt) (batches : List BatchAt) (k : ℕ) (batch : BatchAt) (there : k < length batches) (is : batch ≡ get_or batches k batch) where
   -- it is the batch of its number
@@ -187,25 +184,92 @@ module _ (pick : PickAt) (batches : List BatchAt) (k : ℕ) (batch : BatchAt) (t
       let of : IsBatchOf types batch = subst (IsBatchOf types) (sym is) (each k batch there) in
       subst (λ (n : ℕ). IsPick n pick) (sym (as_many types batch.columns of.typed)) picks
 
--- ---- the groups of what is grouped
+-- the next batch of a part that is not whole
+module _ (work : GroupWorkAt) (from at to : ℕ) (groups : GroupsAt) (is : IsPartFed work from at to groups) (more : at < to) (batch : BatchAt) (has : batch ≡ get_or work.batches at batch) where
+  next_there : at < length work.batches
+  next_there = omega (arith, more, is.there)
 
-module _ (work : GroupWorkAt) (new after : GroupsAt) (rows : List Row) (is : IsNew work.batches work.types work.keys work.items new) where
-  -- groups of no row, fed with some, are the groups of these
-  pub fed_are : HasFed new after rows → AreGroupsOf work rows after
-  fed_are has = record {
-    batches_are = has.alike.batches ∙ is.batches_are;
-    types_are = has.alike.types ∙ is.types_are;
-    keys_are = has.alike.keys ∙ is.keys_are;
-    items_are = has.alike.items ∙ is.items_are;
-    refused = has.refused;
-    held = has.held [] is.held;
+  -- can be fed
+  pub next_number : at < length groups.batches
+  next_number = omega (arith, next_there, ap length is.fed.batches_are)
+
+  pub next_is : batch_at groups.batches at ≡ batch
+  next_is = is_at work.pick work.batches at batch next_there has groups.batches is.fed.batches_are
+
+  pub next_pick : IsPick (length batch.columns) work.pick
+  next_pick = can_pick work.pick work.batches at batch next_there has work.types is.can.batches is.can.pick
+
+  pub next_few : groups.count + batch.rows ≤ most_rows
+  next_few = few_enough work from at batch is.begun next_there has groups is.fed is.can.few
+
+  pub next_counts : CountsNext (part_at work from at to) batch.rows
+  next_counts first low = counted_more work first at batch low next_there has
+
+  -- and then it was
+  pub next_fed : (after : GroupsAt) → HasFed groups after (passing work.pick (rows_of batch)) → IsPartFed work from (at + 1) to after
+  next_fed after fed = record {
+    can = is.can;
+    begun = omega (arith, is.begun);
+    ordered = omega (arith, more);
+    there = is.there;
+    fed = more_fed work from at batch is.begun next_there has groups after is.fed fed;
   }
 
+-- where all batches of a part were fed, its groups are those of what it is a part of
+pub part_whole : (mine : GroupWorkAt) (begin at end : ℕ) (groups : GroupsAt) (part : PartAt) → IsPartFed mine begin at end groups → part_at mine begin at end ≡ part → at ≡ end →
+    (work : GroupWorkAt) (from to : ℕ) → IsPartOf work from to part → AreGroupsOf work (passing work.pick (flat_map rows_of (batches_between from to work.batches))) groups
+part_whole mine begin at end groups part is seen whole work from to of =
+    let rows : passing mine.pick (flat_map rows_of (batches_between begin at mine.batches)) ≡ passing work.pick (flat_map rows_of (batches_between from to work.batches)) =
+    ap (λ (n : ℕ). passing mine.pick (flat_map rows_of (batches_between begin n mine.batches))) whole ∙ ap (λ (p : PartAt). p.rows) seen ∙ of.rows in
+    record {
+      batches_are = is.fed.batches_are ∙ ap (λ (p : PartAt). p.batches) seen ∙ of.batches;
+      types_are = is.fed.types_are ∙ ap (λ (p : PartAt). p.types) seen ∙ of.types;
+      keys_are = is.fed.keys_are ∙ ap (λ (p : PartAt). p.keys) seen ∙ of.keys;
+      items_are = is.fed.items_are ∙ ap (λ (p : PartAt). p.items) seen ∙ of.items;
+      refused = is.fed.refused;
+      held = subst (Holds groups) rows is.fed.held;
+    }
+
+-- a part of what the same one is a part of
+pub still_part : (work : GroupWorkAt) (from to : ℕ) (before after : PartAt) → IsSamePart before after → IsPartOf work from to before → IsPartOf work from to after
+still_part work from to before after same is = record {
+  batches = same.batches ∙ is.batches;
+  types = same.types ∙ is.types;
+  keys = same.keys ∙ is.keys;
+  items = same.items ∙ is.items;
+  rows = same.rows ∙ is.rows;
+}
+
+-- a part that is begun
+pub begun_part : (work : GroupWorkAt) (from at to : ℕ) (part : PartAt) → part ≡ part_at work from at to → IsPartOf work from to part
+begun_part work from at to part is = subst (IsPartOf work from to) (sym is) (record { batches = refl; types = refl; keys = refl; items = refl; rows = refl })
+
+-- ---- the groups of what is grouped
+
+-- no batch yet has no row
+pub none_counted : (from : ℕ) (batches : List BatchAt) → rows_between from from batches ≡ 0
+none_counted from batches = let none : from - from ≡ 0 = omega arith in rw none refl
+
+-- groups of no row are those of a part of which no batch was fed
+pub none_yet : (work : GroupWorkAt) (from : ℕ) (new : GroupsAt) → IsNew work.batches work.types work.keys work.items new →
+    AreGroupsOf work (passing work.pick (flat_map rows_of (batches_between from from work.batches))) new
+none_yet work from new is =
+    let none : from - from ≡ 0 = omega arith in
+    rw none (record {
+      batches_are = is.batches_are;
+      types_are = is.types_are;
+      keys_are = is.keys_are;
+      items_are = is.items_are;
+      refused = is.refused;
+      held = is.held;
+    })
+
 -- the part of all batches has all rows
-pub whole_part : (work : GroupWorkAt) (result : Result GroupsAt Fault) → GroupsOfPart work 0 (length work.batches) result → GroupsOfAll work result
-whole_part work result is =
+pub whole_part : (work : GroupWorkAt) (to : ℕ) (result : Result GroupsAt Fault) → to ≡ length work.batches → GroupsOfPart work 0 to result → GroupsOfAll work result
+whole_part work to result last is =
     subst (λ (some : List BatchAt). IfOk result (AreGroupsOf work (passing work.pick (flat_map rows_of some))))
-    (from_first (length work.batches) work.batches ∙ take-length work.batches) is
+    (from_first (length work.batches) work.batches ∙ take-length work.batches)
+    (subst (λ (n : ℕ). GroupsOfPart work 0 n result) last is)
 
 -- ---- the answer
 

@@ -18,10 +18,9 @@ use Rattle.scan_exec.specs.Giving.{GivingAt, GivingOn, IsOfLast, GivesBatch, Giv
 use Rattle.scan_exec.specs.Answering.{CountsNext, CountsTurn, IsScan, number_in, renumbered, scan_at}
 use Rattle.row_sources.specs.Running.{RowsAt, FindsPiece, FindsNone, Ends}
 use Rattle.row_sources.specs.declared.turn.Patience.{Patience}
-use Rattle.row_sources.specs.declared.turn.Patience.TheVariants.{Endless}
 use Rattle.row_sources.specs.declared.turn.Turn.{Turn}
 use Rattle.row_sources.specs.declared.turn.Turn.TheVariants.{Given, Working, End}
-use Rattle.scan_exec.specs.Scan.{ScanAt, Continues, IsLatest, GivesRows, GivesTurn, MayRefuse, Gives}
+use Rattle.scan_exec.specs.Scan.{ScanAt, Continues, IsLatest, GivesRows, GivesTurn, IsReadied, MayRefuse, Gives}
 use Rattle.scan_exec.specs.Scan as of_scan
 use Rattle.row_sources.proofs.JoinSteps.{as_many}
 
@@ -209,6 +208,13 @@ module _ (schema : Schema) (batches : List (ℕ × ℕ)) (further : ℕ) (before
   gave_none_yet view refused v n none e =
       subst (λ (s : ScanAt). (s.refused ≡ None) × of_scan.GivesNoneYet s (scan_at schema after batches further now refused)) v
       (n, record { same = ap (map (renumbered firsts)) none.same; given = e; on = continues none.on refused refused; refused = n })
+
+  -- what is made before the first row
+  pub readied : (view : ScanAt) (refused : Option Fault) → scan_at schema before batches further given refused ≡ view → GivesNoneYet before after → now ≡ given →
+      IsReadied view (scan_at schema after batches further now refused)
+  readied view refused v none e =
+      subst (λ (s : ScanAt). IsReadied s (scan_at schema after batches further now refused)) v
+      (record { same = ap (map (renumbered firsts)) none.same; given = e; on = continues none.on refused refused; refused = refl })
 
   -- what a turn gives
   pub turned : (patience : Patience) (view : ScanAt) (refused : Option Fault) (found : Turn BatchAt) →

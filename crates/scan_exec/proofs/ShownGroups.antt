@@ -1,5 +1,5 @@
 -- Groups of which each different item is made once.
-use Rattle.std.proofs.Common.{◌≡◌, ◌≤◌, ◌<◌, ℕ, true, List, [], ◌∷◌, ◌++◌, length, map, get_or, nat_lt, unwrap_or, Option, Some, None, option_map, Result, Ok, Err, refl, sym, ap, ◌∙◌, arith}
+use Rattle.std.proofs.Common.{◌≡◌, ◌<◌, ℕ, true, List, [], ◌∷◌, ◌++◌, length, map, nat_lt, unwrap_or, Option, Some, None, option_map, Result, Ok, Err, refl, sym, ap, ◌∙◌, arith}
 use Rattle.std.specs.List.{filter}
 use Rattle.std.specs.declared.alloc.AllocError.{AllocError}
 use Rattle.std.proofs.lemmas.Bool.{ltb-true, and_parts}
@@ -11,7 +11,7 @@ use Rattle.arrow_schema.specs.declared.data_type.DataType.{DataType}
 use Rattle.arrow_schema.specs.declared.data_type.DataType.TheVariants.{Utf8}
 use Rattle.arrays.specs.Batch.{BatchAt, cut_batch, rows_of}
 use Rattle.arrays.specs.Typed.{AreOf}
-use Rattle.scan_base.specs.Predicate.{Pred, cell_in}
+use Rattle.scan_base.specs.Predicate.{Pred}
 use Rattle.scan_base.specs.View.{pred_of}
 use Rattle.scan_base.specs.declared.value.Value.{Value}
 use Rattle.table_versions.specs.Table.{Row}
@@ -26,14 +26,14 @@ use Rattle.opened_batches.specs.Chosen.{are_within}
 use Rattle.row_sources.specs.declared.part.Part.{Part}
 use Rattle.row_sources.specs.declared.picker.Picker.{Picker}
 use Rattle.row_sources.specs.Picked.{Picks, given_of_part}
-use Rattle.row_sources.specs.Picking.{PickAt, IsPick, cells_at, holds, pick_of}
+use Rattle.row_sources.specs.Picking.{IsPick, cells_at, holds, pick_of}
 use Rattle.row_sources.specs.Running.{RowsAt}
 use Rattle.row_sources.proofs.Cells.{cell-map}
 use Rattle.row_sources.proofs.Giving.{filter-all}
 use Rattle.row_sources.proofs.JoinSteps.{as_many, whole_part}
 use Rattle.scan_exec.specs.Answering.{answer_for}
 use Rattle.scan_exec.specs.Different.{StandFor, item_at}
-use Rattle.scan_exec.specs.Giving.{GivingAt, GivingOn, GivesBatch, GivesNone, GivesNext}
+use Rattle.scan_exec.specs.Giving.{GivingAt, GivingOn, GivesBatch, GivesNone, GivesNext, MakesReady}
 use Rattle.scan_exec.specs.ShownGroups.{ShowsAll, with_cells}
 
 -- a row with its cells of these numbers
@@ -66,6 +66,23 @@ module _ (before after : GivingAt) (picker : Picker) (shows : ShowsAll before pi
     all = gives.all;
     on = on_shown gives.on;
   }
+
+  -- what is made before the first row
+  pub ready_shown : (result : Result (Unit {0}) AllocError) → MakesReady before result after → MakesReady (with_cells picker.shown.items before) result (with_cells picker.shown.items after)
+  ready_shown (Ok _) ready = record { same = ap (map (show picker.shown.items)) ready.same; on = on_shown ready.on }
+  ready_shown (Err refused) on = on_shown on
+
+  -- all rows are shown then too
+  pub still_shows : (result : Result (Unit {0}) AllocError) → MakesReady before result after → ShowsAll after picker
+  still_shows result ready = record {
+    all = shows.all;
+    unread = shows.unread;
+    there = ap (λ (types : List DataType). are_within (length types) picker.shown.items) (types result ready) ∙ shows.there;
+  }
+    where
+      types : (result : Result (Unit {0}) AllocError) → MakesReady before result after → after.types ≡ before.types
+      types (Ok _) ready = ready.on.types
+      types (Err refused) on = on.types
 
   -- what is given of all rows of a batch
   given_whole : (part : Part) → part.from ≡ 0 → part.to ≡ part.batch.now.rows →

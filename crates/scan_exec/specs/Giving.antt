@@ -70,6 +70,11 @@ pub record GivesNoneYet (before after : GivingAt) : Type 0 where
   pub same : before.ahead ≡ after.ahead
   pub on : GivingOn before after
 
+-- What is needed before the first row is made, or memory was refused.
+abbrev pub MakesReady : GivingAt → Result (Unit {0}) AllocError → GivingAt → Type 0
+MakesReady before (Ok _) after = GivesNoneYet before after
+MakesReady before (Err _) after = GivingOn before after
+
 -- What a turn gives: the next batch, or none where no row is left. One whose patience has an end may give none yet.
 abbrev pub GivesTurn : Patience → GivingAt → Result (Turn BatchAt) AllocError → GivingAt → Type 0
 GivesTurn patience before (Ok (Given batch)) after = GivesBatch before batch after

@@ -1,5 +1,5 @@
 -- What is grouped, and the groups of it.
-use Rattle.std.specs.Prelude.{◌≡◌, ◌≤◌, ℕ, ◌-◌, All, List, length, take, drop, None, Result, IfOk}
+use Rattle.std.specs.Prelude.{◌≡◌, ◌≤◌, ℕ, ◌+◌, ◌-◌, All, List, length, take, drop, None, Result, IfOk}
 use Rattle.std.specs.List.{filter, flat_map}
 use Rattle.arrow_schema.specs.declared.data_type.DataType.{DataType}
 use Rattle.arrays.specs.Batch.{BatchAt, rows_of}
@@ -54,6 +54,10 @@ pub record AreGroupsOf (work : GroupWorkAt) (rows : List Row) (groups : GroupsAt
 abbrev pub batches_between : ℕ → ℕ → List BatchAt → List BatchAt
 batches_between from to batches = take (to - from) (drop from batches)
 
+-- how many rows they have
+abbrev pub rows_between : ℕ → ℕ → List BatchAt → ℕ
+rows_between from to batches = length (flat_map rows_of (batches_between from to batches))
+
 -- the groups of those batches, unless memory was refused
 abbrev pub GroupsOfPart : GroupWorkAt → ℕ → ℕ → Result GroupsAt Fault → Type 0
 GroupsOfPart work from to result = IfOk result (AreGroupsOf work (passing work.pick (flat_map rows_of (batches_between from to work.batches))))
@@ -61,3 +65,57 @@ GroupsOfPart work from to result = IfOk result (AreGroupsOf work (passing work.p
 -- the groups of all batches, unless memory was refused
 abbrev pub GroupsOfAll : GroupWorkAt → Result GroupsAt Fault → Type 0
 GroupsOfAll work result = IfOk result (AreGroupsOf work (passing work.pick (flat_map rows_of work.batches)))
+
+-- a part of the batches, from one up to, not with, another, of which those before `at` were fed, and its rows that the filters let
+-- through
+pub record PartAt : Type 0 where
+  pub batches : List BatchAt
+  pub types : List DataType
+  pub keys : List ℕ
+  pub items : List Aggregate
+  pub rows : List Row
+  pub from : ℕ
+  pub at : ℕ
+  pub to : ℕ
+
+-- what is seen of a part of what is grouped
+abbrev pub part_at : GroupWorkAt → ℕ → ℕ → ℕ → PartAt
+part_at work from at to = record {
+  batches = work.batches;
+  types = work.types;
+  keys = work.keys;
+  items = work.items;
+  rows = passing work.pick (flat_map rows_of (batches_between from to work.batches));
+  from = from;
+  at = at;
+  to = to;
+}
+
+-- it is the part of what is grouped that begins and ends at these batches
+pub record IsPartOf (work : GroupWorkAt) (from to : ℕ) (part : PartAt) : Type 0 where
+  pub batches : part.batches ≡ work.batches
+  pub types : part.types ≡ work.types
+  pub keys : part.keys ≡ work.keys
+  pub items : part.items ≡ work.items
+  pub rows : part.rows ≡ passing work.pick (flat_map rows_of (batches_between from to work.batches))
+
+-- it is the same part, of which other batches may have been fed
+pub record IsSamePart (before after : PartAt) : Type 0 where
+  pub batches : after.batches ≡ before.batches
+  pub types : after.types ≡ before.types
+  pub keys : after.keys ≡ before.keys
+  pub items : after.items ≡ before.items
+  pub rows : after.rows ≡ before.rows
+  pub to : after.to ≡ before.to
+
+-- Inside: the groups are those of the batches that were fed, and the others can be fed.
+pub record IsPartFed (work : GroupWorkAt) (from at to : ℕ) (groups : GroupsAt) : Type 0 where
+  pub can : CanBeGrouped work
+  pub begun : from ≤ at
+  pub ordered : at ≤ to
+  pub there : to ≤ length work.batches
+  pub fed : AreGroupsOf work (passing work.pick (flat_map rows_of (batches_between from at work.batches))) groups
+
+-- Inside: the next batch of the part has so many rows.
+abbrev pub CountsNext : PartAt → ℕ → Type 0
+CountsNext part rows = (first : ℕ) → first ≤ part.at → rows_between first (part.at + 1) part.batches ≡ rows_between first part.at part.batches + rows

@@ -97,6 +97,13 @@ GivesTurn patience before (Ok Working) after = (before.refused ≡ None) × Give
 GivesTurn patience before (Ok End) after = Gives before (Ok None) after
 GivesTurn patience before (Err fault) after = Gives before (Err fault) after
 
+-- the same scan, where what it needs before its first row is made
+pub record IsReadied (before after : ScanAt) : Type 0 where
+  pub same : before.ahead ≡ after.ahead
+  pub given : after.given ≡ before.given
+  pub on : Continues before after
+  pub refused : after.refused ≡ before.refused
+
 -- a scan of a plan over the rows `from` up to, not with, `to` of its first place, before its first batch
 pub record IsBeginning (bound : BoundAt) (from to : ℕ) (scan : ScanAt) : Type 0 where
   pub schema : scan.schema ≡ bound.schema

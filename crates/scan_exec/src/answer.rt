@@ -1,10 +1,10 @@
 //! What a scan gives: rows, or groups of them.
 
-ghost use Rattle.std.specs.Prelude.{◌≡◌, ◌≤◌, true, IfOk, length, take};
+ghost use Rattle.std.specs.Prelude.{◌≡◌, ◌≤◌, true, IfOk, length, take, OnOk};
 ghost use Rattle.scan_base.specs.Limits.{most_rows};
 ghost use Rattle.typed_plan.specs.Typed.{HasOutput, is_grouping};
 ghost use Rattle.scan_exec.specs.Answering.{IsGiving, answer_for, giving_at};
-ghost use Rattle.scan_exec.specs.Giving.{GivesTurn, of_rows};
+ghost use Rattle.scan_exec.specs.Giving.{GivesTurn, MakesReady, of_rows};
 
 use crate::different::Different;
 use crate::different_keys::DifferentKeys;
@@ -14,7 +14,7 @@ use crate::making::Making;
 use crate::shown_groups::ShownGroups;
 use arrays::Batch;
 use hash_seed::HashSeed;
-use row_sources::{Looking, Patience, RowSource, Rows, Turn, UnfilteredRows};
+use row_sources::{Looking, Patience, RowSource, Rows, Turn, UnfilteredRows, Watches};
 use std::alloc::{AllocError, Global};
 use typed_plan::Output;
 
@@ -35,6 +35,26 @@ impl Drop for Answer {
 }
 
 impl Answer {
+    // Makes the groups of a grouped query, unless they are there. Who watches may end it.
+    pub(crate) fn make_groups<G: GroupsBatches, W: Watches>(
+        &mut self,
+        alloc: Global,
+        by: &G,
+        watch: &mut W,
+    ) -> Result<(), AllocError>
+        requires giving { IsGiving self.old }
+        requires ready { W.ready watch.old }
+        ensures giving { IsGiving self.new }
+        ensures makes { MakesReady (giving_at self.old) result (giving_at self.new) }
+        ensures ready { OnOk result (W.ready watch.new) }
+        ensures watched { W.watched watch.old watch.new }
+    {
+        match self {
+            Answer::Rows(_) => Ok(()),
+            Answer::Groups(groups) => groups.make(alloc, by, watch),
+        }
+    }
+
     // A turn to the next batch.
     pub(crate) fn turn<G: GroupsBatches>(
         &mut self,

@@ -1,6 +1,6 @@
 //! Scans.
 
-ghost use Rattle.std.specs.Prelude.{◌≡◌, ◌≤◌, ◌<◌, [], false, IfOk, IfSome, length};
+ghost use Rattle.std.specs.Prelude.{◌≡◌, ◌≤◌, ◌<◌, [], false, IfOk, IfSome, length, OnOk};
 ghost use Rattle.std.specs.List.{list_any};
 ghost use Rattle.table_versions.specs.Stored.{CatalogAt, tables_of};
 ghost use Rattle.table_versions.specs.Table.{is_long_text};
@@ -10,7 +10,7 @@ ghost use Rattle.typed_plan.specs.View.{plan_of};
 ghost use Rattle.scan_base.specs.Limits.{most_answer_rows};
 ghost use Rattle.scan_exec.specs.Answering.{CountsTurn, IsGiving, giving_at};
 ghost use Rattle.scan_exec.specs.Morsels.{HasMorsels, morsel_of, of_first};
-ghost use Rattle.scan_exec.specs.Scan.{Gives, GivesTurn, IsBeginning, left};
+ghost use Rattle.scan_exec.specs.Scan.{Gives, GivesTurn, IsBeginning, IsReadied, left};
 
 use crate::answer::{Answer, answer_of};
 use crate::group_work::{GroupsBatches, InOneWalk};
@@ -21,7 +21,7 @@ use arrow_schema::Schema;
 use hash_seed::HashSeed;
 use opened_batches::opened_lists;
 use rewrite::laws::skipping_keeps_rows;
-use row_sources::{Patience, Reading, RowSource, Turn, opened_tables};
+use row_sources::{Patience, Reading, RowSource, Turn, Unwatched, Watches, opened_tables};
 use scan_base::Fault;
 use std::alloc::{AllocError, Global};
 use std::marker::Model;
@@ -90,10 +90,37 @@ impl Scan {
             left scan ≡ plan_rows (plan_of plan) (tables_of catalog) range.start range.end) }
         ensures short { IfOk result (λ scan. list_any (list_any is_long_text) (left scan) ≡ false) }
     {
+        let reading = Reading {
+            seed,
+            from: range.start,
+            to: range.end,
+        };
+        Scan::watched(alloc, plan, reading, &mut Unwatched)
+    }
+
+    /// The same, watched: who watches may end it while the further places are read.
+    ///
+    /// # Errors
+    ///
+    /// `AllocError` where memory is refused, or who watches ends it.
+    pub fn watched<W: Watches>(
+        alloc: Global,
+        plan: TypedPlan,
+        reading: Reading,
+        watch: &mut W,
+    ) -> Result<Scan, AllocError>
+        requires ready { W.ready watch.old }
+        ensures begins { IfOk result (IsBeginning plan reading.from reading.to) }
+        ensures rows { IfOk result (λ scan. (catalog : CatalogAt) → HoldsFrom catalog plan →
+            left scan ≡ plan_rows (plan_of plan) (tables_of catalog) reading.from reading.to) }
+        ensures short { IfOk result (λ scan. list_any (list_any is_long_text) (left scan) ≡ false) }
+        ensures ready { OnOk result (W.ready watch.new) }
+        ensures watched { W.watched watch.old watch.new }
+    {
         skipping_keeps_rows();
         let _typed = plan.plan();
         let _columns = plan.tables();
-        let lists = opened_lists(alloc, &plan, range.start, range.end)?;
+        let lists = opened_lists(alloc, &plan, reading.from, reading.to)?;
         let mut batches = further_batches(alloc, lists.as_slice())?;
         let further = batches.len();
         let first = &lists[0];
@@ -101,7 +128,9 @@ impl Scan {
         let (from, to) = (first.from, first.to);
         let (tables, plan, output, schema) = rewrite::rewrite(alloc, plan)?.into_parts();
         let tables = opened_tables(alloc, tables.as_slice(), lists)?;
-        let source = RowSource::new(alloc, plan, tables, Reading { seed, from, to })?;
+        let seed = reading.seed;
+        let opened = Reading { seed, from, to };
+        let source = RowSource::watched(alloc, plan, tables, opened, watch)?;
         Ok(Scan {
             schema: Arc::new(alloc, schema)?,
             answer: answer_of(alloc, source, output, seed)?,
@@ -117,6 +146,42 @@ impl Scan {
         ensures { result.now ≡ self.now.schema }
     {
         &self.schema
+    }
+
+    /// The same scan, whose groups are made, if it makes groups. Who watches may end it. What comes next is as before, but that all
+    /// batches of a grouped query are opened.
+    ///
+    /// # Errors
+    ///
+    /// `AllocError` where memory is refused, or who watches ends it.
+    pub fn readied<G: GroupsBatches, W: Watches>(
+        self,
+        alloc: Global,
+        by: &G,
+        watch: &mut W,
+    ) -> Result<Scan, AllocError>
+        requires ready { W.ready watch.old }
+        ensures readied { IfOk result (IsReadied self) }
+        ensures ready { OnOk result (W.ready watch.new) }
+        ensures watched { W.watched watch.old watch.new }
+    {
+        let Scan {
+            schema,
+            mut answer,
+            batches,
+            further,
+            given,
+            refused,
+        } = self;
+        answer.make_groups(alloc, by, watch)?;
+        Ok(Scan {
+            schema,
+            answer,
+            batches,
+            further,
+            given,
+            refused,
+        })
     }
 
     /// The next rows, 65,536 or fewer, as a batch. Rows of one place come batch by batch of its table: where they stand

@@ -1,15 +1,15 @@
 //! Groups of which each different item is made once.
 
-ghost use Rattle.std.specs.Prelude.{◌≡◌, IsTrue, length};
+ghost use Rattle.std.specs.Prelude.{◌≡◌, IsTrue, length, OnOk};
 ghost use Rattle.opened_batches.specs.Chosen.{are_within};
-ghost use Rattle.scan_exec.specs.Giving.{GivesNext};
+ghost use Rattle.scan_exec.specs.Giving.{GivesNext, MakesReady};
 ghost use Rattle.scan_exec.specs.ShownGroups.{with_cells};
 
 use crate::group_work::GroupsBatches;
 use crate::grouped::GroupedRows;
 use array_select::Selection;
 use arrays::Batch;
-use row_sources::{Part, Picker};
+use row_sources::{Part, Picker, Watches};
 use std::alloc::{AllocError, Global};
 use std::marker::Model;
 
@@ -52,6 +52,21 @@ impl ShownGroups {
             shown: columns,
         };
         ShownGroups { groups, shown }
+    }
+
+    // Makes the groups, unless they are there. Who watches may end it.
+    pub(crate) fn make<G: GroupsBatches, W: Watches>(
+        &mut self,
+        alloc: Global,
+        by: &G,
+        watch: &mut W,
+    ) -> Result<(), AllocError>
+        requires ready { W.ready watch.old }
+        ensures makes { MakesReady self.old result self.new }
+        ensures ready { OnOk result (W.ready watch.new) }
+        ensures watched { W.watched watch.old watch.new }
+    {
+        self.groups.make(alloc, by, watch)
     }
 
     // The next batch of the answer. A column that is given more than once lies in the same buffers.

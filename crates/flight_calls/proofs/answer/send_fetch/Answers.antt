@@ -1,6 +1,6 @@
 use Rattle.std.proofs.Common.{inl, refl}
 use Rattle.std.proofs.lemmas.Result.{err_from_is_err_and}
-use Rattle.flight_calls.proofs.Streaming.{first_given, made_behind, sends_fetch, stream_begins, stream_ends_by, stream_fails, stream_goes_on, stream_rest}
+use Rattle.flight_calls.proofs.Streaming.{first_given, made_behind, sends_fetch, stream_begins, stream_ends_by, stream_fails, stream_goes_on, stream_rest, stream_stops, stream_waits}
 use Rattle.flight_calls.proofs.answer.send_fetch.Goals as goal
 
 -- no memory for the first payload
@@ -21,16 +21,28 @@ returns-in_err-send_first-clause-bytes g c =
     rw p.1 (λ database handle opens. sends_fetch database handle law opening _ _ _ _ _ opens
     (stream_fails law _ opening opening _ _ _ _ _ _ _ _ (stream_begins law opening _ _) gives c.in_err-send_first.ensures.bytes))
 
--- it was, and then the rest, or not
-pub returns-in-Ok-stream-clause-bytes : goal.returns-in-Ok-stream-clause-bytes
-returns-in-Ok-stream-clause-bytes g c database handle opens =
+-- it was, and then a look failed while the rest was made
+pub returns-in_err-stream-clause-bytes : goal.returns-in_err-stream-clause-bytes
+returns-in_err-stream-clause-bytes g c =
+    let p = err_from_is_err_and c.from_residual-in_err-stream.result c.from_residual-in_err-stream.ensures.1 in
     let law = c.streams_answer.ensures in
     let opening = c.args.opening in
     let gives = first_given opening c.in-Ok.first c.in-Ok.ensures.before c.in-Ok.ensures.gives in
     let sent = stream_goes_on law opening opening _ _ _ _ _ _ _ _ (stream_begins law opening _ _) gives c.in_ok-send_first.ensures.bytes in
-    let made = made_behind opening c.in-Ok-stream.stream c.behind_schema.result c.in-Ok.ensures.before c.in-Ok-stream.ensures c.behind_schema.ensures in
+    rw p.1 (λ database handle opens. sends_fetch database handle law opening _ _ _ _ _ opens
+    (stream_stops law _ opening _ _ _ _ _ _ _ sent c.in_err-stream.ensures.bytes))
+
+-- it was, and then the rest, or not
+pub returns-in-Some-clause-bytes : goal.returns-in-Some-clause-bytes
+returns-in-Some-clause-bytes g c database handle opens =
+    let law = c.streams_answer.ensures in
+    let opening = c.args.opening in
+    let gives = first_given opening c.in-Ok.first c.in-Ok.ensures.before c.in-Ok.ensures.gives in
+    let sent = stream_goes_on law opening opening _ _ _ _ _ _ _ _ (stream_begins law opening _ _) gives c.in_ok-send_first.ensures.bytes in
+    let waited = stream_waits law opening _ _ _ _ _ _ _ _ sent refl c.in_ok-stream.ensures.bytes in
+    let made = made_behind opening c.in-Some.stream c.behind_schema.result c.in-Ok.ensures.before (rw c.in-Some.is at c.in_ok-stream.ensures.stream) c.behind_schema.ensures in
     sends_fetch database handle law opening _ _ _ _ _ opens
-    (stream_rest law _ opening _ _ made _ _ _ _ _ _ sent c.send_rest.ensures.bytes)
+    (stream_rest law _ opening _ _ made _ _ _ _ _ _ waited c.send_rest.ensures.bytes)
 
 -- no memory for the rest
 pub returns-clause-bytes : goal.returns-clause-bytes
@@ -39,5 +51,6 @@ returns-clause-bytes g c database handle opens =
     let opening = c.args.opening in
     let gives = first_given opening c.in-Ok.first c.in-Ok.ensures.before c.in-Ok.ensures.gives in
     let sent = stream_goes_on law opening opening _ _ _ _ _ _ _ _ (stream_begins law opening _ _) gives c.in_ok-send_first.ensures.bytes in
+    let waited = stream_waits law opening _ _ _ _ _ _ _ _ sent refl c.in_ok-stream.ensures.bytes in
     sends_fetch database handle law opening _ _ _ _ _ opens
-    (stream_ends_by law _ _ opening _ _ _ _ _ _ _ sent (λ none. inl refl) c.send_status-in-Err-stream.ensures.bytes)
+    (stream_ends_by law _ _ opening _ _ _ _ _ _ _ waited (λ none. inl refl) c.send_status-in-None.ensures.bytes)

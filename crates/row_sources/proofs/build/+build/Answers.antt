@@ -33,7 +33,7 @@ use Rattle.row_sources.proofs.Sizes.{tree_size}
 use Rattle.row_sources.proofs.build.+build.Goals as goal
 
 pub returns-in-Filter-clause-sourced : goal.returns-in-Filter-clause-sourced
-returns-in-Filter-clause-sourced t c =
+returns-in-Filter-clause-sourced g t c =
     let made = c.in_ok-made-in-Filter.made in
     let input = c.into_inner.result in
     let predicate : Pred ℕ = pred_of c.in-Filter.predicate in
@@ -54,7 +54,7 @@ returns-in-Filter-clause-sourced t c =
     }
 
 pub returns-in-Filter-clause-begun : goal.returns-in-Filter-clause-begun
-returns-in-Filter-clause-begun t c =
+returns-in-Filter-clause-begun g t c =
     let made = c.in_ok-made-in-Filter.made in
     let input = c.into_inner.result in
     let predicate : Pred ℕ = pred_of c.in-Filter.predicate in
@@ -71,7 +71,7 @@ returns-in-Filter-clause-begun t c =
     c.in_ok-made-in-Filter.ensures.begun))
 
 pub returns-in-Filter-clause-few : goal.returns-in-Filter-clause-few
-returns-in-Filter-clause-few t c place =
+returns-in-Filter-clause-few g t c place =
     let input = c.into_inner.result in
     let predicate : Pred ℕ = pred_of c.in-Filter.predicate in
     let tree : tree_of c.args.plan ≡ filtered predicate (tree_of input) =
@@ -88,7 +88,7 @@ first_front [] last more = absurd (omega (arith, more))
 first_front (table ∷ tables) last more = refl
 
 pub build-requires-in-Join : goal.build-requires-in-Join
-build-requires-in-Join t c =
+build-requires-in-Join g t c κs lives =
     let left = tree_of c.in-Join.left.value in
     let right = tree_of c.in-Join.right.value in
     let tree : tree_of c.args.plan ≡ joined left right c.in-Join.on = ap tree_of c.in-Join.is in
@@ -102,19 +102,25 @@ build-requires-in-Join t c =
     omega (arith, ap (λ (plan : Plan). tree_size (tree_of plan)) c.into_inner-in-Join.ensures, ap tree_size tree) in (
       first_of (omega (arith, smaller), search (rules, smaller)),
       (
-        subst (λ (plan : Plan). IsTypedTree (tree_of plan)) (sym c.into_inner-in-Join.ensures) typed.0,
+        lives,
         (
-          ap (λ (plan : Plan). tree_schemas (tree_of plan)) c.into_inner-in-Join.ensures ∙ sides.0,
+          subst (λ (plan : Plan). IsTypedTree (tree_of plan)) (sym c.into_inner-in-Join.ensures) typed.0,
           (
-            subst (BeginsInFirst c.args.reading.from) first c.requires.first,
-            subst (λ (batches : List BatchAt). batches_in c.args.reading.from c.args.reading.to batches ≡ range_with_len 0 (length batches)) first c.requires.each,
+            ap (λ (plan : Plan). tree_schemas (tree_of plan)) c.into_inner-in-Join.ensures ∙ sides.0,
+            (
+              subst (BeginsInFirst c.args.reading.from) first c.requires.first,
+              (
+                subst (λ (batches : List BatchAt). batches_in c.args.reading.from c.args.reading.to batches ≡ range_with_len 0 (length batches)) first c.requires.each,
+                c.requires.ready,
+              ),
+            ),
           ),
         ),
       ),
     )
 
 pub build-requires-in-Join-2 : goal.build-requires-in-Join-2
-build-requires-in-Join-2 t c =
+build-requires-in-Join-2 g t c κs lives =
     let left = tree_of c.in-Join.left.value in
     let right = tree_of c.in-Join.right.value in
     let table = c.in_ok-table-in-Join.table in
@@ -128,20 +134,26 @@ build-requires-in-Join-2 t c =
     omega (arith, ap (λ (plan : Plan). tree_size (tree_of plan)) c.into_inner-in-Join-2.ensures, ap tree_size tree) in (
       first_of (omega (arith, smaller), search (rules, smaller)),
       (
-        subst (λ (plan : Plan). IsTypedTree (tree_of plan)) (sym c.into_inner-in-Join-2.ensures) typed.1,
+        lives,
         (
-          ap (λ (plan : Plan). tree_schemas (tree_of plan)) c.into_inner-in-Join-2.ensures ∙ sides.1 ∙ ap schemas_of (sym lasts),
+          subst (λ (plan : Plan). IsTypedTree (tree_of plan)) (sym c.into_inner-in-Join-2.ensures) typed.1,
           (
-            inl refl,
-            subst (λ (tables : List TableAt). batches_in 0 c.rows-to.result (first_batches tables) ≡ range_with_len 0 (length (first_batches tables))) (sym lasts)
-                (all_whole table c.rows-to.result c.rows-to.ensures.kept),
+            ap (λ (plan : Plan). tree_schemas (tree_of plan)) c.into_inner-in-Join-2.ensures ∙ sides.1 ∙ ap schemas_of (sym lasts),
+            (
+              inl refl,
+              (
+                subst (λ (tables : List TableAt). batches_in 0 c.rows-to.result (first_batches tables) ≡ range_with_len 0 (length (first_batches tables))) (sym lasts)
+                    (all_whole table c.rows-to.result c.rows-to.ensures.kept),
+                c.in_ok-left-in-Join.ensures.ready,
+              ),
+            ),
           ),
         ),
       ),
     )
 
 pub join_source-requires-clause-joinable : goal.join_source-requires-clause-joinable
-join_source-requires-clause-joinable t c =
+join_source-requires-clause-joinable g t c =
     let left = tree_of c.in-Join.left.value in
     let right = tree_of c.in-Join.right.value in
     let table = c.in_ok-table-in-Join.table in
@@ -161,7 +173,7 @@ join_source-requires-clause-joinable t c =
     (can_join left right c.in-Join.on popped table from to c.rows-to.result a b typed l r kept.counted kept.few)
 
 pub returns-clause-begun : goal.returns-clause-begun
-returns-clause-begun t c =
+returns-clause-begun g t c =
     let left = tree_of c.in-Join.left.value in
     let right = tree_of c.in-Join.right.value in
     let table = c.in_ok-table-in-Join.table in
@@ -190,7 +202,7 @@ returns-clause-begun t c =
 
 -- a join is no place
 pub returns-clause-few : goal.returns-clause-few
-returns-clause-few t c =
+returns-clause-few g t c =
     let left = tree_of c.in-Join.left.value in
     let right = tree_of c.in-Join.right.value in
     let tree : tree_of c.args.plan ≡ joined left right c.in-Join.on = ap tree_of c.in-Join.is in
@@ -210,7 +222,7 @@ single tables (first ∷ popped) last schema e all =
     absurd (omega (arith, ap length e, ap length all, length-map tables (λ (table : TableAt). table.schema), length-append popped (last ∷ [])))
 
 pub returns-in-Scan-clause-begun : goal.returns-in-Scan-clause-begun
-returns-in-Scan-clause-begun t c =
+returns-in-Scan-clause-begun g t c =
     let table = c.in_ok-table-in-Scan.table in
     let name = c.in-Scan.table in
     let some = c.in-Scan.columns in

@@ -6,8 +6,8 @@ use Rattle.fetch_stream.specs.inside.Opening.{rows_meant}
 use Rattle.fetch_stream.proofs.Going.{opens_behind}
 use Rattle.fetch_stream.proofs.opening.PlannedScan.stream.Goals as goal
 
-pub returns : goal.returns
-returns c =
+pub returns-clause-stream : goal.returns-clause-stream
+returns-clause-stream g c =
     let scan = c.in_ok-scan.scan in
     let begins = c.in_ok-scan.ensures.begins in
     let nothing : rows_of c.new-nothing.result ≡ [] = rw c.new-nothing.ensures refl in

@@ -1,6 +1,11 @@
+use Rattle.std.proofs.Common.{length, refl}
 use Rattle.scan_exec.specs.GroupWork.{work_at}
-use Rattle.scan_exec.proofs.Grouping.{whole_part}
+use Rattle.scan_exec.proofs.Grouping.{begun_part, whole_part}
 use Rattle.scan_exec.proofs.group_work.InOneWalkGroupsBatches.groups_of_all.Goals as goal
 
-pub returns : goal.returns
-returns c = whole_part (work_at c.args.work.now) c.groups_of_part.result c.groups_of_part.ensures
+pub returns-clause-groups : goal.returns-clause-groups
+returns-clause-groups g c =
+    let work = work_at c.args.work.now in
+    let last = length work.batches in
+    whole_part work last c.into_groups.result refl
+    (c.into_groups.ensures.groups work 0 last (begun_part work 0 0 last c.in_ok-part.part c.in_ok-part.ensures))
