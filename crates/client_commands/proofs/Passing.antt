@@ -390,7 +390,7 @@ module _ (front behind : List EndpointSaid) (endpoint : EndpointSaid) (streams :
         schema,
         first_says,
         subst (λ (n : ℕ). BreaksOff (numbered_schema schema) (rows_held (streams ++ stops.stream ∷ [])) begun.bytes out.bytes n out.failures) quiet
-        (subst (λ (rows : Rows). BreaksOff (numbered_schema schema) rows begun.bytes out.bytes mid.failures out.failures) (sym (rows_more streams stops.stream)) off),
+            (subst (λ (rows : Rows). BreaksOff (numbered_schema schema) rows begun.bytes out.bytes mid.failures out.failures) (sym (rows_more streams stops.stream)) off),
       )
 
       up_to : (fault : Fault) → EndsAt fault (numbered_schema schema) (rows_held streams ++ stops.stream.rows) begun.bytes out.bytes mid.failures out.failures → WritesUpTo fault (streams ++ stops.stream ∷ []) begun out
@@ -442,12 +442,15 @@ schema_unsent endpoint behind state schema fault first line begun out it is begi
   where
     by : (fault : Fault) → Begins {A = WriterAt} (λ (writer : WriterAt). writer) (Err fault) (numbered_schema schema) begun.bytes out.bytes → IsCause (numbered_schema schema) [] fault → CountsTransport {A = Unit {0}} (Err fault) begun.failures out.failures
         → WhyNoMore (it.stream ∷ []) fault × WritesUpTo fault (it.stream ∷ []) begun out
-    by Transport begins cause counted = (tt, (
-      schema,
-      (it.known, it.state_is ∙ it.has_schema, is),
-      subst (λ (rows : Rows). WritesBeginning (numbered_schema schema) rows begun.bytes out.bytes) (sym (append-nil it.stream.rows ∙ it.no_rows)) begins,
-      counted,
-    ))
+    by Transport begins cause counted = (
+      tt,
+      (
+        schema,
+        (it.known, it.state_is ∙ it.has_schema, is),
+        subst (λ (rows : Rows). WritesBeginning (numbered_schema schema) rows begun.bytes out.bytes) (sym (append-nil it.stream.rows ∙ it.no_rows)) begins,
+        counted,
+      ),
+    )
     by OutOfMemory begins cause counted = (tt, inl (same_said begun out begins counted))
     by LimitReached begins cause counted = absurd (cause (All-nil (HasShortRows (numbered_schema schema))))
     by _ begins cause counted = absurd cause
@@ -468,7 +471,7 @@ have_written endpoints first begun mid out now passed breaks = inr (
   now.schema,
   passed.says,
   subst (λ (n : ℕ). BreaksOff (numbered_schema now.schema) (rows_held passed.streams) begun.bytes out.bytes n out.failures) passed.quiet
-  (breaks (numbered_schema now.schema) (rows_held passed.streams) begun.bytes passed.so),
+      (breaks (numbered_schema now.schema) (rows_held passed.streams) begun.bytes passed.so),
 )
 
 module _ (wanted : Wanted) (endpoints : List EndpointSaid) (old middle : Line) (asked : Asks wanted (Ok endpoints) old middle) (begun out out' : Said) (now : PassingAt) (passed : HavePassed endpoints middle begun now out) where
@@ -499,7 +502,7 @@ module _ (wanted : Wanted) (endpoints : List EndpointSaid) (old middle : Line) (
         refl,
         subst (WhyNoMore passed.streams) (sym is) tt,
         subst (λ (f : Fault). WritesUpTo f passed.streams begun out') (sym is)
-        (now.schema, passed.says, part, subst (λ (n : ℕ). out'.failures ≡ n + 1) passed.quiet (subst (λ (f : Fault). CountsTransport {A = Unit {0}} (Err f) out.failures out'.failures) is counted)),
+            (now.schema, passed.says, part, subst (λ (n : ℕ). out'.failures ≡ n + 1) passed.quiet (subst (λ (f : Fault). CountsTransport {A = Unit {0}} (Err f) out.failures out'.failures) is counted)),
         refl,
       );
     };

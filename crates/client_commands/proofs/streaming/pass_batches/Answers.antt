@@ -38,7 +38,7 @@ returns-in_err-batch g c ticket schema own rows start begun stream none passing 
     let i = c.loop-batch.invariant in
     let before = i.passes ticket schema own rows start begun stream none passing in
     let p = err_from_is_err_and c.from_residual.result c.from_residual.ensures.1 in
-    rw (p.1, p.2) (fetch_failed ticket schema own rows start begun before.0 _ _ _ before.1 _ _ _ _ _ (c.in_err-batch.ensures.next ticket before.0 begun before.1.state before.1.fetching) i.count c.in_err-batch.ensures.written)
+    rw (p.1, p.2) (fetch_failed ticket schema own rows start begun before.0 _ _ _ before.1 _ _ _ _ c.next_batch.new.writer (c.in_err-batch.ensures.next ticket before.0 begun before.1.state before.1.fetching) i.count c.in_err-batch.ensures.written)
 
 pub returns-in_err-write_batch : goal.returns-in_err-write_batch
 returns-in_err-write_batch g c ticket schema own rows start begun stream none passing =

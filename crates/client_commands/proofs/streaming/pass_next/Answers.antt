@@ -20,12 +20,12 @@ returns-in-Err g c front first begun before =
 pub returns-then-not-same_fields : goal.returns-then-not-same_fields
 returns-then-not-same_fields g c front first begun before =
     let mid = said_of g.O.Output c.args.output.now in
-    let out = said_of g.O.Output c.break_off.new.output in
+    let out = said_of g.O.Output c.break_off-then-not-same_fields.new.output in
     let passed = subst (λ (now : PassingAt). HavePassed front first begun now mid) (sym c.passing.view_is) before in
     let it = rw c.deref.ensures.value at c.in-Ok.ensures in
     let is = sym (c.schema.ensures.value it.known it.has_schema) in
     let differ : same_fields c.passing.inside.schema.fields c.schema.result.now.fields ≡ false = search rules in
-    λ behind. (_, has_other front behind (endpoint_said c.args.endpoint.now) passed.streams first _ passed.fetched _ _ c.passing.inside.schema c.schema.result.now begun out it (have_written front first begun mid out _ passed c.break_off.ensures) passed.says is differ)
+    λ behind. (_, has_other front behind (endpoint_said c.args.endpoint.now) passed.streams first _ passed.fetched _ _ c.passing.inside.schema c.schema.result.now begun out it (have_written front first begun mid out _ passed c.break_off-then-not-same_fields.ensures) passed.says is differ)
 
 pub pass_batches-requires-clause-fits : goal.pass_batches-requires-clause-fits
 pass_batches-requires-clause-fits g c =
@@ -39,7 +39,7 @@ pass_batches-requires-clause-fits g c =
 
 pub returns-in_err-pass_batches : goal.returns-in_err-pass_batches
 returns-in_err-pass_batches g c front first begun before =
-    let p = err_from_is_err_and c.from_residual-in_err-pass_batches.result c.from_residual-in_err-pass_batches.ensures.1 in
+    let p = err_from_is_err_and c.from_residual.result c.from_residual.ensures.1 in
     let out = said_of g.O.Output c.args.output.now in
     let passed = subst (λ (now : PassingAt). HavePassed front first begun now out) (sym c.passing.view_is) before in
     let it = rw c.deref.ensures.value at c.in-Ok.ensures in
