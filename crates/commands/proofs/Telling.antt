@@ -116,7 +116,7 @@ turns_put {L} accepts moves options (Took listener ends served last ∷ all) (su
     let made = puts_made moves options old.seat last.seat s.1.calls s.1.replies s.1.answers in
     let first : puts_of last.seat.made ≡ puts_of old.seat.made ++ puts_of here
     = ap puts_of made.2 ∙ puts_of-append old.seat.made (entries_in made.0)
-      ∙ ap (λ (l : List Put). puts_of old.seat.made ++ l) (puts_told options s.1.calls s.1.replies made.0 made.1) in
+    ∙ ap (λ (l : List Put). puts_of old.seat.made ++ l) (puts_told options s.1.calls s.1.replies made.0 made.1) in
     turns_put accepts moves options all more 100 result (worker_of listener last.seat) new s.2
     ∙ ap (λ (l : List Put). l ++ puts_of rest) first ∙ append_assoc (puts_of old.seat.made) (puts_of here) (puts_of rest)
     ∙ ap (λ (l : List Put). puts_of old.seat.made ++ l) (sym (puts_of-append here rest))
@@ -173,7 +173,7 @@ all_put {L} accepts shares options history heard (old ∷ workers) (new ∷ ends
     let told : Log = told_by accepts options history old new parts.0 in
     let here : puts_of new.worker.seat.made ≡ puts_of told
     = turns_put accepts onward options parts.0.serves.0 new.drawn 100 new.result old new.worker parts.0.serves.1
-      ∙ ap (λ (seat : Seat). puts_of seat.made ++ puts_of told) start.1 in
+    ∙ ap (λ (seat : Seat). puts_of seat.made ++ puts_of told) start.1 in
     let rest : map unmarked (made_by_each ends) ≡ map unmarked (told_by_each accepts options history workers ends parts.1)
     = all_put accepts shares options history heard workers ends parts.1 (All-tail (IsFresh shares heard) old workers fresh) in
     ap (λ (l : List Put). map added l ∷ map unmarked (made_by_each ends)) here ∙ ap (λ (l : List Log). unmarked told ∷ l) rest

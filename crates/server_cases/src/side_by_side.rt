@@ -135,10 +135,7 @@ fn part(from: usize, to: usize) -> &'static [u8] {
 }
 
 // Adds the answer to a fetch: the schema, a batch of five rows with these letters of texts, and status 0.
-pub(crate) fn add_stream(
-    answer: &mut Vec<u8>,
-    letters: &'static [u8],
-) -> Result<(), AllocError> {
+pub(crate) fn add_stream(answer: &mut Vec<u8>, letters: &'static [u8]) -> Result<(), AllocError> {
     let pieces = [
         b"\x02\x00\x00\x00\x01\x03\x12\x80\x02",
         part(8, 264),
