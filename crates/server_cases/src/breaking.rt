@@ -1,6 +1,6 @@
 //! Queries as an Arrow IPC stream that stop, over answers in memory. What is written of each is read as a stream.
 
-use crate::clients::answering;
+use crate::clients::network_of;
 use crate::side_by_side::{INFO, add_stream};
 use crate::texts::push_text;
 use bytes::Bytes;
@@ -66,7 +66,7 @@ where
         add_stream(&mut answer, b"baaab")?;
     }
     answer.extend_from_slice(case.rest)?;
-    let mut network = answering(alloc, &answer);
+    let mut network = network_of(alloc, &answer);
     let mut written = MemoryOutput::new(alloc);
     let mut said = MemoryOutput::new(alloc);
     let querying = Querying {

@@ -231,7 +231,7 @@ impl<'a> Connect for Answering<'a> {
 }
 
 // Connections whose server answers so, of which none was made.
-pub(crate) fn answering(alloc: Global, answer: &[u8]) -> Answering<'_> {
+pub(crate) fn network_of(alloc: Global, answer: &[u8]) -> Answering<'_> {
     Answering {
         alloc,
         answer,
@@ -302,7 +302,7 @@ pub(crate) static PUTS: [Case; 8] = [
 
 // What a put comes to: its exit status, how many connections it made, its lines, and what is said of faults.
 pub(crate) fn told_put(alloc: Global, case: &Case) -> Result<String, AllocError> {
-    let mut network = answering(alloc, case.answer);
+    let mut network = network_of(alloc, case.answer);
     let mut input = MemoryInput::new(case.input).failing_after(case.calls);
     let mut lines = MemoryOutput::new(alloc);
     let mut said = MemoryOutput::new(alloc);
