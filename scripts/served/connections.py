@@ -339,6 +339,44 @@ def schema_first(run: Run) -> str:
     return f"behind {' and '.join(found)} of it"
 
 
+GROUPED_BATCHES, GROUPED_ROWS = 6, 880_000  # that name one text of 2,048 bytes, each beside one of 1,000 numbers
+GROUPED = fetch_of(1, 0, GROUPED_BATCHES * GROUPED_ROWS, "SELECT v FROM t GROUP BY s, v")
+
+
+def grouped_put() -> bytes:
+    """A put of rows whose groups take seconds to make."""
+    text = trees.field("s", trees.UTF8, dictionary=trees.encoding(1, trees.integer(8, True)))
+    number = trees.field("v", trees.integer(64, True))
+    words = trees.dictionary(1, trees.batch(1, (0, b"", *trees.texts([b"x" * 2_048]))))
+    numbers = struct.pack("<1000q", *range(1_000)) * (GROUPED_ROWS // 1_000)
+    rows = trees.batch(GROUPED_ROWS, (0, b"", bytes(GROUPED_ROWS)), (0, b"", numbers))
+    made = [(trees.schema(text, number), b""), words] + [rows] * GROUPED_BATCHES
+    messages = [wire.chunk(2, written("Message", tree, "spread")) + wire.chunk(1000, body) for tree, body in made]
+    command = wire.descriptor(wire.packed(INGEST, wire.chunk(1, wire.scalar(1, 1)) + wire.chunk(2, b"t")))
+    return wire.call(b"DoPut", [wire.chunk(1, command) + messages[0], *messages[1:]])
+
+
+@case("a client that goes away while groups are made: its only seat is free before half of the time that the answer takes")
+def gone_while_grouping(run: Run) -> str:
+    with run.serving("--seats", "1") as server:
+        with Connection(server.port) as connection:
+            ask(connection, grouped_put(), PutCount(GROUPED_BATCHES * GROUPED_ROWS))
+            began = time.perf_counter()
+            connection.send(GROUPED)
+            rows_of(V, *[(number,) for number in range(1_000)]).look(connection.answer())
+            whole = time.perf_counter() - began
+        leaving = Connection(server.port)
+        leaving.send(GROUPED)
+        same("the first record is a Message", b"\x02", leaving.take(1))
+        began = time.perf_counter()
+        leaving.close()
+        with Connection(server.port) as waiting:
+            ask(waiting, PUT, Refusal("F10"))
+        free = time.perf_counter() - began
+    same(f"a seat was free after {free:.1f} of {whole:.1f} s", True, free < whole / 2)
+    return f"after {free:.1f} of {whole:.1f} s"
+
+
 @case("a client that waits before it calls: with --idle 0 its connection stays")
 def patient_server(run: Run) -> None:
     with run.serving("--idle", "0") as server:
