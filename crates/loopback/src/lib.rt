@@ -73,11 +73,11 @@ impl<'a, R> Loopback<'a, R> {
 }
 
 impl<R: Net<Listener = TcpListener, Stream = TcpStream>> Connect for Loopback<'_, R> {
+    ghost use Rattle.std.specs.Prelude.{◌≡◌, [], IfSome, Some};
+
     type Reader = Counted<TcpStream>;
 
     type Writer = SocketWriter;
-
-    ghost use Rattle.std.specs.Prelude.{◌≡◌, [], IfSome, Some};
 
     // Nothing was written to it yet.
     ghost connects = { λ _ _ made _. IfSome made (λ ends. ends.output ≡ Some []) };
@@ -125,11 +125,11 @@ fn patience_of(idle: u16) -> Option<Duration> {
 }
 
 impl<R: Net<Listener = TcpListener, Stream = TcpStream>> Listen for Port<'_, R> {
+    ghost use Rattle.std.specs.Prelude.{◌≡◌, [], IfSome, Some};
+
     type Reader = Counted<TcpStream>;
 
     type Writer = SocketWriter;
-
-    ghost use Rattle.std.specs.Prelude.{◌≡◌, [], IfSome, Some};
 
     ghost listens = { λ _ _ _ _ _. Unit {0} };
 
