@@ -65,9 +65,13 @@ schema_unread : (message : Payload) → most_request_bytes < length message → 
 schema_unread message long looks = let no = rw (too_long message long) at looks in cc
 
 pub command_too_long : (one : Single) (message : Payload) → (one ≡ GetFlightInfo) ⊎ (one ≡ GetSchema) → most_request_bytes < length message → IsRefused one message LimitReached
-command_too_long one message (inl is) long = rw (is, too_long message long) ((λ options log. info_too_long log message options.parts long), λ options looks. info_unread message long looks)
-command_too_long one message (inr is) long = rw is ((λ options log. schema_too_long log message long), λ options looks. schema_unread message long looks)
+command_too_long one message (inl is) long = rw (is, too_long message long) ((λ options log. info_too_long log message options.parts long), (λ options looks. info_unread message long looks), λ options log asks. asks)
+command_too_long one message (inr is) long = rw is ((λ options log. schema_too_long log message long), (λ options looks. schema_unread message long looks), λ options log asks. asks)
 
 -- an action that does not read
+pub number_unread : (message : Payload) (fault : Fault) → expiry_of message ≡ Err fault → IsOk (expiry_of message) → ⊥
+number_unread message fault unread ok = let no = rw unread at ok in cc
+
 pub action_unread : (one : Single) (message : Payload) (fault : Fault) → one ≡ DoAction → expiry_of message ≡ Err fault → IsRefused one message fault
-action_unread one message fault is unread = rw is ((λ options log. (refl, refl, unread_expiry log message fault unread)), λ options looks. looks)
+action_unread one message fault is unread =
+    rw is ((λ options log. (refl, refl, unread_expiry log message fault unread)), (λ options looks. looks), λ options log asks. number_unread message fault unread asks)

@@ -27,7 +27,7 @@ use Rattle.flight_calls.specs.Calls.{ReplyTo, asked_with, info_asked}
 use Rattle.flight_calls.specs.Seats.{Seat, Moves, Puts, Expires}
 use Rattle.flight_calls.specs.Reacts.{Reacts, Responds, HasAsked, HasLooked, oldest_kept, expired_behind, AsksItself}
 use Rattle.flight_calls.specs.Answered.{AnsweredBy, IsReplyOf, fault_in, ReactsBy, RespondsBy}
-use Rattle.flight_calls.proofs.Reacting.{begins_itself, looks_not, said_ok, expiry_made, expiry_refused}
+use Rattle.flight_calls.proofs.Reacting.{begins_itself, looks_not, one_more_ask, said_ok, expiry_made, expiry_refused}
 
 -- ---- an answer that is written
 
@@ -146,7 +146,7 @@ put_made moves keep number old middle new payloads made answers p said step asks
     step = step;
     goes = record { moved = p.moved; starts = inl (said_ok payloads made said); learnt = p.learnt; kept = p.kept; made = (added made ∷ [], p.at.1, p.at.2) };
     looked = λ other looks. absurd (looks_not payloads looks);
-    asks = λ other asks. absurd asks;
+    asks = λ other asks. one_more_ask old middle p.asks;
   };
   keeps = subst (λ (newest : ℕ). AsksItself moves (oldest_kept keep newest) middle new) p.at.3 asks;
 }

@@ -1,5 +1,5 @@
 -- Steps over a backend.
-use Rattle.std.proofs.Common.{◌≡◌, ◌≢◌, ◌<◌, ◌+◌, ℕ, List, [], ◌∷◌, ◌++◌, Some, Result, Ok, Err, refl, sym, ◌∙◌, append-nil, inl, inr, arith}
+use Rattle.std.proofs.Common.{◌≡◌, ◌≢◌, ◌<◌, ◌+◌, ℕ, List, [], ◌∷◌, ◌++◌, Some, Result, Ok, Err, refl, sym, ap, ◌∙◌, append-nil, inl, inr, arith}
 use Rattle.std.specs.Prelude.{IsOk}
 use Rattle.scan_base.specs.declared.fault.Fault.{Fault}
 use Rattle.scan_base.specs.declared.fault.Fault.TheVariants.{OutOfMemory}
@@ -7,8 +7,6 @@ use Rattle.scan_base.specs.Reading.{RefusesFirst}
 use Rattle.table_versions.specs.Database.{Put, after}
 use Rattle.flight_proto.specs.Expiry.{expiry_of, floor_bytes}
 use Rattle.flight_info.specs.Payloads.{Payload}
-use Rattle.endpoint_split.specs.Handle.{HandleAt}
-use Rattle.flight_info.specs.Infos.{handle_asked}
 use Rattle.flight_info.specs.Replies.{ReplyAt, refusal}
 use Rattle.flight_core.specs.Asked.{Asked, put, info, tables, schema, fetch, expire}
 use Rattle.version_log.specs.Expiry.{IsExpired}
@@ -16,6 +14,7 @@ use Rattle.version_log.specs.Log.{Log, added, expired, puts_in, database_of, Beg
 use Rattle.flight_core.specs.Puts.{put_glance, put_said}
 use Rattle.flight_core.specs.Refusals.{RefusedFor}
 use Rattle.flight_info.proofs.Results.{first_for}
+use Rattle.flight_core.proofs.Arriving.{glance_good}
 use Rattle.flight_core.proofs.Expiring.{number_read, expired_reply, unread_expiry, refused_expiry}
 use Rattle.flight_core.proofs.Replies.{refused_reply, unread_reply}
 use Rattle.flight_calls.specs.declared.answer.Answer.TheVariants.{Whole, Floor}
@@ -23,9 +22,10 @@ use Rattle.flight_calls.specs.declared.request.Single.{Single}
 use Rattle.flight_calls.specs.declared.setting.Options.{Options}
 use Rattle.flight_calls.specs.Calls.{ReplyTo, asked_with}
 use Rattle.flight_calls.specs.Requests.{IsRefused}
-use Rattle.flight_calls.specs.Seats.{Seat, lone_seat, Moves, Expires, Learns, LooksOnce, Puts, alone}
-use Rattle.flight_calls.specs.Reacts.{StartsAt, Looks, IsBeyond, Asks, Goes, Reacts}
+use Rattle.flight_calls.specs.Seats.{Seat, lone_seat, Moves, AsksOnce, Expires, Learns, LooksOnce, Puts, alone}
+use Rattle.flight_calls.specs.Reacts.{StartsAt, Looks, Asks, Goes, Reacts}
 use Rattle.flight_calls.specs.Answered.{ReactsBy}
+use Rattle.flight_calls.proofs.Asking.{number_unread}
 
 -- ---- the backend of a log that nobody shares
 
@@ -91,29 +91,20 @@ goes_nowhere moves stays asked s = goes_by_look moves asked s s (begins_itself s
 
 -- ---- replies
 
--- what asks looks first
-beyond_read : (read : Result HandleAt Fault) (log : Log) → IsBeyond read log → IsOk read
-beyond_read (Ok handle) log beyond = refl
-beyond_read (Err fault) log beyond = absurd beyond
-
-asks_look : (asked : Result Asked Fault) (log : Log) → Asks asked log → Looks asked
-asks_look (Ok (put payloads)) log asks = absurd asks
-asks_look (Ok (info payload parts)) log asks = absurd asks
-asks_look (Ok (tables payload parts)) log asks = absurd asks
-asks_look (Ok (schema payload)) log asks = absurd asks
-asks_look (Ok (fetch ticket workers)) log asks = beyond_read (handle_asked ticket) log asks
-asks_look (Ok (expire action)) log asks = absurd asks
-asks_look (Err fault) log asks = absurd asks
+-- one ask is one more
+pub one_more_ask : (old new : Seat) → AsksOnce old new → old.asks < new.asks
+one_more_ask old new once = omega (arith, once)
 
 -- a call that does not come to the backend
-pub reacts_unseen : (moves : Moves) → ((s : Seat) → moves s s.log s.log s) → (asked : Result Asked Fault) (s : Seat) (reply : ReplyAt) → ReplyTo asked s.log reply s.log → (Looks asked → ⊥) → Reacts moves asked s reply s
-reacts_unseen moves stays asked s reply step unseen = record {
+pub reacts_unseen : (moves : Moves) → ((s : Seat) → moves s s.log s.log s) → (asked : Result Asked Fault) (s : Seat) (reply : ReplyAt) → ReplyTo asked s.log reply s.log → (Looks asked → ⊥)
+    → (reply.fault ≢ Some OutOfMemory → Asks asked s.log → ⊥) → Reacts moves asked s reply s
+reacts_unseen moves stays asked s reply step unseen unasked = record {
   log = s.log;
   after = s.log;
   step = step;
   goes = goes_nowhere moves stays asked s;
   looked = λ other looks. absurd (unseen looks);
-  asks = λ other beyond. absurd (unseen (asks_look asked s.log beyond));
+  asks = λ other asks. absurd (unasked other asks);
 }
 
 -- a look, of which the reply is a step
@@ -137,32 +128,42 @@ held moves asked old new reply r = record { log = r.log; after = r.after; answer
 
 -- a call that is refused before it comes to the core
 pub unasked : (moves : Moves) → ((s : Seat) → moves s s.log s.log s) → (s : Seat) (fault : Fault) → ReactsBy moves (Err fault) s (Whole (refusal fault)) s
-unasked moves stays s fault = held moves (Err fault) s s (refusal fault) (reacts_unseen moves stays (Err fault) s (refusal fault) (refl, refl) (λ looks. looks))
+unasked moves stays s fault = held moves (Err fault) s s (refusal fault) (reacts_unseen moves stays (Err fault) s (refusal fault) (refl, refl) (λ looks. looks) (λ other asks. asks))
 
 -- a message that is refused before it is read
 pub settled : (moves : Moves) → ((s : Seat) → moves s s.log s.log s) → (s : Seat) (options : Options) (one : Single) (message : Payload) (fault : Fault) → IsRefused one message fault
     → ReactsBy moves (Ok (asked_with options one message)) s (Whole (refusal fault)) s
 settled moves stays s options one message fault is =
     held moves (Ok (asked_with options one message)) s s (refusal fault)
-    (reacts_unseen moves stays (Ok (asked_with options one message)) s (refusal fault) (is.0 options s.log) (is.1 options))
+    (reacts_unseen moves stays (Ok (asked_with options one message)) s (refusal fault) (is.0 options s.log) (is.1 options) (λ other asks. is.2 options s.log asks))
 
 -- ---- puts
 
 pub looks_not : (payloads : List Payload) → Looks (Ok (put payloads)) → ⊥
 looks_not payloads looks = looks
 
+-- what is refused as it is read says no put
+unsaid : (payloads : List Payload) (fault : Fault) → RefusedFor (put_glance payloads) (put_said payloads) fault → fault ≢ OutOfMemory → IsOk (put_said payloads) → ⊥
+unsaid payloads fault = by (put_glance payloads) (put_said payloads) refl refl
+  where
+    by : (glance : Result (Unit {0}) Fault) (said : Result Put Fault) → put_glance payloads ≡ glance → put_said payloads ≡ said → RefusedFor glance said fault → fault ≢ OutOfMemory → IsOk said → ⊥
+    by glance (Err cause) seen is refused other ok = let no = ok in cc
+    by (Err cause) (Ok made) seen is refused other ok = glance_good payloads made is cause seen
+    by (Ok done) (Ok made) seen is refused other ok = let no = refused other in cc
+
 -- its payloads are refused
 pub put_unread : (moves : Moves) → ((s : Seat) → moves s s.log s.log s) → (s : Seat) (payloads : List Payload) (fault : Fault) → RefusedFor (put_glance payloads) (put_said payloads) fault
     → Reacts moves (Ok (put payloads)) s (refusal fault) s
 put_unread moves stays s payloads fault is =
     reacts_unseen moves stays (Ok (put payloads)) s (refusal fault) (refl, refl, unread_reply s.log payloads fault is) (looks_not payloads)
+    (λ other asks. unsaid payloads fault is (λ e. other (ap Some e)) asks)
 
 -- memory is refused for its answer
 pub put_tired : (moves : Moves) → ((s : Seat) → moves s s.log s.log s) → (s : Seat) (payloads : List Payload) (made : Put) → put_said payloads ≡ Ok made
     → Reacts moves (Ok (put payloads)) s (refusal OutOfMemory) s
 put_tired moves stays s payloads made said =
     reacts_unseen moves stays (Ok (put payloads)) s (refusal OutOfMemory)
-    (refl, refl, refused_reply s.log payloads made OutOfMemory said (λ other. absurd (other refl))) (looks_not payloads)
+    (refl, refl, refused_reply s.log payloads made OutOfMemory said (λ other. absurd (other refl))) (looks_not payloads) (λ other asks. absurd (other refl))
 
 pub said_ok : (payloads : List Payload) (made : Put) → put_said payloads ≡ Ok made → IsOk (put_said payloads)
 said_ok payloads made said = rw said refl
@@ -182,7 +183,7 @@ put_refused moves old new payloads made fault p said = record {
     made = ([], p.at.0 ∙ sym (append-nil p.log), p.at.1 ∙ sym (append-nil old.made));
   };
   looked = λ other looks. absurd (looks_not payloads looks);
-  asks = λ other asks. absurd asks;
+  asks = λ other asks. one_more_ask old new p.asks;
 }
 
 -- ---- expiries
@@ -221,7 +222,8 @@ pub expiry_unread : (moves : Moves) → ((s : Seat) → moves s s.log s.log s) �
     → ReactsBy moves (Ok (expire action)) s (Whole (refusal fault)) s
 expiry_unread moves stays s action fault unread =
     held moves (Ok (expire action)) s s (refusal fault)
-    (reacts_unseen moves stays (Ok (expire action)) s (refusal fault) (refl, refl, unread_expiry s.log action fault unread) (expiry_looks_not action))
+    (reacts_unseen moves stays (Ok (expire action)) s (refusal fault) (refl, refl, unread_expiry s.log action fault unread) (expiry_looks_not action)
+    (λ other asks. number_unread action fault unread asks))
 
 -- the backend made the mark
 pub expiry_made : (moves : Moves) (old new : Seat) (action : Payload) (version floor : ℕ) → Expires moves (Ok floor) old version new → expiry_of action ≡ Ok version
@@ -232,7 +234,7 @@ expiry_made moves old new action version floor e said = record {
   answered = expired_reply e.log e.next action version floor (floor_bytes floor ∷ []) said e.at refl;
   goes = record { moved = e.moved; starts = inl (number_read action version said); learnt = e.learnt; kept = e.kept; made = (expired version ∷ [], e.at.1, e.marks) };
   looked = λ other looks. absurd (expiry_looks_not action looks);
-  asks = λ other asks. absurd asks;
+  asks = λ other asks. one_more_ask old new e.asks;
 }
 
 -- or refused it
@@ -250,5 +252,5 @@ expiry_refused moves old new action version fault e said = record {
     made = ([], e.at.0 ∙ sym (append-nil e.log), e.marks ∙ sym (append-nil old.made));
   };
   looked = λ other looks. absurd (expiry_looks_not action looks);
-  asks = λ other asks. absurd asks;
+  asks = λ other asks. one_more_ask old new e.asks;
 }

@@ -53,17 +53,22 @@ abbrev pub IsBeyond : Result HandleAt Fault → Log → Type 0
 IsBeyond (Ok handle) log = puts_in log < version_of handle
 IsBeyond (Err fault) log = ⊥
 
--- what asks what others have done, beside each put and each expiry: a fetch of a version that the log does not reach
+-- what asks what others have done: a put and an expiry that were read, and a fetch of a version that the log does not reach
 abbrev pub Asks : Result Asked Fault → Log → Type 0
+Asks (Ok (put payloads)) log = IsOk (put_said payloads)
+Asks (Ok (info payload parts)) log = ⊥
+Asks (Ok (tables payload parts)) log = ⊥
+Asks (Ok (schema payload)) log = ⊥
 Asks (Ok (fetch ticket workers)) log = IsBeyond (handle_asked ticket) log
-Asks _ log = ⊥
+Asks (Ok (expire action)) log = IsOk (expiry_of action)
+Asks (Err fault) log = ⊥
 
 -- where what is asked asks so, the asks have risen
 abbrev pub HasAsked : Result Asked Fault → Seat → Log → Seat → Type 0
 HasAsked asked old log new = Asks asked log → old.asks < new.asks
 
--- The reply is a step from one log to another, and was looked for unless memory was refused. So a version that is not there (F18) was
--- asked for.
+-- The reply is a step from one log to another, and was looked for unless memory was refused. So a put that is refused, and a version
+-- that is not there (F18), were asked for.
 pub record Reacts (moves : Moves) (asked : Result Asked Fault) (old : Seat) (reply : ReplyAt) (new : Seat) : Type 0 where
   pub log : Log
   pub after : Log

@@ -10,7 +10,7 @@ use Rattle.flight_calls.specs.declared.request.Method.TheVariants as method
 use Rattle.flight_calls.specs.declared.request.Single.{Single}
 use Rattle.flight_calls.specs.declared.request.Request.{Request}
 use Rattle.flight_calls.specs.declared.request.Request.TheVariants as request
-use Rattle.flight_calls.specs.Reacts.{Looks}
+use Rattle.flight_calls.specs.Reacts.{Asks, Looks}
 use Rattle.flight_core.specs.Machine.{StepOn}
 use Rattle.flight_calls.specs.Calls.{Call, method_at, asked_with, asked_by}
 
@@ -18,11 +18,12 @@ use Rattle.flight_calls.specs.Calls.{Call, method_at, asked_with, asked_by}
 abbrev pub with_messages : Call → List Payload → Call
 with_messages call more = record { path = call.path; messages = call.messages ++ more }
 
--- a message is answered by this fault, however the server is set and whatever the log is, without a look
+-- a message is answered by this fault, however the server is set and whatever the log is, without a look or an ask
 abbrev pub IsRefused : Single → Payload → Fault → Type 0
 IsRefused one message fault =
     ((options : Options) (log : Log) → StepOn log (asked_with options one message) (refusal fault) log)
     × ((options : Options) → Looks (Ok (asked_with options one message)) → ⊥)
+    × ((options : Options) (log : Log) → Asks (Ok (asked_with options one message)) log → ⊥)
 
 -- the one message of the call came, and it is answered by this fault
 pub record HasRefused (call : Call) (fault : Fault) : Type 0 where

@@ -1,7 +1,7 @@
 //! Sockets of this machine, on 127.0.0.1 alone, as commands see the network.
 #![tactic(auto)]
 
-ghost use Rattle.std.specs.Prelude.{◌≡◌, IfOk, Some};
+ghost use Rattle.std.specs.Prelude.{◌≡◌, [], IfOk, Some};
 
 use command_ends::{Announced, Connect, Listen};
 use grpc_frame::{Counted, Output};
@@ -73,11 +73,14 @@ impl<'a, R> Loopback<'a, R> {
 }
 
 impl<R: Net<Listener = TcpListener, Stream = TcpStream>> Connect for Loopback<'_, R> {
+    ghost use Rattle.std.specs.Prelude.{◌≡◌, [], IfSome, Some};
+
     type Reader = Counted<TcpStream>;
 
     type Writer = SocketWriter;
 
-    ghost connects = { λ _ _ _ _. Unit {0} };
+    // Nothing was written to it yet.
+    ghost connects = { λ _ _ made _. IfSome made (λ ends. ends.output ≡ Some []) };
 
     ghost shares = { λ _ _ _. Unit {0} };
 
@@ -122,6 +125,8 @@ fn patience_of(idle: u16) -> Option<Duration> {
 }
 
 impl<R: Net<Listener = TcpListener, Stream = TcpStream>> Listen for Port<'_, R> {
+    ghost use Rattle.std.specs.Prelude.{◌≡◌, [], IfSome, Some};
+
     type Reader = Counted<TcpStream>;
 
     type Writer = SocketWriter;
@@ -130,7 +135,8 @@ impl<R: Net<Listener = TcpListener, Stream = TcpStream>> Listen for Port<'_, R> 
 
     ghost shares = { λ _ _. Unit {0} };
 
-    ghost accepts = { λ _ _ _. Unit {0} };
+    // Nothing was written to it yet.
+    ghost accepts = { λ _ made _. IfSome made (λ ends. ends.output ≡ Some []) };
 
     ghost closes = { λ _ _. Unit {0} };
 
@@ -181,6 +187,7 @@ impl<R: Net<Listener = TcpListener, Stream = TcpStream>> Listen for Port<'_, R> 
 fn ends_of(stream: TcpStream) -> io::Result<(Counted<TcpStream>, SocketWriter)>
     ensures reads { IfOk result (λ ends. ends.0.failures ≡ 0) }
     ensures writes { IfOk result (λ ends. ends.1.counted.failures ≡ 0) }
+    ensures quiet { IfOk result (λ ends. ends.1.counted.taken.bytes ≡ []) }
 {
     stream.set_nodelay(true)?;
     let counted = Counted::new(stream.try_clone()?);
