@@ -9,10 +9,10 @@ use Rattle.indexmap.specs.IndexSet.{insert_all, insert_key}
 use Rattle.scan_base.specs.declared.value.Value.{Value}
 use Rattle.table_versions.specs.Table.{Row}
 use Rattle.typed_plan.specs.Grouped.{same_key}
-use Rattle.grouping.specs.declared.key.RowKey.{RowKey}
+use Rattle.first_rows.specs.declared.key.RowKey.{RowKey}
 use Rattle.grouping.specs.Found.{key_in, place_in, found_in, found_then, first_found}
-use Rattle.grouping.specs.Keys.{key_sound}
-use Rattle.grouping.specs.RowKeys.{key_of, same_first}
+use Rattle.first_rows.specs.Keys.{key_sound}
+use Rattle.first_rows.specs.RowKeys.{key_of, same_first}
 use Rattle.grouping.specs.inside.Merging.{AreJoined, FirstsJoin}
 use Rattle.grouping.specs.inside.Placing.{IsFirst, found_by}
 use Rattle.grouping.proofs.Finding.{all_inserted, insert_map, more_there, place_inserted, place_new, place_stays, place_there}

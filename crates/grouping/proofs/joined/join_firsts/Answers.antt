@@ -1,5 +1,5 @@
 use Rattle.std.proofs.Common.{List, OnOk, sym, subst}
-use Rattle.grouping.specs.declared.key.RowKey.{RowKey}
+use Rattle.first_rows.specs.declared.key.RowKey.{RowKey}
 use Rattle.grouping.specs.inside.Merging.{FirstsJoin}
 use Rattle.grouping.proofs.JoinedKeys.{alone_joined}
 use Rattle.grouping.proofs.joined.join_firsts.Goals as goal

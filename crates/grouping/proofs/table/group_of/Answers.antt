@@ -1,6 +1,6 @@
 use Rattle.std.proofs.Common.{sym, ◌∙◌}
 use Rattle.typed_plan.specs.Grouped.{same_key}
-use Rattle.grouping.specs.RowKeys.{key_of}
+use Rattle.first_rows.specs.RowKeys.{key_of}
 use Rattle.grouping.proofs.Finding.{position_map}
 use Rattle.grouping.proofs.table.group_of.Goals as goal
 

@@ -1,7 +1,7 @@
 use Rattle.std.proofs.Common.{◌≡◌, [], length, refl, ap, ◌∙◌, sym, subst, All, List, arith}
 use Rattle.std.proofs.lemmas.List.Elements.{All-nil}
 use Rattle.group_slots.specs.Adding.{IsKept, lists_of}
-use Rattle.grouping.specs.declared.key.RowKey.{RowKey}
+use Rattle.first_rows.specs.declared.key.RowKey.{RowKey}
 use Rattle.grouping.specs.inside.Placing.{found_by, IsFirst}
 use Rattle.grouping.proofs.Blank.{kept_blank, found_first, holds_none}
 use Rattle.grouping.proofs.groups.Groups.new.Goals as goal

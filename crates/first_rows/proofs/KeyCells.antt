@@ -11,7 +11,7 @@ use Rattle.arrays.specs.Column.{ColumnAt, slot_of}
 use Rattle.arrays.specs.Batch.{row_of}
 use Rattle.typed_plan.specs.Grouped.{same_value, same_key}
 use Rattle.group_slots.proofs.Slotted.{cell_slot}
-use Rattle.grouping.specs.Keys.{value_self, key_sound}
+use Rattle.first_rows.specs.Keys.{value_self, key_sound}
 
 -- keys of one length whose cells are the same are the same
 pub same_all : (a b : List Value) → length a ≡ length b →

@@ -4,7 +4,7 @@ ghost use Rattle.std.specs.Prelude.{◌≡◌};
 ghost use Rattle.std.specs.List.{fold};
 ghost use Rattle.scan_base.specs.Value.{value_of};
 ghost use Rattle.typed_plan.specs.Grouped.{same_value};
-ghost use Rattle.grouping.specs.Keys.{value_input};
+ghost use Rattle.first_rows.specs.Keys.{value_input};
 
 use scan_base::ValueRef;
 use std::hash::{Hash, Hasher};

@@ -1,0 +1,4 @@
+pub mod KeyCells
+pub mod Numbering
+pub mod Places
+pub mod Same
