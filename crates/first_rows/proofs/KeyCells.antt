@@ -3,6 +3,7 @@ use Rattle.std.proofs.Common.{◌≡◌, ◌≢◌, ℕ, zero, suc, ◌<◌, Boo
 use Rattle.std.specs.List.{list_all}
 use Rattle.std.proofs.lemmas.List.{get_or-map}
 use Rattle.std.proofs.lemmas.Bool.{and_parts}
+use Rattle.std.proofs.lemmas.Option.{unwrap_or-slice_get}
 use borrow.Author.Tests.{ltb-true}
 use Rattle.scan_base.specs.declared.value.Value.{Value}
 use Rattle.scan_base.specs.declared.value.Value.TheVariants.{Null}
@@ -10,7 +11,6 @@ use Rattle.scan_base.specs.Predicate.{cell_in}
 use Rattle.arrays.specs.Column.{ColumnAt, slot_of}
 use Rattle.arrays.specs.Batch.{row_of}
 use Rattle.typed_plan.specs.Grouped.{same_value, same_key}
-use Rattle.group_slots.proofs.Slotted.{cell_slot}
 use Rattle.first_rows.specs.Keys.{value_self, key_sound}
 
 -- keys of one length whose cells are the same are the same
@@ -24,7 +24,7 @@ same_all (x ∷ xs) (y ∷ ys) long same =
     let rest : same_key xs ys ≡ true = same_all xs ys (omega arith) (λ k lt. same (suc k) (omega arith)) in
     rw (first, rest) refl
 
-decide : (t : Bool) → (t ≡ true → ⊥) → t ≡ false
+pub decide : (t : Bool) → (t ≡ true → ⊥) → t ≡ false
 decide true never = absurd (never refl)
 decide false never = refl
 
@@ -37,13 +37,18 @@ same_none a b k differs = decide (same_key a b) (λ (h : same_key a b ≡ true).
 pub same_not : (a b : List Value) → length a ≢ length b → same_key a b ≡ false
 same_not a b differ = decide (same_key a b) (λ (h : same_key a b ≡ true). differ (ap length (key_sound a b h)))
 
+-- a cell of a row is the slot of its column
+cell_at : (columns : List ColumnAt) (row key : ℕ) (d : ColumnAt) → key < length columns → cell_in (row_of columns row) key ≡ slot_of (get_or columns key d) row
+cell_at columns row key d there =
+    unwrap_or-slice_get (row_of columns row) key Null ∙ get_or-map (λ (c : ColumnAt). slot_of c row) columns key d Null there
+
 -- a cell of a key is the slot of its column
 pub key_slot : (columns : List ColumnAt) (row : ℕ) (keys : List ℕ) (place : ℕ) (d : ColumnAt) → place < length keys →
     get_or keys place 0 < length columns →
     get_or (map (cell_in (row_of columns row)) keys) place Null ≡ slot_of (get_or columns (get_or keys place 0) d) row
 key_slot columns row keys place d within there =
     get_or-map (cell_in (row_of columns row)) keys place 0 Null within
-    ∙ cell_slot columns row (get_or keys place 0) d there
+    ∙ cell_at columns row (get_or keys place 0) d there
 
 -- each key names a column that is there
 pub key_there : (keys : List ℕ) (n place : ℕ) → place < length keys → list_all (λ key. nat_lt key n) keys ≡ true → get_or keys place 0 < n

@@ -1,3 +1,4 @@
+pub mod Coded
 pub mod KeyCells
 pub mod Numbering
 pub mod Places

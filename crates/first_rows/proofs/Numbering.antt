@@ -1,6 +1,12 @@
 -- Numbers of the texts of keys.
-use Rattle.std.proofs.Common.{◌≡◌, ℕ, ◌+◌, arith, List, [], ◌∷◌, ◌++◌, Option, Some, None, map, refl, sym, ap, subst, ◌∙◌}
-use Rattle.std.specs.Prelude.{IfSome}
+use Rattle.std.proofs.Common.{◌≡◌, ◌<◌, ◌&&◌, ℕ, ◌+◌, Bool, true, arith, length, List, [], ◌∷◌, ◌++◌, Option, Some, None, map, refl, sym, ap, subst, ◌∙◌}
+use Rattle.std.specs.Prelude.{IfSome, nat_eq}
+use Rattle.std.specs.Borrow.{Bor}
+use Rattle.std.specs.List.{position_or_len}
+use Rattle.std.specs.Str.{bytes_eq}
+use Rattle.std.proofs.lemmas.Slice.Eq.{bytes_eq-Decides}
+use borrow.Author.Tests.{eq-eqb}
+use Rattle.indexmap.specs.IndexSet.{insert_key}
 use Rattle.scan_base.specs.declared.value.Value.{Value}
 use Rattle.scan_base.specs.declared.value.Value.TheVariants.{Null, Bool as Flag, Int, Text}
 use Rattle.arrays.specs.Batch.{BatchAt}
@@ -8,8 +14,8 @@ use Rattle.coded_keys.specs.declared.numbers.SeenNumber.{SeenNumber}
 use Rattle.coded_keys.specs.Numbers.{AreNumbers, IsNumber as IsSeenNumber}
 use Rattle.first_rows.specs.declared.texts.TextNumbers.{TextNumbers}
 use Rattle.first_rows.specs.Numbered.{blanked}
-use Rattle.first_rows.specs.Numbers.{IsNumber, IsPairNumber, IsStep, Stay}
-use Rattle.first_rows.proofs.Places.{pair_one, text_one}
+use Rattle.first_rows.specs.Numbers.{IsNumber, IsPairNumber, IsStep, Stay, pair_place, text_number}
+use Rattle.first_rows.proofs.Places.{inserted, pair_one, stays, text_one}
 
 -- what was kept of rows stays so
 pub seen_stays : (numbers more : Value → Option ℕ) (batch : BatchAt) (columns : List ℕ) (places : List (Option SeenNumber)) →
@@ -81,3 +87,48 @@ number_one numbers n m (x ∷ xs) (y ∷ ys) k e one two =
     let rest = number_one numbers one.0 two.0 xs ys k tails one.2 two.2 in
     let first = step_one numbers n m x y one.0 heads one.1 (subst (IsStep numbers m y) (sym rest.0) two.1) in
     (first.0, ap (λ (z : Value). z ∷ xs) first.1 ∙ ap (λ (zs : List Value). y ∷ zs) rest.1)
+
+-- texts keep their numbers where a text is inserted
+pub text_stays : (keys after : List (Bor (List ℕ))) (text : Bor (List ℕ)) → after ≡ insert_key (λ (a b : Bor (List ℕ)). bytes_eq a.now b.now) keys text →
+    (value : Value) (number : ℕ) → text_number keys value ≡ Some number → text_number after value ≡ Some number
+text_stays keys after text is Null number h = h
+text_stays keys after text is (Flag flag) number h = h
+text_stays keys after text is (Int other) number h = h
+text_stays keys after text is (Text other) number h =
+    subst (λ (ks : List (Bor (List ℕ))). text_number ks (Text other) ≡ Some number) (sym is)
+    (stays (λ (a b : Bor (List ℕ)). bytes_eq a.now b.now) (λ (b : Bor (List ℕ)). bytes_eq other b.now) keys text number h)
+
+-- and one that is inserted has its place
+pub text_inserted : (keys after : List (Bor (List ℕ))) (text : Bor (List ℕ)) (place : ℕ) → after ≡ insert_key (λ (a b : Bor (List ℕ)). bytes_eq a.now b.now) keys text →
+    place ≡ position_or_len (λ (b : Bor (List ℕ)). bytes_eq text.now b.now) keys → place < length after → text_number after (Text text.now) ≡ Some place
+text_inserted keys after text place is at low =
+    let eq : Bor (List ℕ) → Bor (List ℕ) → Bool = λ a b. bytes_eq a.now b.now in
+    let within : position_or_len (eq text) keys < length (insert_key eq keys text) = subst (λ (n : ℕ). n < length (insert_key eq keys text)) at (subst (λ (ks : List (Bor (List ℕ))). place < length ks) is low) in
+    subst (λ (ks : List (Bor (List ℕ))). text_number ks (Text text.now) ≡ Some place) (sym is)
+    (inserted eq keys text ((bytes_eq-Decides text.now text.now).1 refl) within ∙ ap Some (sym at))
+
+-- pairs keep their places
+pub pair_stays : (keys after : List (ℕ × ℕ)) (pair : ℕ × ℕ) → after ≡ insert_key (λ (a b : ℕ × ℕ). nat_eq a.0 b.0 && nat_eq a.1 b.1) keys pair →
+    (earlier text place : ℕ) → pair_place keys earlier text ≡ Some place → pair_place after earlier text ≡ Some place
+pair_stays keys after pair is earlier text place h =
+    subst (λ (ks : List (ℕ × ℕ)). pair_place ks earlier text ≡ Some place) (sym is)
+    (stays (λ (a b : ℕ × ℕ). nat_eq a.0 b.0 && nat_eq a.1 b.1) (λ (b : ℕ × ℕ). nat_eq earlier b.0 && nat_eq text b.1) keys pair place h)
+
+pub pair_inserted : (keys after : List (ℕ × ℕ)) (before text place : ℕ) → after ≡ insert_key (λ (a b : ℕ × ℕ). nat_eq a.0 b.0 && nat_eq a.1 b.1) keys (before, text) →
+    place ≡ position_or_len (λ (b : ℕ × ℕ). nat_eq before b.0 && nat_eq text b.1) keys → place < length after → pair_place after before text ≡ Some place
+pair_inserted keys after before text place is at low =
+    let eq : ℕ × ℕ → ℕ × ℕ → Bool = λ a b. nat_eq a.0 b.0 && nat_eq a.1 b.1 in
+    let within : position_or_len (eq (before, text)) keys < length (insert_key eq keys (before, text)) =
+    subst (λ (n : ℕ). n < length (insert_key eq keys (before, text))) at (subst (λ (ks : List (ℕ × ℕ)). place < length ks) is low) in
+    let self : eq (before, text) (before, text) ≡ true = rw (eq-eqb before before refl, eq-eqb text text refl) refl in
+    subst (λ (ks : List (ℕ × ℕ)). pair_place ks before text ≡ Some place) (sym is)
+    (inserted eq keys (before, text) self within ∙ ap Some (sym at))
+
+pub stay_self : (numbers : TextNumbers) → Stay numbers numbers
+stay_self numbers = record { texts = λ value number h. h; pairs = λ earlier text place h. h }
+
+pub stay_then : (a b c : TextNumbers) → Stay a b → Stay b c → Stay a c
+stay_then a b c first second = record {
+  texts = λ value number h. second.texts value number (first.texts value number h);
+  pairs = λ earlier text place h. second.pairs earlier text place (first.pairs earlier text place h);
+}

@@ -15,13 +15,17 @@ pub record FirstRowsAt : Type 0 where
   pub texts : List (Bor (List ℕ))
 
 -- the texts of a key have the number that stands with it, or none has one
-abbrev pub HasNumber : Bool → TextNumbers → NumberedKey → Type 0
-HasNumber true numbers key = IsNumber numbers 0 (key_of key.first) key.texts
-HasNumber false numbers key = key.texts ≡ 0
+abbrev pub HasNumber : Bool → TextNumbers → RowKey → ℕ → Type 0
+HasNumber true numbers first texts = IsNumber numbers 0 (key_of first) texts
+HasNumber false numbers first texts = texts ≡ 0
+
+-- the texts of a key have its number
+abbrev pub IsNumbered : Bool → TextNumbers → NumberedKey → Type 0
+IsNumbered are numbers key = HasNumber are numbers key.first key.texts
 
 -- all do
 abbrev pub AreNumbered : Bool → TextNumbers → List NumberedKey → Type 0
-AreNumbered are numbers keys = All (HasNumber are numbers) keys
+AreNumbered are numbers keys = All (IsNumbered are numbers) keys
 
 -- the numbers that were kept of rows of a row's batch are those of their texts
 abbrev pub FitSeen : List (Bor (List ℕ)) → RowKey → SeenNumbers → Type 0

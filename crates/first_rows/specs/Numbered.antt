@@ -29,9 +29,13 @@ rest_of key = map (rest key.texts) (key_of key.first)
 abbrev pub coded : NumberedKey → List Value
 coded key = Int (pos key.texts) ∷ rest_of key
 
+-- what a hash takes of a number of texts: of that of none nothing
+abbrev pub texts_input : ℕ → List (List ℕ)
+texts_input texts = if texts == 0 then [] else fed.u32 texts
+
 -- what a hash takes of a number of texts, and of values
 abbrev pub number_input : ℕ → List Value → List (List ℕ)
-number_input texts values = (if texts == 0 then [] else fed.u32 texts) ++ flat_map value_input values
+number_input texts values = texts_input texts ++ flat_map value_input values
 
 -- what a hash takes of what is compared of a key
 abbrev pub input_of : List Value → List (List ℕ)

@@ -1,4 +1,4 @@
--- Inside: numbers of texts, and of the texts of a key.
+-- Numbers of texts, and of the texts of a key.
 use Rattle.std.specs.Prelude.{◌≡◌, ◌+◌, ◌&&◌, ℕ, List, [], ◌∷◌, Option, Some, None, nat_eq}
 use Rattle.std.specs.Borrow.{Bor}
 use Rattle.std.specs.List.{position}

@@ -1,4 +1,4 @@
--- Inside: the key of a row.
+-- The key of a row.
 use Rattle.std.specs.Prelude.{Bool, List, map}
 use Rattle.scan_base.specs.declared.value.Value.{Value}
 use Rattle.scan_base.specs.Predicate.{cell_in}

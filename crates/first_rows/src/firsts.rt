@@ -25,6 +25,24 @@ pub struct FirstRows<'t> {
     are_numbered: bool,
 }
 
+// The number of the texts of a row's key, where they have numbers; else 0.
+fn number<'t>(
+    are_numbered: bool,
+    numbers: &mut TextNumbers<'t>,
+    seen: &mut SeenNumbers,
+    first: &RowKey<'t>,
+) -> Result<u32, AllocError>
+    requires { AreSeen numbers.old first.now.batch.now first.now.columns.now seen.old }
+    ensures stay { Stay numbers.old numbers.new }
+    ensures seen { AreSeen numbers.new first.now.batch.now first.now.columns.now seen.new }
+    ensures is { IfOk result (HasNumber are_numbered numbers.new first.now) }
+{
+    if !are_numbered {
+        return Ok(0);
+    }
+    numbers.key(seen, first)
+}
+
 impl<'t> Model for FirstRows<'t> {
     ghost use Rattle.std.specs.Prelude.{map};
     ghost use Rattle.first_rows.specs.Firsts.{AreNumbered, FirstRowsAt};
@@ -96,11 +114,7 @@ impl<'t> FirstRows<'t> {
         ensures place { IfOk result (λ place. place ≡ position_or_len (same_first first.entry) self.old.keys) }
         ensures seen { FitSeen self.new.texts first.entry seen.new }
     {
-        let texts = if self.are_numbered {
-            self.numbers.key(seen, &first)?
-        } else {
-            0
-        };
+        let texts = number(self.are_numbered, &mut self.numbers, seen, &first)?;
         match self.rows.insert_full(NumberedKey { first, texts }) {
             Ok((place, _)) => Ok(place),
             Err(_) => Err(AllocError),

@@ -3,7 +3,8 @@
 ghost use Rattle.std.specs.Prelude.{◌≡◌, ◌<◌, get_or, length};
 ghost use Rattle.scan_base.specs.Value.{value_of};
 ghost use Rattle.scan_base.specs.declared.value.Value.TheVariants.{Null};
-ghost use Rattle.first_rows.specs.Numbered.{rest_of};
+ghost use Rattle.std.specs.List.{fold};
+ghost use Rattle.first_rows.specs.Numbered.{rest_of, texts_input};
 
 use crate::cell::{are_same, hash_value};
 use crate::key::RowKey;
@@ -29,8 +30,19 @@ impl<'t> NumberedKey<'t> {
         }
         match value {
             ValueRef::Text(_) => ValueRef::Text(""),
-            _ => value,
+            ValueRef::Null => ValueRef::Null,
+            ValueRef::Bool(flag) => ValueRef::Bool(flag),
+            ValueRef::Int(number) => ValueRef::Int(number),
         }
+    }
+}
+
+// Takes a number of texts into a hash, where there are texts.
+fn hash_texts<H: Hasher>(texts: u32, state: &mut H)
+    ensures { state.new ≡ fold H.write state.old (texts_input texts) }
+{
+    if texts != 0 {
+        state.write_u32(texts);
     }
 }
 
@@ -73,9 +85,7 @@ impl<'t> Hash for NumberedKey<'t> {
     ghost respects_eq = { same_coded_input };
 
     fn hash<H: Hasher>(&self, state: &mut H) {
-        if self.texts != 0 {
-            state.write_u32(self.texts);
-        }
+        hash_texts(self.texts, state);
         for place in 0..self.first.columns.len() {
             hash_value(self.part(place), state);
         }

@@ -97,17 +97,21 @@ impl<'t> TextNumbers<'t> {
         ensures seen { AreSeen self.new first.now.batch.now first.now.columns.now seen.new }
         ensures is { IfOk result (IsStep self.new before (get_or (key_of first.now) part Null)) }
     {
-        let ValueRef::Text(text) = first.cell(part as usize) else {
-            return Ok(before);
-        };
-        let at = KeyPart {
-            batch: first.batch,
-            columns: first.columns,
-            row: first.row,
-            part,
-        };
-        let number = self.seen(seen, &at, text)?;
-        self.with(before, number)
+        match first.cell(part as usize) {
+            ValueRef::Text(text) => {
+                let at = KeyPart {
+                    batch: first.batch,
+                    columns: first.columns,
+                    row: first.row,
+                    part,
+                };
+                let number = self.seen(seen, &at, text)?;
+                self.with(before, number)
+            }
+            ValueRef::Null => Ok(before),
+            ValueRef::Bool(_) => Ok(before),
+            ValueRef::Int(_) => Ok(before),
+        }
     }
 
     /// The number of the texts of a row's key.

@@ -53,8 +53,8 @@ pub(crate) fn groups_by_codes<'t>(
             row: chosen.rows[place],
         };
         let earlier = seen.earlier(&keys, place);
-        let told = told(groups.as_slice(), earlier);
-        groups.push(coded_group(firsts, &mut numbers, told, first)?)?;
+        let known = told(groups.as_slice(), earlier);
+        groups.push(coded_group(firsts, &mut numbers, known, first)?)?;
     }
     Ok(groups)
 }
