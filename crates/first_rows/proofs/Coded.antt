@@ -13,7 +13,7 @@ use Rattle.first_rows.specs.declared.numbered.NumberedKey.{NumberedKey}
 use Rattle.first_rows.specs.Keys.{key_self, key_sound}
 use Rattle.first_rows.specs.Numbered.{blanked, coded, rest, rest_of}
 use Rattle.first_rows.specs.RowKeys.{key_of}
-use Rattle.first_rows.proofs.KeyCells.{decide, same_all}
+use Rattle.first_rows.proofs.KeyCells.{decide, same_all, same_not}
 
 -- keys whose parts differ differ
 pub coded_other : (a b : NumberedKey) → same_key (rest_of a) (rest_of b) ≡ false → same_key (coded a) (coded b) ≡ false
@@ -62,3 +62,13 @@ part_blank key place value low is some =
     let not_zero : (key.texts == 0) ≡ false = ne_eqb _ _ some in
     let turned : rest key.texts value ≡ blanked value = rw not_zero refl in
     sym turned ∙ part_rest key place value low is
+
+pub part_same : (key : NumberedKey) (place : ℕ) (value : Value) → place < length key.first.columns.now → value ≡ get_or (key_of key.first) place Null → blanked value ≡ value →
+    key.texts ≢ 0 → value ≡ get_or (rest_of key) place Null
+part_same key place value low is same some = sym same ∙ part_blank key place value low is some
+
+-- keys of two lengths differ
+pub coded_short : (a b : NumberedKey) → length a.first.columns.now ≢ length b.first.columns.now → same_key (coded a) (coded b) ≡ false
+coded_short a b differ =
+    let apart : length (rest_of a) ≢ length (rest_of b) = omega (arith, rest_long a, rest_long b, differ) in
+    coded_other a b (same_not (rest_of a) (rest_of b) apart)

@@ -32,7 +32,7 @@ step_stays before after n Null m stay step = step
 step_stays before after n (Flag flag) m stay step = step
 step_stays before after n (Int number) m stay step = step
 step_stays before after n (Text text) m stay step =
-    (step.0, stay.texts (Text text) step.0 step.1, step.2.0, stay.pairs n step.0 step.2.0 step.2.1, step.2.2)
+    (step.0, stay.texts (Text text) step.0 step.1, (step.2.0, stay.pairs n step.0 step.2.0 step.2.1, step.2.2))
 
 -- the number of the texts of values stays
 pub number_stays : (before after : TextNumbers) (n : ℕ) (values : List Value) (m : ℕ) → Stay before after → IsNumber before n values m → IsNumber after n values m

@@ -66,7 +66,7 @@ text_one [] a b i first second = let bad : None ≡ Some i = first in cc
 text_one (t ∷ texts) a b i first second =
     let one = position-Some (λ (other : Bor (List ℕ)). bytes_eq a other.now) (t ∷ texts) i t first in
     let two = position-Some (λ (other : Bor (List ℕ)). bytes_eq b other.now) (t ∷ texts) i t second in
-    (bytes_eq-Decides a (get_or (t ∷ texts) i t).now).0 one.1.0 ∙ sym ((bytes_eq-Decides b (get_or (t ∷ texts) i t).now).0 two.1.0)
+    (bytes_eq-Decides a (get_or (t ∷ texts) i t).now).0 one.1 ∙ sym ((bytes_eq-Decides b (get_or (t ∷ texts) i t).now).0 two.1)
 
 -- two pairs with one place are one
 pub pair_one : (pairs : List (ℕ × ℕ)) (a b c d : ℕ) (i : ℕ) → pair_place pairs a b ≡ Some i → pair_place pairs c d ≡ Some i → (a ≡ c) × (b ≡ d)
@@ -74,8 +74,8 @@ pair_one pairs a b c d i first second =
     let one = position-Some (λ (pair : ℕ × ℕ). nat_eq a pair.0 && nat_eq b pair.1) pairs i (0, 0) first in
     let two = position-Some (λ (pair : ℕ × ℕ). nat_eq c pair.0 && nat_eq d pair.1) pairs i (0, 0) second in
     let here = get_or pairs i (0, 0) in
-    let ab = and_parts (nat_eq a here.0) (nat_eq b here.1) one.1.0 in
-    let cd = and_parts (nat_eq c here.0) (nat_eq d here.1) two.1.0 in
+    let ab = and_parts (nat_eq a here.0) (nat_eq b here.1) one.1 in
+    let cd = and_parts (nat_eq c here.0) (nat_eq d here.1) two.1 in
     (eqb-true _ _ ab.0 ∙ sym (eqb-true _ _ cd.0), eqb-true _ _ ab.1 ∙ sym (eqb-true _ _ cd.1))
 
 -- what holds of all, and of one more, holds of all that are inserted

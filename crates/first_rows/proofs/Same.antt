@@ -20,21 +20,26 @@ whole : (values : List Value) → map (rest 0) values ≡ values
 whole [] = refl
 whole (value ∷ values) = ap (λ (rest : List Value). value ∷ rest) (whole values)
 
+-- what is compared of values where there are no texts, and where there are
+all_whole : (texts : ℕ) → (texts == 0) ≡ true → (values : List Value) → map (rest texts) values ≡ values
+all_whole texts none [] = refl
+all_whole texts none (value ∷ values) =
+    let one : rest texts value ≡ value = rw none refl in
+    ap (λ (z : Value). z ∷ map (rest texts) values) one ∙ ap (λ (zs : List Value). value ∷ zs) (all_whole texts none values)
+
+all_blank : (texts : ℕ) → (texts == 0) ≡ false → (values : List Value) → map (rest texts) values ≡ map blanked values
+all_blank texts some [] = refl
+all_blank texts some (value ∷ values) =
+    let one : rest texts value ≡ blanked value = rw some refl in
+    ap (λ (z : Value). z ∷ map (rest texts) values) one ∙ ap (λ (zs : List Value). blanked value ∷ zs) (all_blank texts some values)
+
 -- two keys with one number of texts, which are the same beside it
 same_rest : (numbers : TextNumbers) (texts : ℕ) (a b : List Value) → map (rest texts) a ≡ map (rest texts) b → IsNumber numbers 0 a texts → IsNumber numbers 0 b texts → a ≡ b
 same_rest numbers texts a b e one two = by (texts == 0) refl
   where
     by : (t : Bool) → (texts == 0) ≡ t → a ≡ b
-    by true h =
-        let same : map (λ (value : Value). value) a ≡ map (λ (value : Value). value) b = rw h at e in
-        sym (itself a) ∙ same ∙ itself b
-      where
-        itself : (values : List Value) → map (λ (value : Value). value) values ≡ values
-        itself [] = refl
-        itself (value ∷ values) = ap (λ (rest : List Value). value ∷ rest) (itself values)
-    by false h =
-        let same : map blanked a ≡ map blanked b = rw h at e in
-        (number_one numbers 0 0 a b texts same one two).1
+    by true h = sym (all_whole texts h a) ∙ e ∙ all_whole texts h b
+    by false h = (number_one numbers 0 0 a b texts (sym (all_blank texts h a) ∙ e ∙ all_blank texts h b) one two).1
 
 -- keys that are compared as the same are the same
 coded_sound : (are : Bool) (numbers : TextNumbers) (a b : NumberedKey) → IsNumbered are numbers a → IsNumbered are numbers b → coded a ≡ coded b → key_of a.first ≡ key_of b.first

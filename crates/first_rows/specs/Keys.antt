@@ -55,9 +55,9 @@ key_self [] = refl
 key_self (x ∷ xs) = rw (value_self x, key_self xs) refl
 
 pub either_way : (a b : Bool) → (a ≡ true → b ≡ true) → (b ≡ true → a ≡ true) → a ≡ b
-pub either_way true b f g = sym (f refl)
-pub either_way false true f g = g refl
-pub either_way false false f g = refl
+either_way true b f g = sym (f refl)
+either_way false true f g = g refl
+either_way false false f g = refl
 
 key_turned : (a b : List Value) → same_key a b ≡ true → same_key b a ≡ true
 key_turned a b h = rw (key_sound a b h) (key_self b)

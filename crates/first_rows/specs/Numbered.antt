@@ -29,6 +29,10 @@ rest_of key = map (rest key.texts) (key_of key.first)
 abbrev pub coded : NumberedKey → List Value
 coded key = Int (pos key.texts) ∷ rest_of key
 
+-- whether two keys are the same by what is compared of them
+abbrev pub same_coded : NumberedKey → NumberedKey → Bool
+same_coded a b = same_key (coded a) (coded b)
+
 -- what a hash takes of a number of texts: of that of none nothing
 abbrev pub texts_input : ℕ → List (List ℕ)
 texts_input texts = if texts == 0 then [] else fed.u32 texts

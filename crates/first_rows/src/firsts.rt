@@ -1,9 +1,11 @@
 //! First rows by their keys.
 
-ghost use Rattle.std.specs.Prelude.{◌≡◌, ◌<◌, [], IfOk, OnOk, get_or, length};
+ghost use Rattle.std.specs.Prelude.{◌≡◌, ◌<◌, [], All, IfOk, OnOk, get_or, length};
 ghost use Rattle.std.specs.List.{position_or_len};
 ghost use Rattle.indexmap.specs.IndexSet.{insert_key};
 ghost use Rattle.first_rows.specs.Firsts.{HasNumber, FitSeen};
+ghost use Rattle.first_rows.specs.declared.numbered.NumberedKey.{NumberedKey};
+ghost use Rattle.first_rows.specs.Numbered.{same_coded};
 ghost use Rattle.first_rows.specs.Numbers.{AreSeen, Stay};
 ghost use Rattle.first_rows.specs.RowKeys.{same_first};
 
@@ -41,6 +43,21 @@ fn number<'t>(
         return Ok(0);
     }
     numbers.key(seen, first)
+}
+
+// The place of a key among these, which stands behind all others where it is new.
+fn put<'t>(
+    rows: &mut IndexSet<NumberedKey<'t>, HashSeed>,
+    key: NumberedKey<'t>,
+) -> Result<usize, AllocError>
+    ensures inserted { OnOk result (rows.new.keys ≡ insert_key same_coded rows.old.keys key.entry) }
+    ensures place { IfOk result (λ place. place ≡ position_or_len (same_coded key.entry) rows.old.keys) }
+    ensures all { (P : NumberedKey → Type 0) → All P rows.old.keys → P key.entry → All P rows.new.keys }
+{
+    match rows.insert_full(key) {
+        Ok((place, _)) => Ok(place),
+        Err(_) => Err(AllocError),
+    }
 }
 
 impl<'t> Model for FirstRows<'t> {
@@ -115,9 +132,6 @@ impl<'t> FirstRows<'t> {
         ensures seen { FitSeen self.new.texts first.entry seen.new }
     {
         let texts = number(self.are_numbered, &mut self.numbers, seen, &first)?;
-        match self.rows.insert_full(NumberedKey { first, texts }) {
-            Ok((place, _)) => Ok(place),
-            Err(_) => Err(AllocError),
-        }
+        put(&mut self.rows, NumberedKey { first, texts })
     }
 }

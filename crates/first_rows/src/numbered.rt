@@ -32,7 +32,7 @@ impl<'t> NumberedKey<'t> {
             ValueRef::Text(_) => ValueRef::Text(""),
             ValueRef::Null => ValueRef::Null,
             ValueRef::Bool(flag) => ValueRef::Bool(flag),
-            ValueRef::Int(number) => ValueRef::Int(number),
+            ValueRef::Int(_) => value,
         }
     }
 }

@@ -31,6 +31,16 @@ fn short(place: usize) -> Result<u32, AllocError>
     }
 }
 
+// The number that follows a place.
+fn next(place: usize) -> Result<u32, AllocError>
+    ensures { IfOk result (λ number. number ≡ place + 1) }
+{
+    match place.checked_add(1) {
+        Some(number) => short(number),
+        None => Err(AllocError),
+    }
+}
+
 impl<'t> TextNumbers<'t> {
     /// No texts have a number yet.
     pub(crate) fn new(alloc: Global, seed: HashSeed) -> TextNumbers<'t> {
@@ -57,7 +67,7 @@ impl<'t> TextNumbers<'t> {
         ensures is { IfOk result (IsPairNumber (self.new).pairs.keys before text) }
     {
         match self.pairs.insert_full((before, text)) {
-            Ok((place, _)) => short(place + 1),
+            Ok((place, _)) => next(place),
             Err(_) => Err(AllocError),
         }
     }

@@ -1,4 +1,6 @@
-use Rattle.first_rows.proofs.Coded.{part_blank, part_whole}
+use Rattle.std.proofs.Common.{refl}
+use Rattle.scan_base.specs.Value.{value_of}
+use Rattle.first_rows.proofs.Coded.{part_blank, part_same, part_whole}
 use Rattle.first_rows.proofs.numbered.NumberedKey.part.Goals as goal
 
 pub returns-then-self-eq0 : goal.returns-then-self-eq0
@@ -14,4 +16,5 @@ pub returns-in-Bool : goal.returns-in-Bool
 returns-in-Bool c = part_blank c.args.self.now c.args.place _ c.requires c.in-Bool.ensures c.if-self-eq0.false
 
 pub returns-in-Int : goal.returns-in-Int
-returns-in-Int c = part_blank c.args.self.now c.args.place _ c.requires c.in-Int.ensures c.if-self-eq0.false
+returns-in-Int c =
+    part_same c.args.self.now c.args.place (value_of c.cell-value.result) c.requires c.cell-value.ensures (rw c.in-Int.is refl) c.if-self-eq0.false

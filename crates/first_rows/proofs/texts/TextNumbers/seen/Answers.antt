@@ -20,15 +20,16 @@ returns-in_err-number c =
     record {
       stay = c.text.ensures.stay;
       seen = seen_stays old new at.batch.now at.columns.now _ c.text.ensures.stay.texts c.requires.seen;
+      is = tt;
     }
 
 pub returns : goal.returns
 returns c =
     let old = text_number c.args.self.now.texts.keys in
-    let new = text_number c.text-number.new.self.texts.keys in
+    let new = text_number c.text.new.self.texts.keys in
     let at = c.args.at.now in
     record {
-      stay = c.text-number.ensures.stay;
-      seen = c.keep.ensures new (ap new (sym c.requires.text) ∙ c.in_ok-number.ensures.is) (seen_stays old new at.batch.now at.columns.now _ c.text-number.ensures.stay.texts c.requires.seen);
+      stay = c.text.ensures.stay;
+      seen = c.keep.ensures new (ap new (sym c.requires.text) ∙ c.in_ok-number.ensures.is) (seen_stays old new at.batch.now at.columns.now _ c.text.ensures.stay.texts c.requires.seen);
       is = c.in_ok-number.ensures.is;
     }

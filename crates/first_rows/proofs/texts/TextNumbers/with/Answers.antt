@@ -9,5 +9,5 @@ returns-in-Ok c =
     let new = c.insert_full.new.self.keys in
     record {
       stay = record { texts = λ value number h. h; pairs = pair_stays old new (c.args.before, c.args.text) c.in-Ok.ensures.keys };
-      is = IfOk-weaker c.short.result _ _ (λ number is. (c.in-Ok.place, pair_inserted old new c.args.before c.args.text c.in-Ok.place c.in-Ok.ensures.keys c.in-Ok.ensures.index c.in-Ok.ensures.within, is)) c.short.ensures;
+      is = IfOk-weaker c.next.result _ _ (λ number is. (c.in-Ok.place, pair_inserted old new c.args.before c.args.text c.in-Ok.place c.in-Ok.ensures.keys c.in-Ok.ensures.index c.in-Ok.ensures.within, is)) c.next.ensures;
     }
