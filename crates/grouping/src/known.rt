@@ -4,14 +4,12 @@ ghost use Rattle.std.specs.Prelude.{◌≡◌, ◌≤◌, ◌<◌, ◌==◌, ◌
 ghost use Rattle.std.specs.List.{list_all};
 ghost use Rattle.indexmap.specs.IndexSet.{insert_key};
 ghost use Rattle.grouping.specs.Found.{place_in};
-ghost use Rattle.grouping.specs.RowKeys.{key_of, same_first};
+ghost use Rattle.first_rows.specs.RowKeys.{key_of, same_first};
 ghost use Rattle.grouping.specs.inside.Knowing.{AreKnown, AreNothing, AreTagged, GoOn, IsTold};
 
-use crate::key::RowKey;
 use crate::table::{Chosen, group_of};
+use first_rows::{FirstRows, RowKey};
 use group_slots::{NOTHING, Tag, Tags};
-use hash_seed::HashSeed;
-use indexmap::IndexSet;
 use std::alloc::AllocError;
 
 /// The tag of a key, and the place of its group; none where the kind is `NOTHING`.
@@ -110,7 +108,7 @@ fn place_of(tag: Tag, entries: usize) -> usize
 ///
 /// `AllocError` where memory is refused.
 pub(crate) fn known_group<'t, T: Tags>(
-    firsts: &mut IndexSet<RowKey<'t>, HashSeed>,
+    firsts: &mut FirstRows<'t>,
     known: &mut [Known],
     tags: &T,
     first: RowKey<'t>,
@@ -198,13 +196,24 @@ pub(crate) fn push_known<T: Tags>(
 /// `AllocError` where memory is refused, or 32 bits do not name the group.
 #[inline(never)]
 pub(crate) fn short_group<'t>(
-    firsts: &mut IndexSet<RowKey<'t>, HashSeed>,
+    firsts: &mut FirstRows<'t>,
     first: RowKey<'t>,
 ) -> Result<u32, AllocError>
     ensures inserted { OnOk result (firsts.new.keys ≡ insert_key same_first firsts.old.keys first.entry) }
     ensures place { IfOk result (λ group. group ≡ place_in (map key_of firsts.old.keys) (key_of first.entry)) }
 {
     let group = group_of(firsts, first)?;
+    short(group)
+}
+
+/// A group as a number of 32 bits.
+///
+/// # Errors
+///
+/// `AllocError` where 32 bits do not name it.
+pub(crate) fn short(group: usize) -> Result<u32, AllocError>
+    ensures { IfOk result (λ number. number ≡ group) }
+{
     match u32::try_from(group) {
         Ok(group) => Ok(group),
         Err(_) => Err(AllocError),
