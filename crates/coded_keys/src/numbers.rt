@@ -49,7 +49,7 @@ fn free_places(alloc: Global, count: usize) -> Result<Vec<Option<SeenNumber>>, A
 
 impl SeenNumbers {
     /// A table for keys of so many parts, which knows no number. It takes no memory yet: 16 bytes for a place once values are
-    /// kept, and 16 MB at most.
+    /// kept, and 16 MB at most. For keys of no part it keeps nothing.
     pub fn new(alloc: Global, seed: HashSeed, parts: usize) -> SeenNumbers
         ensures { result.places.items ≡ [] }
     {
@@ -111,13 +111,13 @@ impl SeenNumbers {
         }
     }
 
-    // Makes more places where half of them were taken. They know nothing yet.
+    // Makes more places where half of them were taken. They know nothing yet. For keys of no part none are made.
     fn make_room(&mut self)
         ensures { (numbers : Value → Option ℕ) (batch : BatchAt) (columns : List ℕ) → AreNumbers numbers batch columns self.old.places.items →
             AreNumbers numbers batch columns self.new.places.items }
     {
         let count = self.places.len();
-        if count >= MOST_PLACES || self.taken < count / 2 {
+        if self.parts == 0 || count >= MOST_PLACES || self.taken < count / 2 {
             return;
         }
         let more = MOST_PLACES.min(GROWTH * count).max(FIRST_PLACES);

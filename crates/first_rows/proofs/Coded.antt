@@ -1,5 +1,5 @@
 -- Keys, by what is compared of them.
-use Rattle.std.proofs.Common.{◌≡◌, ◌≢◌, ◌<◌, ◌&&◌, ℕ, Bool, true, false, ◌==◌, List, ◌∷◌, length, get_or, pos, refl, sym, ap, ◌∙◌, arith}
+use Rattle.std.proofs.Common.{◌≡◌, ◌≢◌, ◌<◌, ℕ, true, false, ◌==◌, length, get_or, pos, refl, sym, ap, ◌∙◌, arith}
 use Rattle.std.specs.Ordering.{int_eq}
 use Rattle.std.proofs.lemmas.Bool.Decides.{Decides-int_eq}
 use Rattle.std.proofs.lemmas.List.{get_or-map, length-map}
@@ -7,7 +7,7 @@ use borrow.Author.Tests.{ne_eqb}
 use Rattle.scan_base.specs.Predicate.{cell_in}
 use Rattle.arrays.specs.Batch.{row_of}
 use Rattle.scan_base.specs.declared.value.Value.{Value}
-use Rattle.scan_base.specs.declared.value.Value.TheVariants.{Null, Int}
+use Rattle.scan_base.specs.declared.value.Value.TheVariants.{Null}
 use Rattle.typed_plan.specs.Grouped.{same_key, same_value}
 use Rattle.first_rows.specs.declared.numbered.NumberedKey.{NumberedKey}
 use Rattle.first_rows.specs.Keys.{key_self, key_sound}

@@ -1,5 +1,7 @@
 -- Keys that are compared by the numbers of their texts.
-use Rattle.std.proofs.Common.{◌≡◌, ◌==◌, ℕ, Bool, true, false, List, [], ◌∷◌, All, get_or, map, pos, refl, sym, ap, subst, ◌∙◌}
+use Rattle.std.proofs.Common.{◌≡◌, ◌==◌, ℕ, Bool, true, false, List, [], ◌∷◌, get_or, map, pos, refl, sym, ap, subst, ◌∙◌}
+use Rattle.std.specs.Prelude.{IfOk, OnOk, Result, Ok, Err}
+use Rattle.std.specs.declared.alloc.AllocError.{AllocError}
 use Rattle.std.specs.List.{position_or_len}
 use Rattle.indexmap.specs.IndexSet.{insert_key}
 use Rattle.scan_base.specs.declared.value.Value.{Value}
@@ -10,11 +12,11 @@ use Rattle.first_rows.specs.declared.numbered.NumberedKey.{NumberedKey}
 use Rattle.first_rows.specs.declared.texts.TextNumbers.{TextNumbers}
 use Rattle.first_rows.specs.Firsts.{AreNumbered, IsNumbered}
 use Rattle.first_rows.specs.Keys.{either_way, key_self, key_sound}
-use Rattle.first_rows.specs.Numbered.{blanked, coded, rest, rest_of}
+use Rattle.first_rows.specs.Numbered.{Puts, blanked, coded, rest, rest_of}
 use Rattle.first_rows.specs.Numbers.{IsNumber, Stay}
 use Rattle.first_rows.specs.RowKeys.{key_of, same_first}
 use Rattle.first_rows.proofs.Numbering.{number_one, number_only, number_stays}
-use Rattle.first_rows.proofs.Places.{insert_same, place_same}
+use Rattle.first_rows.proofs.Places.{all_inserted, insert_same, place_same}
 
 whole : (values : List Value) → map (rest 0) values ≡ values
 whole [] = refl
@@ -90,3 +92,25 @@ all_stay are before after keys stay all = λ k d low. one are (get_or keys k d) 
     one : (are : Bool) (key : NumberedKey) → IsNumbered are before key → IsNumbered are after key
     one true key is = number_stays before after 0 (key_of key.first) key.texts stay is
     one false key is = is
+
+-- ---- a key that is put
+
+pub put_all : (are : Bool) (numbers : TextNumbers) (keys : List NumberedKey) (key : NumberedKey) (result : Result ℕ AllocError) (after : List NumberedKey) →
+    AreNumbered are numbers keys → IsNumbered are numbers key → Puts keys key result after → AreNumbered are numbers after
+put_all are numbers keys key (Ok place) after all one put =
+    subst (AreNumbered are numbers) (sym put.0) (all_inserted (IsNumbered are numbers) (λ a b. same_key (coded a) (coded b)) keys key all one)
+put_all are numbers keys key (Err _) after all one put = subst (AreNumbered are numbers) (sym put) all
+
+pub put_inserts : (are : Bool) (numbers : TextNumbers) (keys : List NumberedKey) (key : NumberedKey) (result : Result ℕ AllocError) (after : List NumberedKey) (firsts : List RowKey) →
+    AreNumbered are numbers keys → IsNumbered are numbers key → map (λ (k : NumberedKey). k.first) keys ≡ firsts → Puts keys key result after →
+    OnOk result (map (λ (k : NumberedKey). k.first) after ≡ insert_key same_first firsts key.first)
+put_inserts are numbers keys key (Ok place) after firsts all one is put =
+    ap (map (λ (k : NumberedKey). k.first)) put.0 ∙ inserts are numbers keys key all one ∙ ap (λ (rows : List RowKey). insert_key same_first rows key.first) is
+put_inserts are numbers keys key (Err _) after firsts all one is put = tt
+
+pub put_places : (are : Bool) (numbers : TextNumbers) (keys : List NumberedKey) (key : NumberedKey) (result : Result ℕ AllocError) (after : List NumberedKey) (firsts : List RowKey) →
+    AreNumbered are numbers keys → IsNumbered are numbers key → map (λ (k : NumberedKey). k.first) keys ≡ firsts → Puts keys key result after →
+    IfOk result (λ place. place ≡ position_or_len (same_first key.first) firsts)
+put_places are numbers keys key (Ok place) after firsts all one is put =
+    put.1 ∙ places are numbers keys key all one ∙ ap (λ (rows : List RowKey). position_or_len (same_first key.first) rows) is
+put_places are numbers keys key (Err _) after firsts all one is put = tt

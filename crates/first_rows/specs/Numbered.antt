@@ -1,8 +1,10 @@
 -- Inside: keys whose texts have a number, and what is compared of them.
-use Rattle.std.specs.Prelude.{◌≡◌, ◌==◌, ◌++◌, ℕ, pos, Bool, true, false, List, [], ◌∷◌, IsTrue, map, if◌then◌else◌}
-use Rattle.std.specs.List.{flat_map}
+use Rattle.std.specs.Prelude.{◌≡◌, ◌==◌, ◌++◌, ℕ, pos, Bool, List, [], ◌∷◌, IsTrue, map, if◌then◌else◌, Result, Ok, Err}
+use Rattle.std.specs.declared.alloc.AllocError.{AllocError}
+use Rattle.std.specs.List.{flat_map, position_or_len}
 use Rattle.std.specs.Hash as fed
-use Rattle.std.proofs.Common.{ap, refl}
+use Rattle.std.proofs.Common.{ap}
+use Rattle.indexmap.specs.IndexSet.{insert_key}
 use Rattle.scan_base.specs.declared.value.Value.{Value}
 use Rattle.scan_base.specs.declared.value.Value.TheVariants.{Null, Bool as Flag, Int, Text}
 use Rattle.typed_plan.specs.Grouped.{same_key}
@@ -53,3 +55,8 @@ coded_input key = number_input key.texts (rest_of key)
 -- a hash takes the same of keys that are the same
 pub same_coded_input : (a b : NumberedKey) → IsTrue (same_key (coded a) (coded b)) → coded_input a ≡ coded_input b
 same_coded_input a b h = ap input_of (key_sound (coded a) (coded b) h)
+
+-- a key has its place among others, behind all where it is new; where memory is refused they are as they were
+abbrev pub Puts : List NumberedKey → NumberedKey → Result ℕ AllocError → List NumberedKey → Type 0
+Puts before key (Ok place) after = (after ≡ insert_key same_coded before key) × (place ≡ position_or_len (same_coded key) before)
+Puts before key (Err _) after = after ≡ before

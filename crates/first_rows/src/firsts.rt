@@ -1,11 +1,10 @@
 //! First rows by their keys.
 
-ghost use Rattle.std.specs.Prelude.{◌≡◌, ◌<◌, [], All, IfOk, OnOk, get_or, length};
+ghost use Rattle.std.specs.Prelude.{◌≡◌, ◌<◌, [], IfOk, OnOk, get_or, length};
 ghost use Rattle.std.specs.List.{position_or_len};
 ghost use Rattle.indexmap.specs.IndexSet.{insert_key};
 ghost use Rattle.first_rows.specs.Firsts.{HasNumber, FitSeen};
-ghost use Rattle.first_rows.specs.declared.numbered.NumberedKey.{NumberedKey};
-ghost use Rattle.first_rows.specs.Numbered.{same_coded};
+ghost use Rattle.first_rows.specs.Numbered.{Puts};
 ghost use Rattle.first_rows.specs.Numbers.{AreSeen, Stay};
 ghost use Rattle.first_rows.specs.RowKeys.{same_first};
 
@@ -50,9 +49,7 @@ fn put<'t>(
     rows: &mut IndexSet<NumberedKey<'t>, HashSeed>,
     key: NumberedKey<'t>,
 ) -> Result<usize, AllocError>
-    ensures inserted { OnOk result (rows.new.keys ≡ insert_key same_coded rows.old.keys key.entry) }
-    ensures place { IfOk result (λ place. place ≡ position_or_len (same_coded key.entry) rows.old.keys) }
-    ensures all { (P : NumberedKey → Type 0) → All P rows.old.keys → P key.entry → All P rows.new.keys }
+    ensures { Puts rows.old.keys key.entry result rows.new.keys }
 {
     match rows.insert_full(key) {
         Ok((place, _)) => Ok(place),
@@ -112,8 +109,11 @@ impl<'t> FirstRows<'t> {
         ensures inserted { OnOk result (self.new.keys ≡ insert_key same_first self.old.keys first.entry) }
         ensures place { IfOk result (λ place. place ≡ position_or_len (same_first first.entry) self.old.keys) }
     {
-        let mut seen = SeenNumbers::new(*self.rows.allocator(), self.seed(), 0);
-        self.insert_seen(&mut seen, first)
+        if self.are_numbered {
+            let mut seen = SeenNumbers::new(*self.rows.allocator(), self.seed(), 0);
+            return self.insert_seen(&mut seen, first);
+        }
+        put(&mut self.rows, NumberedKey { first, texts: 0 })
     }
 
     /// The same. A text whose code in the row's batch was seen is not looked at.

@@ -1,4 +1,4 @@
-use Rattle.std.proofs.Common.{◌≡◌, ◌<◌, get_or, length, refl, sym, ap, ◌∙◌, subst, take, ℕ, List, arith}
+use Rattle.std.proofs.Common.{◌≡◌, ◌<◌, get_or, length, refl, subst, take, List, arith}
 use Rattle.std.proofs.lemmas.List.{length-map, take_all, take_more}
 use Rattle.scan_base.specs.declared.value.Value.{Value}
 use Rattle.scan_base.specs.declared.value.Value.TheVariants.{Null}
@@ -13,8 +13,8 @@ use Rattle.first_rows.proofs.texts.TextNumbers.key.Goals as goal
 long : (first : RowKey) → length (key_of first) ≡ length first.columns.now
 long first = length-map first.columns.now (cell_in (row_of first.batch.now.columns first.row))
 
-pub returns-in_err-parts : goal.returns-in_err-parts
-returns-in_err-parts c = record { stay = stay_self c.args.self.now; seen = c.requires.seen; is = tt }
+pub returns-in_err-parts-clause-stay : goal.returns-in_err-parts-clause-stay
+returns-in_err-parts-clause-stay c = stay_self c.args.self.now
 
 pub loop-part-init : goal.loop-part-init
 loop-part-init c = record { stay = stay_self c.args.self.now; seen = c.requires.seen; is = refl }

@@ -12,16 +12,12 @@ returns-in-Some c =
       is = ap numbers c.requires.text ∙ c.in-Some.ensures numbers c.requires.seen;
     }
 
-pub returns-in_err-number : goal.returns-in_err-number
-returns-in_err-number c =
+pub returns-in_err-number-clause-seen : goal.returns-in_err-number-clause-seen
+returns-in_err-number-clause-seen c =
     let old = text_number c.args.self.now.texts.keys in
     let new = text_number c.text.new.self.texts.keys in
     let at = c.args.at.now in
-    record {
-      stay = c.text.ensures.stay;
-      seen = seen_stays old new at.batch.now at.columns.now _ c.text.ensures.stay.texts c.requires.seen;
-      is = tt;
-    }
+    seen_stays old new at.batch.now at.columns.now _ c.text.ensures.stay.texts c.requires.seen
 
 pub returns : goal.returns
 returns c =

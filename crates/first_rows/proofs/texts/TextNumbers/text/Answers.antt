@@ -1,4 +1,4 @@
-use Rattle.std.proofs.Common.{sym, ap, subst, ◌∙◌, Some}
+use Rattle.std.proofs.Common.{sym, ap, ◌∙◌, Some}
 use Rattle.std.proofs.lemmas.Result.{IfOk-weaker}
 use Rattle.first_rows.proofs.Numbering.{text_inserted, text_stays}
 use Rattle.first_rows.proofs.texts.TextNumbers.text.Goals as goal

@@ -1,4 +1,3 @@
-use Rattle.std.proofs.Common.{refl, sym, ap, subst, ◌∙◌, Some}
 use Rattle.std.proofs.lemmas.Result.{IfOk-weaker}
 use Rattle.first_rows.proofs.Numbering.{pair_inserted, pair_stays}
 use Rattle.first_rows.proofs.texts.TextNumbers.with.Goals as goal
