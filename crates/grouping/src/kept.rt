@@ -127,7 +127,7 @@ fn make_known(known: &mut Vec<Known>, found: usize, rows: usize) -> Result<(), A
 /// `AllocError` where memory is refused.
 pub(crate) fn join<'t>(
     alloc: Global,
-    shape: &Grouping<'_>,
+    shape: &Grouping<'t>,
     kept: &mut Kept<'t>,
     other: &Kept<'t>,
 ) -> Result<(), AllocError>

@@ -8,7 +8,7 @@ use Rattle.grouping.proofs.coded.coded_group.Goals as goal
 
 pub returns-in-Some-clause-inserted : goal.returns-in-Some-clause-inserted
 returns-in-Some-clause-inserted c =
-    let told = c.in-Some.ensures in
+    let told = rw c.in-Some.is at c.requires.told in
     sym (found_before c.args.firsts.now.keys c.args.first (omega (arith, told.0, told.1)))
 
 pub returns-clause-place : goal.returns-clause-place

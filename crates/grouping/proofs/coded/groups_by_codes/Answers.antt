@@ -1,7 +1,6 @@
-use Rattle.std.proofs.Common.{◌≡◌, ◌<◌, ℕ, List, length, map, get_or, ap, sym, subst, ◌∙◌, refl, arith}
+use Rattle.std.proofs.Common.{◌≡◌, ◌<◌, ℕ, List, length, map, get_or, ap, ◌∙◌, refl, arith}
 use Rattle.std.proofs.lemmas.Option.{IfSome_then}
-use Rattle.arrays.specs.Batch.{row_of}
-use Rattle.grouping.specs.Found.{key_in, place_in}
+use Rattle.grouping.specs.Found.{place_in}
 use Rattle.first_rows.specs.RowKeys.{key_of}
 use Rattle.grouping.proofs.Finding.{step}
 use Rattle.grouping.proofs.coded.groups_by_codes.Goals as goal

@@ -12,16 +12,18 @@ insert_seen-requires c =
     let shape = c.args.shape.now in
     let other = c.get-other.result in
     let numbers = text_number c.loop-place.firsts.texts in
-    let first = subst (IsFirst shape.batches.now shape.keys.now) (sym c.get-other.ensures) (c.requires c.loop-place.place other (omega arith)) in
-    seen_of numbers shape.batches.now shape.keys.now other _ first
-    (c.turn_to.ensures.stays numbers shape.batches.now shape.keys.now c.loop-place.invariant.seen)
+    let first = subst (IsFirst shape.batches.now shape.keys.now) (sym c.get-other.ensures) (c.requires.others c.loop-place.place other (omega arith)) in
+    record {
+      seen = seen_of numbers shape.batches.now shape.keys.now other _ first
+          (c.turn_to.ensures.stays numbers shape.batches.now shape.keys.now c.loop-place.invariant.seen);
+    }
 
 pub loop-place-preserved : goal.loop-place-preserved
 loop-place-preserved c =
     let shape = c.args.shape.now in
     let other = c.get-other.result in
     let found = c.in_ok-insert_seen.ensures in
-    let first = subst (IsFirst shape.batches.now shape.keys.now) (sym c.get-other.ensures) (c.requires c.loop-place.place other (omega arith)) in
+    let first = subst (IsFirst shape.batches.now shape.keys.now) (sym c.get-other.ensures) (c.requires.others c.loop-place.place other (omega arith)) in
     record {
       joining = rw (c.in_ok-push.ensures.items, found.place ∙ sym (position_map key_of (same_key (key_of other)) c.loop-place.firsts.keys), found.inserted)
           (step _ _ _ _ _ other c.loop-place.invariant.joining (omega arith) c.get-other.ensures);
