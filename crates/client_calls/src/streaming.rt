@@ -66,7 +66,7 @@ impl<R: Input, W: Output> Model for Fetching<R, W> {
     ghost view = { λ f. record {
       line = record {
         incoming = record {
-          input = R.remaining f.reader;
+          input = R.tape f.reader;
           failed = R.failures f.reader;
           left = left_of f.stopped f.inbox;
         };
