@@ -3,7 +3,7 @@
 ghost use Rattle.std.specs.Prelude.{◌≡◌, ℕ, [], List, Option, Some, IfOk, IfSome};
 ghost use Rattle.scan_base.specs.declared.value.Value.{Value};
 ghost use Rattle.arrays.specs.Batch.{BatchAt};
-ghost use Rattle.coded_keys.specs.Numbers.{AreFree, AreNumbers, value_in};
+ghost use Rattle.coded_keys.specs.Numbers.{AreFree, AreNumbers, IsNumber, value_in};
 
 use crate::key_part::KeyPart;
 use hash_seed::HashSeed;
@@ -20,6 +20,9 @@ const FIRST_PLACES: usize = 64;
 // A table that grows has so many times the places that it had.
 const GROWTH: usize = 8;
 
+// A code is looked for at no more places.
+const MOST_LOOKS: usize = 8;
+
 /// A row that was seen, a part of its key, and the number of the value there.
 #[derive(Clone, Copy, Drop)]
 pub struct SeenNumber {
@@ -28,8 +31,8 @@ pub struct SeenNumber {
     pub number: u32,
 }
 
-/// For each place the row whose part, of a code, fell there last, and the number of its value. It may forget a row. Who asks
-/// looks whether that row has the same code.
+/// At each place a row, a part of its key, and the number of the value there, or nothing. It stands at one of the places to which
+/// its code leads. It may be forgotten where many are kept. Who asks looks whether that row has the same code.
 #[derive(Drop)]
 pub struct SeenNumbers {
     alloc: Global,
@@ -76,31 +79,32 @@ impl SeenNumbers {
         ensures { (numbers : Value → Option ℕ) → AreNumbers numbers at.now.batch.now at.now.columns.now self.now.places.items →
             IfSome result (λ number. numbers (value_in at.now) ≡ Some number) }
     {
-        let place = self.place(at);
-        if place >= self.places.len() {
-            return None;
-        }
-        let Some(seen) = self.places[place] else {
+        let Some(begin) = self.place(at) else {
             return None;
         };
-        if seen.part == at.part
-            && (seen.row as usize) < at.batch.rows()
-            && at.has_code_of(seen.row)
-        {
-            Some(seen.number)
-        } else {
-            None
+        for look in 0..MOST_LOOKS {
+            let Some(seen) = self.entry(begin.wrapping_add(look)) else {
+                return None;
+            };
+            if seen.part == at.part
+                && (seen.row as usize) < at.batch.rows()
+                && at.has_code_of(seen.row)
+            {
+                return Some(seen.number);
+            }
         }
+        None
     }
 
-    /// Keeps the number of a part of a row's key, in the stead of what was at its place. Where memory is refused, it is not kept.
+    /// Keeps the number of a part of a row's key, where it was not found. Where all its places are taken, it takes the first. Where
+    /// memory is refused, it is not kept.
     pub fn keep(&mut self, at: &KeyPart<'_>, number: u32)
         ensures { (numbers : Value → Option ℕ) → numbers (value_in at.now) ≡ Some number →
             AreNumbers numbers at.now.batch.now at.now.columns.now self.old.places.items →
             AreNumbers numbers at.now.batch.now at.now.columns.now self.new.places.items }
     {
         self.make_room();
-        let place = self.place(at);
+        let place = self.room(at);
         if place < self.places.len() {
             self.taken = self.taken.saturating_add(1);
             self.places[place] = Some(SeenNumber {
@@ -127,23 +131,51 @@ impl SeenNumbers {
         }
     }
 
-    // The place of a part's code: one of its own where there are enough; none where it has no code. No contract rests on it.
-    fn place(&self, at: &KeyPart<'_>) -> usize {
-        let count = self.places.len();
+    // The first place of a part's code: one of its own where there are enough; none where it has no code. No contract rests on it.
+    fn place(&self, at: &KeyPart<'_>) -> Option<usize> {
         let ValueRef::Int(code) = at.code() else {
-            return count;
+            return None;
         };
         let Ok(index) = usize::try_from(code) else {
-            return count;
+            return None;
         };
         let number = index
             .wrapping_mul(self.parts)
             .wrapping_add(at.part as usize);
-        if number < count {
-            number
+        if number < self.places.len() {
+            Some(number)
         } else {
-            self.spread(number as u64)
+            Some(self.spread(number as u64))
         }
+    }
+
+    // What stands at a place, which is counted round.
+    fn entry(&self, place: usize) -> Option<SeenNumber>
+        ensures { (numbers : Value → Option ℕ) (batch : BatchAt) (columns : List ℕ) → AreNumbers numbers batch columns self.now.places.items →
+            IfSome result (IsNumber numbers batch columns) }
+    {
+        let at = place & self.places.len().saturating_sub(1);
+        if at < self.places.len() {
+            self.places[at]
+        } else {
+            None
+        }
+    }
+
+    // Where a part is to stand: at the first free place of those to which its code leads, or else at the first of them. A place that
+    // is not there, where it has no code.
+    fn room(&self, at: &KeyPart<'_>) -> usize {
+        let count = self.places.len();
+        let Some(begin) = self.place(at) else {
+            return count;
+        };
+        for look in 0..MOST_LOOKS {
+            let place = begin.wrapping_add(look);
+            if self.entry(place).is_none() {
+                return place & count.saturating_sub(1);
+            }
+        }
+        begin
     }
 
     // The place of a number among all places, by a product with the secret.

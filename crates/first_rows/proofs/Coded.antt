@@ -11,7 +11,7 @@ use Rattle.scan_base.specs.declared.value.Value.TheVariants.{Null}
 use Rattle.typed_plan.specs.Grouped.{same_key, same_value}
 use Rattle.first_rows.specs.declared.numbered.NumberedKey.{NumberedKey}
 use Rattle.first_rows.specs.Keys.{key_self, key_sound}
-use Rattle.first_rows.specs.Numbered.{blanked, coded, rest, rest_of}
+use Rattle.first_rows.specs.Numbered.{blanked, coded, first_of, rest, rest_of}
 use Rattle.first_rows.specs.RowKeys.{key_of}
 use Rattle.first_rows.proofs.KeyCells.{decide, same_all, same_not}
 
@@ -39,36 +39,36 @@ coded_all a b texts long same =
     let rests : same_key (rest_of a) (rest_of b) ≡ true = same_all (rest_of a) (rest_of b) long same in
     rw (one, rests) refl
 
-key_long : (key : NumberedKey) → length (key_of key.first) ≡ length key.first.columns.now
-key_long key = length-map key.first.columns.now (cell_in (row_of key.first.batch.now.columns key.first.row))
+key_long : (key : NumberedKey) → length (key_of (first_of key)) ≡ length key.columns.now
+key_long key = length-map key.columns.now (cell_in (row_of key.batch.now.columns key.row))
 
 -- a key has as much to compare as columns
-pub rest_long : (key : NumberedKey) → length (rest_of key) ≡ length key.first.columns.now
-rest_long key = length-map (key_of key.first) (rest key.texts) ∙ key_long key
+pub rest_long : (key : NumberedKey) → length (rest_of key) ≡ length key.columns.now
+rest_long key = length-map (key_of (first_of key)) (rest key.texts) ∙ key_long key
 
-part_rest : (key : NumberedKey) (place : ℕ) (value : Value) → place < length key.first.columns.now → value ≡ get_or (key_of key.first) place Null →
+part_rest : (key : NumberedKey) (place : ℕ) (value : Value) → place < length key.columns.now → value ≡ get_or (key_of (first_of key)) place Null →
     rest key.texts value ≡ get_or (rest_of key) place Null
 part_rest key place value low is =
-    ap (rest key.texts) is ∙ sym (get_or-map (rest key.texts) (key_of key.first) place Null Null (omega (arith, low, key_long key)))
+    ap (rest key.texts) is ∙ sym (get_or-map (rest key.texts) (key_of (first_of key)) place Null Null (omega (arith, low, key_long key)))
 
 -- a value of a key, and what is compared of it
-pub part_whole : (key : NumberedKey) (place : ℕ) (value : Value) → place < length key.first.columns.now → value ≡ get_or (key_of key.first) place Null → key.texts ≡ 0 →
+pub part_whole : (key : NumberedKey) (place : ℕ) (value : Value) → place < length key.columns.now → value ≡ get_or (key_of (first_of key)) place Null → key.texts ≡ 0 →
     value ≡ get_or (rest_of key) place Null
 part_whole key place value low is none = sym (ap (λ (texts : ℕ). rest texts value) none) ∙ part_rest key place value low is
 
-pub part_blank : (key : NumberedKey) (place : ℕ) (value : Value) → place < length key.first.columns.now → value ≡ get_or (key_of key.first) place Null → key.texts ≢ 0 →
+pub part_blank : (key : NumberedKey) (place : ℕ) (value : Value) → place < length key.columns.now → value ≡ get_or (key_of (first_of key)) place Null → key.texts ≢ 0 →
     blanked value ≡ get_or (rest_of key) place Null
 part_blank key place value low is some =
     let not_zero : (key.texts == 0) ≡ false = ne_eqb _ _ some in
     let turned : rest key.texts value ≡ blanked value = rw not_zero refl in
     sym turned ∙ part_rest key place value low is
 
-pub part_same : (key : NumberedKey) (place : ℕ) (value : Value) → place < length key.first.columns.now → value ≡ get_or (key_of key.first) place Null → blanked value ≡ value →
+pub part_same : (key : NumberedKey) (place : ℕ) (value : Value) → place < length key.columns.now → value ≡ get_or (key_of (first_of key)) place Null → blanked value ≡ value →
     key.texts ≢ 0 → value ≡ get_or (rest_of key) place Null
 part_same key place value low is same some = sym same ∙ part_blank key place value low is some
 
 -- keys of two lengths differ
-pub coded_short : (a b : NumberedKey) → length a.first.columns.now ≢ length b.first.columns.now → same_key (coded a) (coded b) ≡ false
+pub coded_short : (a b : NumberedKey) → length a.columns.now ≢ length b.columns.now → same_key (coded a) (coded b) ≡ false
 coded_short a b differ =
     let apart : length (rest_of a) ≢ length (rest_of b) = omega (arith, rest_long a, rest_long b, differ) in
     coded_other a b (same_not (rest_of a) (rest_of b) apart)

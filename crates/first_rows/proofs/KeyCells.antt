@@ -1,5 +1,7 @@
 -- Keys, cell by cell.
 use Rattle.std.proofs.Common.{◌≡◌, ◌≢◌, ℕ, zero, suc, ◌<◌, Bool, true, false, List, [], ◌∷◌, length, map, get_or, refl, sym, ap, ◌∙◌, true≢false, arith, nat_lt}
+use Rattle.std.specs.Prelude.{IsTrue}
+use denote.Struct.Props.{props}
 use Rattle.std.specs.List.{list_all}
 use Rattle.std.proofs.lemmas.List.{get_or-map}
 use Rattle.std.proofs.lemmas.Bool.{and_parts}
@@ -11,6 +13,7 @@ use Rattle.scan_base.specs.Predicate.{cell_in}
 use Rattle.arrays.specs.Column.{ColumnAt, slot_of}
 use Rattle.arrays.specs.Batch.{row_of}
 use Rattle.typed_plan.specs.Grouped.{same_value, same_key}
+use Rattle.first_rows.specs.declared.key.RowKey.{RowKey}
 use Rattle.first_rows.specs.Keys.{value_self, key_sound}
 
 -- keys of one length whose cells are the same are the same
@@ -56,3 +59,28 @@ key_there (key ∷ keys) n zero within all = ltb-true key n (and_parts (nat_lt k
 key_there (key ∷ keys) n (suc place) within all =
     key_there keys n place (omega arith) (and_parts (nat_lt key n) (list_all (λ k. nat_lt k n) keys) all).1
 key_there [] n place within all = absurd (omega arith)
+
+-- that the columns of a row are there, and the row is in its batch
+abbrev AreThere : RowKey → Type 0
+AreThere first = IsTrue (list_all (λ column. nat_lt column (length first.batch.now.columns)) first.columns.now)
+
+abbrev IsWithin : RowKey → Type 0
+IsWithin first = first.row < first.batch.now.rows
+
+-- a row with other proofs of both
+abbrev with_proofs : (first : RowKey) → AreThere first → IsWithin first → RowKey
+with_proofs first there within = record {
+  number = first.number;
+  batch = first.batch;
+  columns = first.columns;
+  row = first.row;
+  there = there;
+  within = within;
+}
+
+-- is that row
+pub row_only : (first : RowKey) (there : AreThere first) (within : IsWithin first) → with_proofs first there within ≡ first
+row_only first there within =
+    let one : IsProp (AreThere first) = hlevel props in
+    let two : IsProp (IsWithin first) = hlevel props in
+    ap (λ (given : AreThere first). with_proofs first given within) (one there first.there) ∙ ap (with_proofs first first.there) (two within first.within)

@@ -6,6 +6,7 @@ use Rattle.coded_keys.specs.Numbers.{AreNumbers}
 use Rattle.first_rows.specs.declared.key.RowKey.{RowKey}
 use Rattle.first_rows.specs.declared.numbered.NumberedKey.{NumberedKey}
 use Rattle.first_rows.specs.declared.texts.TextNumbers.{TextNumbers}
+use Rattle.first_rows.specs.Numbered.{first_of}
 use Rattle.first_rows.specs.Numbers.{IsNumber, text_number}
 use Rattle.first_rows.specs.RowKeys.{key_of}
 
@@ -21,7 +22,7 @@ HasNumber false numbers first texts = texts ≡ 0
 
 -- the texts of a key have its number
 abbrev pub IsNumbered : Bool → TextNumbers → NumberedKey → Type 0
-IsNumbered are numbers key = HasNumber are numbers key.first key.texts
+IsNumbered are numbers key = HasNumber are numbers (first_of key) key.texts
 
 -- all do
 abbrev pub AreNumbered : Bool → TextNumbers → List NumberedKey → Type 0

@@ -8,9 +8,14 @@ use Rattle.indexmap.specs.IndexSet.{insert_key}
 use Rattle.scan_base.specs.declared.value.Value.{Value}
 use Rattle.scan_base.specs.declared.value.Value.TheVariants.{Null, Bool as Flag, Int, Text}
 use Rattle.typed_plan.specs.Grouped.{same_key}
+use Rattle.first_rows.specs.declared.key.RowKey.{RowKey}
 use Rattle.first_rows.specs.declared.numbered.NumberedKey.{NumberedKey}
 use Rattle.first_rows.specs.Keys.{value_input, key_sound}
 use Rattle.first_rows.specs.RowKeys.{key_of}
+
+-- the row of a key
+abbrev pub first_of : NumberedKey → RowKey
+first_of key = record { number = key.number; batch = key.batch; columns = key.columns; row = key.row; there = key.there; within = key.within }
 
 -- of a text nothing is compared where it has a number
 abbrev pub blanked : Value → Value
@@ -25,7 +30,7 @@ rest texts value = if texts == 0 then value else blanked value
 
 -- what is compared of the values of a key beside the number of its texts
 abbrev pub rest_of : NumberedKey → List Value
-rest_of key = map (rest key.texts) (key_of key.first)
+rest_of key = map (rest key.texts) (key_of (first_of key))
 
 -- all that is compared of a key
 abbrev pub coded : NumberedKey → List Value

@@ -1,5 +1,5 @@
 -- Numbers of texts, and of the texts of a key.
-use Rattle.std.specs.Prelude.{◌≡◌, ◌+◌, ◌&&◌, ℕ, List, [], ◌∷◌, Option, Some, None, nat_eq}
+use Rattle.std.specs.Prelude.{◌≡◌, ◌+◌, ◌&&◌, ℕ, zero, suc, List, [], ◌∷◌, Option, Some, None, nat_eq}
 use Rattle.std.specs.Borrow.{Bor}
 use Rattle.std.specs.List.{position}
 use Rattle.std.specs.Str.{bytes_eq}
@@ -25,12 +25,17 @@ pair_place pairs before text = position (λ (pair : ℕ × ℕ). nat_eq before p
 abbrev pub IsPairNumber : List (ℕ × ℕ) → ℕ → ℕ → ℕ → Type 0
 IsPairNumber pairs before text number = (place : ℕ) × (pair_place pairs before text ≡ Some place) × (number ≡ place + 1)
 
+-- the number of one text alone follows its own; that of texts and one more follows the place of their pair
+abbrev pub IsBehind : List (ℕ × ℕ) → ℕ → ℕ → ℕ → Type 0
+IsBehind pairs zero text number = number ≡ text + 1
+IsBehind pairs (suc before) text number = IsPairNumber pairs (suc before) text number
+
 -- the texts up to a value have a number, where those before it have this one
 abbrev pub IsStep : TextNumbers → ℕ → Value → ℕ → Type 0
 IsStep numbers before Null number = number ≡ before
 IsStep numbers before (Flag flag) number = number ≡ before
 IsStep numbers before (Int other) number = number ≡ before
-IsStep numbers before (Text text) number = (place : ℕ) × (text_number numbers.texts.keys (Text text) ≡ Some place) × IsPairNumber numbers.pairs.keys before place number
+IsStep numbers before (Text text) number = (place : ℕ) × (text_number numbers.texts.keys (Text text) ≡ Some place) × IsBehind numbers.pairs.keys before place number
 
 -- the texts of values have a number, where those before them have this one
 abbrev pub IsNumber : TextNumbers → ℕ → List Value → ℕ → Type 0

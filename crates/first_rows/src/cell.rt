@@ -5,6 +5,7 @@ ghost use Rattle.std.specs.List.{fold};
 ghost use Rattle.scan_base.specs.Value.{value_of};
 ghost use Rattle.typed_plan.specs.Grouped.{same_value};
 ghost use Rattle.first_rows.specs.Keys.{value_input};
+ghost use Rattle.first_rows.specs.Numbered.{texts_input};
 
 use scan_base::ValueRef;
 use std::hash::{Hash, Hasher};
@@ -40,5 +41,14 @@ pub(crate) fn hash_value<H: Hasher>(value: ValueRef<'_>, state: &mut H)
             state.write_u8(3);
             text.hash(state);
         }
+    }
+}
+
+/// Takes a number of texts into a hash, where there are texts.
+pub(crate) fn hash_texts<H: Hasher>(texts: u32, state: &mut H)
+    ensures { state.new ≡ fold H.write state.old (texts_input texts) }
+{
+    if texts != 0 {
+        state.write_u32(texts);
     }
 }

@@ -60,10 +60,11 @@ fn put<'t>(
 impl<'t> Model for FirstRows<'t> {
     ghost use Rattle.std.specs.Prelude.{map};
     ghost use Rattle.first_rows.specs.Firsts.{AreNumbered, FirstRowsAt};
+    ghost use Rattle.first_rows.specs.Numbered.{first_of};
 
     ghost Value = { FirstRowsAt };
 
-    ghost view = { λ f. record { keys = map (λ key. key.first) f.rows.keys; texts = f.numbers.texts.keys } };
+    ghost view = { λ f. record { keys = map first_of f.rows.keys; texts = f.numbers.texts.keys } };
 
     ghost invariant = { λ f. AreNumbered f.are_numbered f.numbers f.rows.keys };
 }
@@ -97,7 +98,7 @@ impl<'t> FirstRows<'t> {
         requires { place < length self.now.keys }
         ensures { result ≡ get_or self.now.keys place result }
     {
-        self.rows.as_slice()[place].first
+        self.rows.as_slice()[place].first()
     }
 
     /// The place of a row's key, which stands behind all others where it is new.
@@ -113,7 +114,8 @@ impl<'t> FirstRows<'t> {
             let mut seen = SeenNumbers::new(*self.rows.allocator(), self.seed(), 0);
             return self.insert_seen(&mut seen, first);
         }
-        put(&mut self.rows, NumberedKey { first, texts: 0 })
+        let key = NumberedKey::new(first, 0);
+        put(&mut self.rows, key)
     }
 
     /// The same. A text whose code in the row's batch was seen is not looked at.
@@ -132,6 +134,7 @@ impl<'t> FirstRows<'t> {
         ensures seen { FitSeen self.new.texts first.entry seen.new }
     {
         let texts = number(self.are_numbered, &mut self.numbers, seen, &first)?;
-        put(&mut self.rows, NumberedKey { first, texts })
+        let key = NumberedKey::new(first, texts);
+        put(&mut self.rows, key)
     }
 }

@@ -1,8 +1,11 @@
 //! Rows, and their keys.
 
-ghost use Rattle.std.specs.Prelude.{◌≡◌, ◌<◌, IsTrue, length, nat_lt, get_or};
+ghost use Rattle.std.specs.Prelude.{◌≡◌, ◌<◌, IsTrue, length, nat_lt, get_or, map};
 ghost use Rattle.std.specs.List.{list_all};
+ghost use Rattle.scan_base.specs.Predicate.{cell_in};
 ghost use Rattle.scan_base.specs.Value.{value_of};
+ghost use Rattle.scan_base.specs.declared.value.Value.TheVariants.{Null};
+ghost use Rattle.arrays.specs.Batch.{row_of};
 
 use arrays::{Batch, Cells};
 use scan_base::ValueRef;
@@ -19,7 +22,6 @@ pub struct RowKey<'t> {
 }
 
 impl<'t> RowKey<'t> {
-    ghost use Rattle.scan_base.specs.declared.value.Value.TheVariants.{Null};
     ghost use Rattle.first_rows.specs.RowKeys.{key_of};
 
     // The value at a place of the key.
@@ -27,6 +29,21 @@ impl<'t> RowKey<'t> {
         requires { place < length self.now.columns.now }
         ensures { value_of result ≡ get_or (key_of self.now) place Null }
     {
-        self.batch.columns()[self.columns[place]].value_at(self.row as usize)
+        cell_at(self.batch, self.columns, self.row, place)
     }
+}
+
+/// The value of a row at a place of some columns.
+pub(crate) fn cell_at<'t>(
+    batch: &'t Batch,
+    columns: &[usize],
+    row: u32,
+    place: usize,
+) -> ValueRef<'t>
+    requires there { IsTrue (list_all (λ column. nat_lt column (length batch.now.columns)) columns.now) }
+    requires within { row < batch.now.rows }
+    requires place { place < length columns.now }
+    ensures { value_of result ≡ get_or (map (cell_in (row_of batch.now.columns row)) columns.now) place Null }
+{
+    batch.columns()[columns[place]].value_at(row as usize)
 }

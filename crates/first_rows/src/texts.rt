@@ -2,7 +2,7 @@
 
 ghost use Rattle.std.specs.Prelude.{◌≡◌, ◌<◌, ◌+◌, Some, IfOk, OnOk, get_or, length};
 ghost use Rattle.scan_base.specs.declared.value.Value.TheVariants.{Null, Text};
-ghost use Rattle.first_rows.specs.Numbers.{AreSeen, IsNumber, IsPairNumber, IsStep, Stay, text_number};
+ghost use Rattle.first_rows.specs.Numbers.{AreSeen, IsBehind, IsNumber, IsStep, Stay, text_number};
 ghost use Rattle.first_rows.specs.RowKeys.{key_of};
 ghost use Rattle.coded_keys.specs.Numbers.{value_in};
 
@@ -14,7 +14,7 @@ use scan_base::ValueRef;
 use std::alloc::{AllocError, Global};
 
 /// Texts, the place of each is its number; and pairs of the number of earlier texts of a key, and that of one text more. The
-/// place of a pair, and 1, is the number of them all. No texts have the number 0.
+/// place of a pair, and 1, is the number of them all. That of one text alone is its own, and 1. No texts have the number 0.
 #[derive(Drop)]
 pub(crate) struct TextNumbers<'t> {
     pub(crate) texts: IndexSet<&'t str, HashSeed>,
@@ -64,8 +64,11 @@ impl<'t> TextNumbers<'t> {
     // The number of the texts of a number and of one text behind them.
     fn with(&mut self, before: u32, text: u32) -> Result<u32, AllocError>
         ensures stay { Stay self.old self.new }
-        ensures is { IfOk result (IsPairNumber (self.new).pairs.keys before text) }
+        ensures is { IfOk result (IsBehind (self.new).pairs.keys before text) }
     {
+        if before == 0 {
+            return next(text as usize);
+        }
         match self.pairs.insert_full((before, text)) {
             Ok((place, _)) => next(place),
             Err(_) => Err(AllocError),

@@ -1,31 +1,30 @@
 use Rattle.std.proofs.Common.{ap}
-use Rattle.first_rows.specs.declared.numbered.NumberedKey.{NumberedKey}
-use Rattle.first_rows.specs.Firsts.{FirstRowsAt}
-use Rattle.first_rows.proofs.Same.{all_stay, put_all, put_inserts, put_places}
+use Rattle.first_rows.specs.Firsts.{AreNumbered, FirstRowsAt, IsNumbered}
+use Rattle.first_rows.proofs.Same.{all_stay, numbered_of, put_all, put_inserts, put_places}
 use Rattle.first_rows.proofs.firsts.FirstRows.insert_seen.Goals as goal
+use Rattle.first_rows.proofs.firsts.FirstRows.insert_seen.Goals.{After-put}
 
 pub invariant_of-self : goal.invariant_of-self
 invariant_of-self c =
     all_stay c.self.inside.are_numbered c.self.inside.numbers c.number.new.numbers c.self.inside.rows.keys c.number.ensures.stay c.self.invariant
 
+-- the keys before keep their numbers
+all : (c : After-put) → AreNumbered c.self.inside.are_numbered c.number.new.numbers c.self.inside.rows.keys
+all c = all_stay c.self.inside.are_numbered c.self.inside.numbers c.number.new.numbers c.self.inside.rows.keys c.number.ensures.stay c.self.invariant
+
+-- and the new one has its own
+one : (c : After-put) → IsNumbered c.self.inside.are_numbered c.number.new.numbers c.new-key.result
+one c = numbered_of c.self.inside.are_numbered c.number.new.numbers c.new-key.result c.args.first c.in_ok-texts.texts c.new-key.ensures.first c.new-key.ensures.texts c.in_ok-texts.ensures.is
+
 pub invariant_of-self-2 : goal.invariant_of-self-2
-invariant_of-self-2 c =
-    let inside = c.self.inside in
-    let stay = all_stay inside.are_numbered inside.numbers c.number.new.numbers inside.rows.keys c.number.ensures.stay c.self.invariant in
-    put_all inside.are_numbered c.number.new.numbers inside.rows.keys _ c.put.result _ stay c.in_ok-texts.ensures.is c.put.ensures
+invariant_of-self-2 c = put_all c.self.inside.are_numbered c.number.new.numbers c.self.inside.rows.keys c.new-key.result c.put.result _ (all c) (one c) c.put.ensures
 
 pub returns-clause-inserted : goal.returns-clause-inserted
 returns-clause-inserted c =
-    let inside = c.self.inside in
-    let stay = all_stay inside.are_numbered inside.numbers c.number.new.numbers inside.rows.keys c.number.ensures.stay c.self.invariant in
-    let key : NumberedKey = record { first = c.args.first; texts = c.in_ok-texts.texts } in
-    put_inserts inside.are_numbered c.number.new.numbers inside.rows.keys key c.put.result _ _ stay c.in_ok-texts.ensures.is
-    (ap (λ (firsts : FirstRowsAt). firsts.keys) c.self.view_is) c.put.ensures
+    put_inserts c.self.inside.are_numbered c.number.new.numbers c.self.inside.rows.keys c.new-key.result _ c.args.first c.put.result _ (all c) (one c)
+    (ap (λ (firsts : FirstRowsAt). firsts.keys) c.self.view_is) c.new-key.ensures.first c.put.ensures
 
 pub returns-clause-place : goal.returns-clause-place
 returns-clause-place c =
-    let inside = c.self.inside in
-    let stay = all_stay inside.are_numbered inside.numbers c.number.new.numbers inside.rows.keys c.number.ensures.stay c.self.invariant in
-    let key : NumberedKey = record { first = c.args.first; texts = c.in_ok-texts.texts } in
-    put_places inside.are_numbered c.number.new.numbers inside.rows.keys key c.put.result _ _ stay c.in_ok-texts.ensures.is
-    (ap (λ (firsts : FirstRowsAt). firsts.keys) c.self.view_is) c.put.ensures
+    put_places c.self.inside.are_numbered c.number.new.numbers c.self.inside.rows.keys c.new-key.result _ c.args.first c.put.result _ (all c) (one c)
+    (ap (λ (firsts : FirstRowsAt). firsts.keys) c.self.view_is) c.new-key.ensures.first c.put.ensures

@@ -4,7 +4,7 @@ use Rattle.first_rows.proofs.Coded.{part_blank, part_same, part_whole}
 use Rattle.first_rows.proofs.numbered.NumberedKey.part.Goals as goal
 
 pub returns-then-self-eq0 : goal.returns-then-self-eq0
-returns-then-self-eq0 c = part_whole c.args.self.now c.args.place _ c.requires c.cell-value.ensures c.if-self-eq0.true
+returns-then-self-eq0 c = part_whole c.args.self.now c.args.place _ c.requires c.cell_at-value.ensures c.if-self-eq0.true
 
 pub returns-in-Text : goal.returns-in-Text
 returns-in-Text c = part_blank c.args.self.now c.args.place _ c.requires c.in-Text.ensures c.if-self-eq0.false
@@ -17,4 +17,4 @@ returns-in-Bool c = part_blank c.args.self.now c.args.place _ c.requires c.in-Bo
 
 pub returns-in-Int : goal.returns-in-Int
 returns-in-Int c =
-    part_same c.args.self.now c.args.place (value_of c.cell-value.result) c.requires c.cell-value.ensures (rw c.in-Int.is refl) c.if-self-eq0.false
+    part_same c.args.self.now c.args.place (value_of c.cell_at-value.result) c.requires c.cell_at-value.ensures (rw c.in-Int.is refl) c.if-self-eq0.false
