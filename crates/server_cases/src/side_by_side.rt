@@ -67,8 +67,9 @@ fn wait_for<R: Clock>(rt: &R, gate: Gate<'_>) {
 
 impl<R: Clock> Input for Gated<'_, R> {
     ghost use Rattle.std.specs.Prelude.{Some, length};
+    ghost use Rattle.grpc_frame.specs.Ends.{tape_of};
 
-    ghost remaining = { λ g. Some g.input.bytes };
+    ghost tape = { λ g. tape_of g.input.given (Some g.input.bytes) };
 
     ghost failures = { λ g. g.input.failures };
 
