@@ -30,8 +30,8 @@ use std::thread::Threads;
 /// they are, and fetches the streams of the endpoints over it and over further ones, a run of them each, one run behind the other.
 /// Each batch is written behind dictionaries of its own texts, whatever dictionaries came.
 ///
-/// While a run is passed on, the next connection is made, and its first stream is begun, in a thread of its own. What comes ahead of
-/// that stream waits in the buffers of the ends: the server stops where they are full. So memory holds one payload at a time, and
+/// While a run is passed on, the next connection is made, and its first stream is begun, in a thread of its own. What comes of it behind
+/// its schema waits in the system's buffers: the server stops where they are full. So memory holds one payload at a time, and
 /// dictionaries. A connection is closed behind the last stream of its run, before the next one is waited for.
 ///
 /// # Errors
@@ -39,7 +39,8 @@ use std::thread::Threads;
 /// The first failure, in the order of the endpoints. Where something was written, the stream breaks off in the middle of a message
 /// behind some of the rows, so that no reader takes it for whole. Where a write failed, a beginning of the stream was written, which
 /// may end behind a message.
-/// - `Lost::Failed`, as `ask_places`, `begin_first` and `pass_run` give it.
+/// - `Lost::Failed`, as `ask_places`, `begin_first`, `pass_run` and `begin_at_last` give it. It comes once the connection that is
+///   made ahead is there, or refused.
 /// - `Lost::Unconnected` where the streams of all endpoints before those of a further connection were passed on, and the network
 ///   was asked twice for that one and gave none.
 pub(crate) fn stream_rows<T: Threads, C: Connect + Drop + Send, O: Output>(

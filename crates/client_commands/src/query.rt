@@ -31,7 +31,7 @@ use std::thread::Threads;
 pub struct Querying<'a> {
     /// The server's port.
     pub port: u16,
-    /// The most connections at a time.
+    /// The most connections over which its rows are fetched.
     pub streams: u32,
     /// The query's text.
     pub sql: &'a str,

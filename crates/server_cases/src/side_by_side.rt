@@ -23,20 +23,15 @@ use std::{io, thread};
 pub(crate) const INFO: &[u8] =
     b"\x02\x00\x00\x00\x00\x0e\x1a\x05\x0a\x03\x0a\x01A\x1a\x05\x0a\x03\x0a\x01B\x04\x00\x00\x00";
 
-// Which reads of a connection wait, and for what: those behind so many, until a counter is above a number.
-#[derive(Clone, Copy)]
-struct Gate<'a> {
-    counter: &'a AtomicU64,
-    above: u64,
-    free: u32,
-}
-
-// An input of which some reads wait, for 10,000 turns at most. It counts that it was closed.
+// An input of which the reads behind so many free ones wait until a counter is above a number, for 10,000 turns at most. It counts
+// that it was closed.
 struct Gated<'a, R> {
     rt: &'a R,
     input: MemoryInput<'a>,
     closed: &'a AtomicU64,
-    gate: Gate<'a>,
+    counter: &'a AtomicU64,
+    above: u64,
+    free: u32,
 }
 
 impl<R> Drop for Gated<'_, R> {
@@ -45,24 +40,26 @@ impl<R> Drop for Gated<'_, R> {
             rt: _,
             input: _,
             closed,
-            gate: _,
+            counter: _,
+            above: _,
+            free: _,
         } = self;
         closed.fetch_add(1, Ordering::SeqCst);
     }
 }
 
-// What is added to a counter where it was not above the number in time.
+// What is added to a counter that was not above the number in time.
 const LATE: u64 = 1_000;
 
-// Waits until the counter is above the number, or for 10,000 turns.
-fn wait_for<R: Clock>(rt: &R, gate: Gate<'_>) {
+// Waits until a counter is above a number, or for 10,000 turns.
+fn wait_for<R: Clock>(rt: &R, counter: &AtomicU64, above: u64) {
     for _ in 0..10_000 {
-        if gate.counter.load(Ordering::SeqCst) > gate.above {
+        if counter.load(Ordering::SeqCst) > above {
             return;
         }
         thread::sleep(rt, Duration::from_millis(1));
     }
-    gate.counter.fetch_add(LATE, Ordering::SeqCst);
+    counter.fetch_add(LATE, Ordering::SeqCst);
 }
 
 impl<R: Clock> Input for Gated<'_, R> {
@@ -76,9 +73,9 @@ impl<R: Clock> Input for Gated<'_, R> {
     ghost turns = { λ g. length g.input.bytes };
 
     fn read(&mut self, piece: &mut [u8]) -> Result<usize, Fault> {
-        match self.gate.free.checked_sub(1) {
-            Some(free) => self.gate.free = free,
-            None => wait_for(self.rt, self.gate),
+        match self.free.checked_sub(1) {
+            Some(free) => self.free = free,
+            None => wait_for(self.rt, self.counter, self.above),
         }
         self.input.read(piece)
     }
@@ -88,7 +85,8 @@ impl<R: Clock> Input for Gated<'_, R> {
     }
 }
 
-// A network of two connections. Some reads of the first one wait.
+// A network of two connections. The reads of the first one behind the info wait until the second one is closed. Or, where that is begun
+// ahead, those behind the schema of the first stream, which has come with the first 13 pieces, wait until it is made.
 #[derive(Drop)]
 struct Two<'a, R> {
     rt: &'a R,
@@ -97,7 +95,7 @@ struct Two<'a, R> {
     second: &'a [u8],
     closed: &'a AtomicU64,
     made: &'a AtomicU64,
-    gate: Gate<'a>,
+    ahead: bool,
 }
 
 impl<'a, R: Clock> Connect for Two<'a, R> {
@@ -117,22 +115,27 @@ impl<'a, R: Clock> Connect for Two<'a, R> {
             second: self.second,
             closed: self.closed,
             made: self.made,
-            gate: self.gate,
+            ahead: self.ahead,
         }
     }
 
     fn connect(&mut self, _port: u16) -> io::Result<(Gated<'a, R>, MemoryOutput)> {
-        let (bytes, free) = match self.made.fetch_add(1, Ordering::SeqCst) {
-            0 => (self.first, self.gate.free),
-            1 => (self.second, u32::MAX),
+        let place = self.made.fetch_add(1, Ordering::SeqCst);
+        let (bytes, free) = match (place, self.ahead) {
+            (0, false) => (self.first, 1),
+            (0, true) => (self.first, 14),
+            (1, _) => (self.second, u32::MAX),
             _ => return Err(io::Error::from(ErrorKind::NotConnected)),
         };
+        let counter = if self.ahead { self.made } else { self.closed };
         let input = MemoryInput::new(bytes).in_pieces_of(INFO.len().max(1));
         let gated = Gated {
             rt: self.rt,
             input,
             closed: self.closed,
-            gate: Gate { free, ..self.gate },
+            counter,
+            above: u64::from(self.ahead),
+            free,
         };
         Ok((gated, MemoryOutput::new(self.alloc)))
     }
@@ -197,7 +200,6 @@ where
     let second = with_stream(alloc, b"", b"vwxyz")?;
     let closed = AtomicU64::new(0);
     let made = AtomicU64::new(0);
-    let gate = gate_of(format, &closed, &made);
     let mut network = Two {
         rt,
         alloc,
@@ -205,29 +207,12 @@ where
         second: &second,
         closed: &closed,
         made: &made,
-        gate,
+        ahead: format == Format::Arrow,
     };
     let mut told = told_query(rt, alloc, &mut network, format)?;
     let (made, closed) = (made.load(Ordering::SeqCst), closed.load(Ordering::SeqCst));
     write!(told, " {made} {closed}")?;
     Ok(told)
-}
-
-// The reads behind the info wait for the second connection to be closed. In the format `arrow` those behind the schema of the first
-// stream, which has come with the first 13 pieces, wait for it to be made.
-fn gate_of<'a>(format: Format, closed: &'a AtomicU64, made: &'a AtomicU64) -> Gate<'a> {
-    match format {
-        Format::Arrow => Gate {
-            counter: made,
-            above: 1,
-            free: 14,
-        },
-        _ => Gate {
-            counter: closed,
-            above: 0,
-            free: 1,
-        },
-    }
 }
 
 // The exit status of the query, and what was printed.
