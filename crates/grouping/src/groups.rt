@@ -9,6 +9,7 @@ ghost use Rattle.grouping.specs.Fed.{AreTyped, HasItems, IsAlike, IsNew, Feeds, 
 
 use crate::answers::Answers;
 use crate::kept::{Kept, add, blank, found_count, join};
+use crate::known::SPREAD;
 use crate::table::Chosen;
 use array_select::Selection;
 use arrays::Batch;
@@ -130,6 +131,7 @@ impl<'t> Groups<'t> {
             batch: &self.shape.batches[number],
             columns: self.shape.keys,
             rows: selection.places(),
+            spread: SPREAD,
         };
         match add(alloc, self.shape.items, &mut self.kept, &chosen) {
             Ok(()) => Ok(()),

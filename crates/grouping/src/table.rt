@@ -11,7 +11,9 @@ ghost use Rattle.grouping.specs.inside.Placing.{found_by, ArePlaced, FirstsStay}
 ghost use Rattle.first_rows.specs.RowKeys.{key_of, same_first};
 
 use crate::coded::groups_by_codes;
-use crate::known::{Known, index_count, know_nothing, known_group, push_known, short_group};
+use crate::known::{
+    Known, index_count, index_spread, know_nothing, known_group, push_known, short_group,
+};
 use arrays::{Batch, Layout};
 use arrow_schema::IntegerType;
 use first_rows::{FirstRows, RowKey};
@@ -21,13 +23,15 @@ use group_slots::{
 use std::alloc::{AllocError, Global};
 use std::marker::PhantomData;
 
-/// Rows of a batch, its number, and the columns whose values are their keys.
+/// Rows of a batch, its number, the columns whose values are their keys, and by which number keys are spread over the places of
+/// those that are known. No contract rests on that one.
 #[derive(Clone, Copy, Drop)]
 pub(crate) struct Chosen<'t, 'r> {
     pub(crate) number: usize,
     pub(crate) batch: &'t Batch,
     pub(crate) columns: &'t [usize],
     pub(crate) rows: &'r [u32],
+    pub(crate) spread: u64,
 }
 
 // The group of each of these rows, by the first rows of the groups. A row whose key is new opens a group behind all others.
@@ -156,6 +160,14 @@ fn groups_of_entries<'t>(
         &mut fresh,
         index_count(entries.dictionary.len(), chosen.rows.len()),
     )?;
+    let spread = index_spread(entries.dictionary.len(), fresh.len(), firsts.seed());
+    let chosen = &Chosen {
+        number: chosen.number,
+        batch: chosen.batch,
+        columns: chosen.columns,
+        rows: chosen.rows,
+        spread,
+    };
     let known = fresh.as_mut_slice();
     match entries.slots.kind {
         IntegerType::Int8 => groups_of_indices::<i8>(alloc, firsts, known, entries, chosen),
@@ -225,7 +237,7 @@ fn groups_by<'t, T: Tags>(
             columns: chosen.columns,
             row: chosen.rows[groups.len()],
         };
-        groups.push(known_group(firsts, known, tags, first)?)?;
+        groups.push(known_group(firsts, known, tags, first, chosen.spread)?)?;
         push_known(known, tags, chosen, &mut groups)?;
     }
     Ok(groups)
