@@ -3,10 +3,10 @@
 
     python3 bench/limits.py [--program PATH] [--rows N] [--keys K] [CASE..]
 
-A ticket at its limit may take a server hours, and a join days. So each case is run at a smaller size: tables have N rows
-(131,072), and places of a join K equal keys (60). It tells the processor time and the memory of one fetch, or of a put, and what
-they come to for each row, group, joined row or byte. The last two columns are the same at the limit, by that rate: they are
-worked out, and not measured. Of memory some megabytes are the same at each size, so at the limit it is less than they say.
+A ticket at its limit may take a server hours, and a join days. So each case is run at two smaller sizes: tables have N rows
+(131,072) and a quarter of them, and places of a join K equal keys (60) and half of them. What the larger one takes more, of the
+processor and of memory, is told for each row, group or joined row. The last two columns are what the limit comes to at that rate:
+they are worked out, and not measured.
 
 Each case is puts and one fetch through `flightscan pipe`. The program is run on the puts alone too, and what it takes and holds
 then is taken from what it takes and holds with the fetch. Of a put the program without an input is. Every answer has to end
@@ -33,7 +33,7 @@ from wire import call, query_handle, ticket  # noqa: E402
 
 MOST_ROWS, MOST_TEXT, MOST_KEYS = 16_777_216, 16_384, 1_000
 INT8, UINT8, INT32, INT64 = integer(8, True), integer(8, False), integer(32, True), integer(64, True)
-FEWER = 16  # so many times fewer rows has a put of which each is a batch
+FEWER, FEWEST = 16, 512  # so many times fewer rows has a put of which each is a batch, and a table of long texts
 PIECE = 65_536  # rows of a batch
 COLUMNS = 64
 
@@ -51,6 +51,7 @@ class Case:
     unit: str
     limit: int
     at: str
+    grows: bool = True  # whether memory grows with the units: a join drops a piece of joined rows that it does not keep
 
 
 # ---- tables
@@ -101,7 +102,8 @@ def filled(front, part, between):
 
 
 def cases(rows, keys):
-    small = min(rows, PIECE // 16)
+    """The cases, where tables have so many rows, and a join so many equal keys."""
+    singles, few = rows // FEWER, rows // FEWEST
     sums, columns = ", ".join(f"SUM(c{number})" for number in range(COLUMNS - 1)), ", ".join(f"c{number}" for number in range(COLUMNS - 1))
     joins = "".join(f" JOIN t AS {place} ON x.k = {place}.k" for place in "yzw")
     never = f"SELECT x.v FROM t AS x{joins} WHERE x.v < w.v"  # it names the first place and the last one, so it stands above all joins
@@ -110,13 +112,14 @@ def cases(rows, keys):
     return [
         Case("a ticket of comparisons joined by OR", table, ones, rows, rows, "row", MOST_ROWS, "16,777,216 rows"),
         Case("a ticket of INs of 256 numbers", table, filled("SELECT a FROM t WHERE ", members, " OR "), rows, rows, "row", MOST_ROWS, "16,777,216 rows"),
-        Case("a ticket of equalities of long texts", [long_texts(small)], filled("SELECT COUNT(*) FROM t WHERE ", "s=u", " AND "), small, small, "row",
+        Case("a ticket of equalities of long texts", [long_texts(few)], filled("SELECT COUNT(*) FROM t WHERE ", "s=u", " AND "), few, few, "row",
              MOST_ROWS, "16,777,216 rows"),
-        Case("four places of equal keys, of which no row is kept", [equal_keys(keys)], never, keys, keys**4, "joined row", MOST_KEYS**4, "1,000 keys"),
+        Case("four places of equal keys, of which no row is kept", [equal_keys(keys)], never, keys, keys**4, "joined row", MOST_KEYS**4, "1,000 keys",
+             False),
         Case("63 sums of a group for each row", [windows(rows)], f"SELECT {sums} FROM t GROUP BY k", rows, rows, "group", MOST_ROWS, "16,777,216 groups"),
         Case("groups by 63 columns and a number", [windows(rows)], f"SELECT COUNT(*) FROM t GROUP BY {columns}, k", rows, rows, "group", MOST_ROWS,
              "16,777,216 groups"),
-        Case("a put of batches of one row of 64 columns", [single_rows(rows // FEWER)], None, rows // FEWER, rows // FEWER, "row", MOST_ROWS, "16,777,216 rows"),
+        Case("a put of batches of one row of 64 columns", [single_rows(singles)], None, singles, singles, "row", MOST_ROWS, "16,777,216 rows"),
     ]
 
 
@@ -157,33 +160,41 @@ class Watch:
         return self.child.poll()
 
 
-def tried(command, case):
-    """A line on a case, and whether its answer is whole."""
+def cost(command, case):
+    """The processor seconds and the bytes that a case takes more than its puts, or a put more than none; and whether it is whole."""
     puts = b"".join(case.puts)
     fetch = b"" if case.query is None else call(b"DoGet", [ticket(query_handle(len(case.puts), 0, case.rows, case.query.encode()))])
     before, base, _ = run(command, puts if fetch else b"")
     seconds, held, ends = run(command, puts + fetch)
-    seconds, more, good = max(seconds - before, 0.0), max(held - base, 0), ends == STATUS_OK
-    times = case.limit / case.units
-    line = (f"| {case.name} | {'whole' if good else repr(ends)} | {len(puts) / 1e3:,.0f} | {case.units:,} | {seconds:.2f} | {more / 1e6:,.0f} "
-            f"| {1e9 * seconds / case.units:,.1f} ns a {case.unit} | {case.at} | {seconds * times / 3600:,.2f} h | {more * times / 1e9:,.1f} GB |")
-    return line, good
+    return seconds - before, held - base, ends == STATUS_OK
+
+
+def tried(command, case, smaller):
+    """A line on a case at two sizes, and whether its answers are whole."""
+    (seconds, held, good), (less, fewer, also) = cost(command, case), cost(command, smaller)
+    units = case.units - smaller.units
+    each, room = max(seconds - less, 0) / units, max(held - fewer, 0) / units
+    there = f"{room * case.limit / 1e9:,.1f} GB" if case.grows else "no more"
+    line = (f"| {case.name} | {'whole' if good and also else 'NOT WHOLE'} | {sum(map(len, case.puts)) / 1e3:,.0f} | {case.units:,} | {seconds:.2f} "
+            f"| {held / 1e6:,.0f} | {1e9 * each:,.1f} ns, {room:,.0f} bytes a {case.unit} | {case.at} | {each * case.limit / 3600:,.2f} h "
+            f"| {there} |")
+    return line, good and also
 
 
 def main():
     parser = argparse.ArgumentParser(description=__doc__, formatter_class=argparse.RawDescriptionHelpFormatter)
     parser.add_argument("--program", help="the built program (that of the repository)")
-    parser.add_argument("--rows", type=int, default=131_072, help="how many rows a table has, an even number")
+    parser.add_argument("--rows", type=int, default=131_072, help="how many rows a table has, a multiple of 4,096")
     parser.add_argument("--keys", type=int, default=60, help="how many equal keys a place of a join has")
     parser.add_argument("cases", nargs="*", metavar="CASE", help="words of the names of the cases that are tried (all)")
     words = parser.parse_args()
     command, measured, right = [program(words.program), "pipe"], Measured(words.program), True
     print("| | ends | KB put | units | processor seconds | MB more | for each | the limit | processor time there | memory there |")
     print("|---|---|---:|---:|---:|---:|---:|---|---:|---:|")
-    for case in cases(words.rows, words.keys):
+    for case, smaller in zip(cases(words.rows, words.keys), cases(words.rows // 4, words.keys // 2)):
         if words.cases and not any(word in case.name for word in words.cases):
             continue
-        line, good = tried(command, case)
+        line, good = tried(command, case, smaller)
         print(line, flush=True)
         right = right and good
     print(f"\n{measured.line()}")
