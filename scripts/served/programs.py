@@ -8,6 +8,8 @@ import socket
 import subprocess
 import threading
 import time
+from collections.abc import Iterator
+from contextlib import contextmanager
 from random import Random
 
 import framing
@@ -141,6 +143,22 @@ def crowd(run: Run) -> str:
     return more
 
 
+@case("16 clients with 16 streams each in Arrow, on 4 seats and 16 parts: all end within 20 seconds, with the same stream of all rows")
+def crowd_in_arrow(run: Run) -> str:
+    with run.serving("--parts", "16", "--seats", "4") as server:
+        same("put", printed("1000 rows"), put(run, server, "t", stream(A, [(row,) for row in range(1000)])))
+        words = [run.path, "query", "--port", str(server.port), "--format", "arrow", "--streams", "16", "SELECT a FROM t"]
+        alone = query(run, server, "SELECT a FROM t", "--format", "arrow")
+        same("each row", [[row] for row in range(1000)], rows_in(alone[1]))
+        began = time.perf_counter()
+        clients = [subprocess.Popen(words, stdout=subprocess.PIPE, stderr=subprocess.PIPE) for _ in range(16)]
+        given = [ended(client, began + 20) for client in clients]
+        more = f"the last one after {time.perf_counter() - began:.1f} s"
+        for number, one in enumerate(given):
+            same(f"client {number}, of which nothing is known where it did not end", alone, one)
+    return more
+
+
 def ended(client: subprocess.Popen[bytes], until: float) -> tuple[int, bytes, bytes] | None:
     """The exit status of a program, and what it printed on both outputs; or None, where it did not end until then."""
     try:
@@ -177,6 +195,60 @@ def copied_table(run: Run) -> None:
         _, data, _ = query(run, server, "SELECT a FROM many", "--format", "arrow")
         same("each row", [[row] for row in range(70_000)], rows_in(data))
         same("no stream", answered("F14 UnknownName"), query(run, server, "SELECT b FROM many", "--format", "arrow"))
+
+
+def hand_on(source: socket.socket, sink: socket.socket) -> None:
+    """Hands on what comes, up to its end, or until nobody takes it."""
+    try:
+        while data := source.recv(65_536):
+            sink.sendall(data)
+        sink.shutdown(socket.SHUT_WR)
+    except OSError:
+        pass
+
+
+@contextmanager
+def relayed(server: Server) -> Iterator[tuple[int, list[socket.socket]]]:
+    """A port whose connections are handed on to a server, and those that were made so far."""
+    made: list[socket.socket] = []
+
+    def relay(listener: socket.socket) -> None:
+        while True:
+            try:
+                near, _ = listener.accept()
+            except OSError:
+                return
+            far = socket.create_connection(("127.0.0.1", server.port))
+            made.append(near)
+            for pair in ((near, far), (far, near)):
+                threading.Thread(target=hand_on, args=pair, daemon=True).start()
+
+    with socket.create_server(("127.0.0.1", 0)) as listener:
+        threading.Thread(target=relay, args=(listener,), daemon=True).start()
+        yield listener.getsockname()[1], made
+        listener.shutdown(socket.SHUT_RDWR)
+
+
+@case("an Arrow stream over four connections: while nobody reads the rows of the first, the second is made, and no third")
+def begun_ahead(run: Run) -> str:
+    count = 400_000  # a run of 100,000 rows is longer than a pipe holds
+    with run.serving("--parts", "4", "--seats", "2") as server, relayed(server) as (port, made):
+        same("put", printed(f"{count} rows"), put(run, server, "t", stream(A, [(row,) for row in range(count)])))
+        words = [run.path, "query", "--port", str(port), "--format", "arrow", "--streams", "4", "SELECT a FROM t"]
+        began = time.perf_counter()
+        with subprocess.Popen(words, stdout=subprocess.PIPE, stderr=subprocess.PIPE) as client:
+            while len(made) < 2 and time.perf_counter() < began + 10:
+                time.sleep(0.01)
+            second = time.perf_counter() - began
+            time.sleep(0.5)
+            same("connections while nobody reads", 2, len(made))
+            out, said = client.communicate(timeout=SECONDS)
+        same("connections in all", 4, len(made))
+        same("its end", (0, END, b""), (client.returncode, out[-len(END) :], said))
+        same("each row", True, rows_in(out) == [[row] for row in range(count)])
+        alone = query(run, server, "SELECT a FROM t", "--format", "arrow")
+        same("the bytes over one connection", True, alone == (0, out, b""))
+    return f"the second one after {second:.2f} s"
 
 
 def coded(words: list[bytes], codes: bytes) -> bytes:

@@ -12,6 +12,7 @@ keys     three batches, each with a dictionary of its own: numbers near each oth
          types; texts that begin alike
 equal    300 rows of one key
 apart    64 numbers that differ in their upper bits alone, and as many texts that differ in their last letter alone
+parts    three batches of two dictionary columns: each batch has dictionaries of its own, in which a text stands under several codes
 
 Under a null of `each` and `keys` stands a value as any other, so a comparison that does not look for nulls is seen; but
 under some nulls of the dictionary column an index that leads nowhere.
@@ -425,6 +426,41 @@ APART = Table("apart", [Column("i", integer(8, False), list(range(32))),
                         Column("e", integer(64, False), [2 * TOP - 1 - row for row in range(32)]),
                         Column("s", UTF8, ["abcdefgh" + chr(64 + row) for row in range(32)])])
 
+
+# ---- parts: keys of several texts, whose dictionaries change from batch to batch
+
+PART_ROWS = [range(90), range(90, 150), range(150, 190)]
+PART_WORDS = ["", "a", "b", "ab", "abcdefgh", "abcdefghi", "abcdefghj", None]
+
+
+def parts_table():
+    """The dictionary of p has more codes than a table of numbers has places at first, and that of q few."""
+    batches = []
+    for number, rows in enumerate(PART_ROWS):
+        columns = [Column("i", integer(8, False), list(rows))]
+        for name, count in [("p", 80), ("q", 9)]:
+            entries = [PART_WORDS[drawn(f"entry {name} {number}", place, 8)] for place in range(count)]
+            slots = [drawn(f"part {name}", row, count) for row in rows]
+            nulls = [drawn(f"null {name}", row, 7) == 0 for row in rows]
+            columns.append(Column(name, UTF8, slots, nulls, entries))
+        for name, of, values in [("s", UTF8, ["a", "b", ""]), ("b", integer(8, True), [-1, 0, 7])]:
+            nulls = [drawn(f"null part {name}", row, 7) == 0 for row in rows]
+            columns.append(Column(name, of, [values[drawn(f"part {name}", row, 3)] for row in rows], nulls))
+        batches.append(columns)
+    return Table("parts", *batches)
+
+
+PARTS = parts_table()
+
+
+def of_parts():
+    for keys in ["p, q", "q, p", "p, b", "s, p", "q, s, p, b", "q, b, q", "s, b, q"]:
+        names = keys.split(", ")
+        cells = [[*(rows[0][name] for name in names), len(rows), number_of(rows, "p"), sum_of(rows, "i")]
+                 for rows in grouped(PARTS.rows, *names)]
+        yield f"rows SELECT {keys}, COUNT(*), COUNT(p), SUM(i) FROM parts GROUP BY {keys}", shown(cells)
+
+
 JOINS = ["a = a", "a = u", "u = a", "d = a", "a = d", "d = u", "b = a", "a = b", "u = b", "s = s", "s = c", "c = s", "c = c",
          "f = f AND a = u", "s = c AND f = f", "b = b AND c = c AND f = f"]
 
@@ -473,7 +509,7 @@ def of_keys():
         yield f"rows SELECT SUM(i) FROM apart GROUP BY {key}", "".join(f"{row},;" for row in range(32))
 
 
-TABLES = [EACH, RAMP, MARKS, WIDE, KEYS, EQUAL, APART]
+TABLES = [EACH, RAMP, MARKS, WIDE, KEYS, EQUAL, APART, PARTS]
 
 
 def puts():
@@ -486,3 +522,4 @@ def cases():
     yield from over_each()
     yield from over_wide()
     yield from of_keys()
+    yield from of_parts()

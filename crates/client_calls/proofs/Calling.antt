@@ -1,8 +1,8 @@
 -- A connection, and a call on it.
 use Rattle.std.proofs.Common.{◌≡◌, ◌≢◌, ℕ, ◌<◌, List, Option, Some, None, Result, Ok, Err, refl, sym, ap, subst, ◌∙◌, inl, inr}
-use Rattle.std.specs.Io.KnownBytes.{Consumes}
 use Rattle.scan_base.specs.declared.fault.Fault.{Fault}
 use Rattle.scan_base.specs.declared.fault.Fault.TheVariants.{MessageTooLarge, OutOfMemory, Transport}
+use Rattle.grpc_frame.specs.Ends.{Advances, Tape}
 use Rattle.grpc_frame.specs.Records.{Received, with_more}
 use Rattle.flight_info.specs.Payloads.{Payload}
 use Rattle.client_calls.specs.declared.call.Method.{Method}
@@ -16,30 +16,30 @@ use Rattle.client_calls.proofs.Ones.{AnswersMessage, reads, does_not_read, gives
 -- ---- one that is open
 
 -- no call stopped it
-pub is_none : (a : Option (List ℕ)) (x : ℕ) (stopped : Option Fault) (left : Received) (out : Outgoing) (line : Line)
+pub is_none : (a : Tape) (x : ℕ) (stopped : Option Fault) (left : Received) (out : Outgoing) (line : Line)
     → line_of a x stopped left out ≡ line → IsOpen line → stopped ≡ None
 is_none a x None left out line is is_open = refl
 is_none a x (Some fault) left out line is is_open =
     let e : stopped_at fault left ≡ Ok is_open.0 = ap (λ (l : Line). l.incoming.left) is ∙ is_open.1 in absurd cc
 
 -- how many of its reads and writes failed
-pub few_reads : (a : Option (List ℕ)) (x n : ℕ) (stopped : Option Fault) (left : Received) (out : Outgoing) (line : Line)
+pub few_reads : (a : Tape) (x n : ℕ) (stopped : Option Fault) (left : Received) (out : Outgoing) (line : Line)
     → line_of a x stopped left out ≡ line → line.incoming.failed < n → x < n
 few_reads a x n stopped left out line is few = subst (λ (l : Line). l.incoming.failed < n) (sym is) few
 
-pub few_writes : (a : Option (List ℕ)) (x n : ℕ) (stopped : Option Fault) (left : Received) (out : Outgoing) (line : Line)
+pub few_writes : (a : Tape) (x n : ℕ) (stopped : Option Fault) (left : Received) (out : Outgoing) (line : Line)
     → line_of a x stopped left out ≡ line → line.outgoing.failed < n → out.failed < n
 few_writes a x n stopped left out line is few = subst (λ (l : Line). l.outgoing.failed < n) (sym is) few
 
 -- ---- writing
 
-pub sent : (a : Option (List ℕ)) (x : ℕ) (stopped : Option Fault) (left : Received) (out out' : Outgoing) (line : Line) (method : Method) (messages : List Payload)
+pub sent : (a : Tape) (x : ℕ) (stopped : Option Fault) (left : Received) (out out' : Outgoing) (line : Line) (method : Method) (messages : List Payload)
     → line_of a x stopped left out ≡ line → WritesCall (Ok tt) method messages out out'
     → SendsCall (Ok tt) method messages line (line_of a x stopped left out')
 sent a x stopped left out out' line method messages is written =
     subst (λ (l : Line). SendsCall (Ok tt) method messages l (line_of a x stopped left out')) is (written, refl)
 
-module _ (a : Option (List ℕ)) (x : ℕ) (left : Received) (out out' : Outgoing) (method : Method) (messages : List Payload) (fault : Fault) where
+module _ (a : Tape) (x : ℕ) (left : Received) (out out' : Outgoing) (method : Method) (messages : List Payload) (fault : Fault) where
   -- a write failed, or nothing is done
   not_written : (next : Option Fault) → WritesCall (Err fault) method messages out out' → (fault ≡ Transport → next ≡ Some Transport) → (fault ≢ Transport → next ≡ None)
       → WhyNot fault method messages (line_of a x None left out) (line_of a x next left out')
@@ -62,10 +62,10 @@ module _ (a : Option (List ℕ)) (x : ℕ) (left : Received) (out out' : Outgoin
 
 -- ---- reading
 
-module _ (Answers : Incoming → Incoming → Received → Type 0) (a b : Option (List ℕ)) (x y : ℕ) (stopped : Option Fault) (old new : Received) (out : Outgoing) (line : Line)
+module _ (Answers : Incoming → Incoming → Received → Type 0) (a b : Tape) (x y : ℕ) (stopped : Option Fault) (old new : Received) (out : Outgoing) (line : Line)
     (is : line_of a x stopped old out ≡ line) (is_open : IsOpen line) where
   abbrev Came : Result Received Stop → Type 0
-  Came left = (came : List ℕ) × Consumes a b came × Answers (incoming_of a x (Ok old)) (incoming_of b y left) (with_more old came)
+  Came left = (came : List ℕ) × Advances a b came × Answers (incoming_of a x (Ok old)) (incoming_of b y left) (with_more old came)
 
   none : stopped ≡ None
   none = is_none a x stopped old out line is is_open
@@ -91,7 +91,7 @@ module _ {A : Type 0} (method : Method) (messages : List Payload) (Answers : Res
       (inl (record {
         written = subst (λ (o : Outgoing). IsWritten method messages old.outgoing o) (sym q.3) p.0;
         came = q.2.0;
-        consumed = subst (λ (i : Incoming). Consumes i.input new.incoming.input q.2.0) p.1 q.2.1;
+        consumed = subst (λ (i : Incoming). Advances i.input new.incoming.input q.2.0) p.1 q.2.1;
         answers = subst (λ (i : Incoming). Answers result i new.incoming (with_more q.0 q.2.0)) p.1 q.2.2;
       }))
     where

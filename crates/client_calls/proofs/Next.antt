@@ -1,7 +1,6 @@
 -- What is taken next of a stream.
 use Rattle.std.proofs.Common.{◌≡◌, ◌≤◌, ℕ, length, Bor, List, [], ◌∷◌, ◌++◌, Option, Some, None, Result, Ok, Err, refl, sym, ap, subst, ◌∙◌, append-nil, inl, inr}
 use Rattle.std.specs.Prelude.{IfOk, IfSome, option_map}
-use Rattle.std.specs.Io.KnownBytes.{Consumes}
 use Rattle.scan_base.specs.declared.fault.Fault.{Fault}
 use Rattle.scan_base.specs.declared.fault.Fault.TheVariants.{BadBatch}
 use Rattle.scan_base.specs.Limits.{most_columns}
@@ -9,6 +8,7 @@ use Rattle.arrow_schema.specs.declared.schema.Schema.{Schema}
 use Rattle.arrow_schema.specs.Schema.{IsSchema}
 use Rattle.arrays.specs.Batch.{BatchAt}
 use Rattle.arrays.specs.Typed.{AreOfTypes}
+use Rattle.grpc_frame.specs.Ends.{Advances, Tape}
 use Rattle.grpc_frame.specs.Records.{Received, with_more}
 use Rattle.grpc_frame.specs.declared.place.Place.TheVariants.{InAnswer}
 use Rattle.ipc_batch.specs.State.{Known, State}
@@ -36,9 +36,9 @@ use Rattle.client_calls.proofs.Streams.{stream_stops, stream_answers, stream_ref
 said_of_stream : (stream : StreamAt) (before : State) (payload : Payload) (found : Fault) → stream.state ≡ before → payload_news before payload ≡ Err found → after_payload stream payload ≡ Err found
 said_of_stream stream before payload found is e = rw (is, e) refl
 
-module _ (stream : StreamAt) (a b c : Option (List ℕ)) (x y z : ℕ) (old mid new : Received) (has : HasTaken stream a b old mid) (same : y ≡ x) (before after : State) (is : stream.state ≡ before) where
+module _ (stream : StreamAt) (a b c : Tape) (x y z : ℕ) (old mid new : Received) (has : HasTaken stream a b old mid) (same : y ≡ x) (before after : State) (is : stream.state ≡ before) where
   abbrev Now : Result (Result Took Failure) Fault → Type 0
-  Now result = (came : List ℕ) × Consumes b c came × TakesAs result before after (incoming_of b y (Ok mid)) (incoming_of c z (Ok new)) (with_more mid came) new
+  Now result = (came : List ℕ) × Advances b c came × TakesAs result before after (incoming_of b y (Ok mid)) (incoming_of c z (Ok new)) (with_more mid came) new
 
   abbrev payloads : List Payload
   payloads = has.0
@@ -100,7 +100,7 @@ keeps_unread before after same = rw same (keeps_same before)
 by_parts : (incoming : Incoming) (y : ℕ) (left : Received) → y ≡ incoming.failed → incoming.left ≡ Ok left → incoming_of incoming.input y (Ok left) ≡ incoming
 by_parts incoming y left same was = rw (same, ← was) refl
 
-module _ (ticket : Payload) (stream : StreamAt) (begun : Line) (b : Option (List ℕ)) (y : ℕ) (mid : Received) (out : Outgoing) (fetching : IsFetching ticket stream begun (line_of b y None mid out)) where
+module _ (ticket : Payload) (stream : StreamAt) (begun : Line) (b : Tape) (y : ℕ) (mid : Received) (out : Outgoing) (fetching : IsFetching ticket stream begun (line_of b y None mid out)) where
   abbrev t : IsTaken ticket fetching.0 begun (line_of b y None mid out)
   t = fetching.2
 
@@ -114,7 +114,7 @@ module _ (ticket : Payload) (stream : StreamAt) (begun : Line) (b : Option (List
       (fetching.0, subst (λ (left : Received). Taken begun.incoming.input b start left fetching.0) at t.taken, fetching.1)
 
   -- the next batch came
-  pub goes_on : (next : StreamAt) (c : Option (List ℕ)) (z : ℕ) (new : Received) → HasTaken next begun.incoming.input c start new × (z ≡ y) → IsFetching ticket next begun (line_of c z None new out)
+  pub goes_on : (next : StreamAt) (c : Tape) (z : ℕ) (new : Received) → HasTaken next begun.incoming.input c start new × (z ≡ y) → IsFetching ticket next begun (line_of c z None new out)
   goes_on next c z new (has, same) = (
     has.0,
     has.2,
@@ -130,7 +130,7 @@ module _ (ticket : Payload) (stream : StreamAt) (begun : Line) (b : Option (List
   )
 
   -- the answer came to its end, or it did not
-  pub gives : (result : Result (Result StreamAt Failure) Fault) (c : Option (List ℕ)) (z : ℕ) (new : Received) (stopped : Option Fault) → left_behind result new ≡ left_of stopped new
+  pub gives : (result : Result (Result StreamAt Failure) Fault) (c : Tape) (z : ℕ) (new : Received) (stopped : Option Fault) → left_behind result new ≡ left_of stopped new
       → EndsAs result begun.incoming.input c y z start new → FetchGives ticket (given result) begun (line_of c z stopped new out)
   gives result c z new stopped left (came, consumed, answers) =
       subst (λ (at : Result Received Stop). CallsAt at DoGet (ticket ∷ []) AnswersStream (given result) begun (line_of c z stopped new out)) (sym t.was)
@@ -146,19 +146,19 @@ module _ (ticket : Payload) (stream : StreamAt) (begun : Line) (b : Option (List
       from = by_parts begun.incoming y start t.quiet t.was
 
   -- what is taken next
-  pub next_gives : (taken : Result (Option BatchAt) Failure) (after : State) (c : Option (List ℕ)) (z : ℕ) (new : Received) → BatchOrEnd (Ok taken) stream after begun.incoming.input c y z start new
+  pub next_gives : (taken : Result (Option BatchAt) Failure) (after : State) (c : Tape) (z : ℕ) (new : Received) → BatchOrEnd (Ok taken) stream after begun.incoming.input c y z start new
       → TakesNext ticket stream begun taken after (line_of c z None new out)
   next_gives (Ok (Some batch)) after c z new is = goes_on (with_batch stream after (Some batch)) c z new is
   next_gives (Ok None) after c z new is = gives (Ok (Ok (ended (with_batch stream after None)))) c z new None refl is
   next_gives (Err failure) after c z new is = gives (Ok (Err failure)) c z new None refl is
 
-  pub next_stops : (fault : Fault) (c : Option (List ℕ)) (z : ℕ) (new : Received) → EndsAs (Err fault) begun.incoming.input c y z start new
+  pub next_stops : (fault : Fault) (c : Tape) (z : ℕ) (new : Received) → EndsAs (Err fault) begun.incoming.input c y z start new
       → FetchGives ticket (Err (Found fault)) begun (line_of c z (Some fault) new out)
   next_stops fault c z new is = gives (Err fault) c z new (Some fault) refl is
 
 -- ---- a fetch is begun
 
-module _ (ticket : Payload) (begun : Line) (b : Option (List ℕ)) (y : ℕ) (mid : Received) (out : Outgoing) (sends : SendsCall (Ok tt) DoGet (ticket ∷ []) begun (line_of b y None mid out)) (place : mid.place ≡ InAnswer) where
+module _ (ticket : Payload) (begun : Line) (b : Tape) (y : ℕ) (mid : Received) (out : Outgoing) (sends : SendsCall (Ok tt) DoGet (ticket ∷ []) begun (line_of b y None mid out)) (place : mid.place ≡ InAnswer) where
   -- nothing was taken yet
   abbrev none_taken : IsFetching ticket nothing begun (line_of b y None mid out)
   none_taken = (
@@ -178,7 +178,7 @@ module _ (ticket : Payload) (begun : Line) (b : Option (List ℕ)) (y : ℕ) (mi
   abbrev none_has : HasTaken nothing begun.incoming.input b mid mid
   none_has = has_taken ticket nothing begun b y mid out none_taken
 
-  module _ (c : Option (List ℕ)) (z : ℕ) (new : Received) (after : State) where
+  module _ (c : Tape) (z : ℕ) (new : Received) (after : State) where
     abbrev First : Result (Result Took Failure) Fault → Type 0
     First result = Now nothing begun.incoming.input b c y y z mid mid new none_has refl None after refl result
 

@@ -1,9 +1,9 @@
 -- An answer of one message.
-use Rattle.std.proofs.Common.{◌≡◌, ℕ, List, [], ◌∷◌, Option, Result, Ok, Err, refl, subst, inl, inr}
-use Rattle.std.specs.Io.KnownBytes.{Consumes}
+use Rattle.std.proofs.Common.{◌≡◌, ℕ, List, [], ◌∷◌, Result, Ok, Err, refl, subst, inl, inr}
 use Rattle.scan_base.specs.declared.fault.Fault.{Fault}
 use Rattle.scan_base.specs.declared.fault.Fault.TheVariants.{BadProto}
 use Rattle.grpc_frame.specs.declared.place.Place.TheVariants.{InAnswer}
+use Rattle.grpc_frame.specs.Ends.{Advances, Tape}
 use Rattle.grpc_frame.specs.Records.{Received, with_more}
 use Rattle.flight_info.specs.Payloads.{Payload}
 use Rattle.client_calls.specs.declared.answer.Arrival.{Arrival}
@@ -23,12 +23,12 @@ AnswersMessage result old new all = AnswersOne (λ (given : Result Payload Fault
 abbrev pub Read : Type 0
 Read = Result (Result Payload Failure) Fault
 
-module _ (a b : Option (List ℕ)) (x y : ℕ) (old mid : Received) (place : old.place ≡ InAnswer) where
+module _ (a b : Tape) (x y : ℕ) (old mid : Received) (place : old.place ≡ InAnswer) where
   abbrev First : Result Arrival Fault → Type 0
-  First result = (came : List ℕ) × Consumes a b came × ArrivesAs result (incoming_of a x (Ok old)) (incoming_of b y (Ok mid)) (with_more old came) mid
+  First result = (came : List ℕ) × Advances a b came × ArrivesAs result (incoming_of a x (Ok old)) (incoming_of b y (Ok mid)) (with_more old came) mid
 
   abbrev One : Read → Type 0
-  One result = (came : List ℕ) × Consumes a b came × AnswersMessage (given result) (incoming_of a x (Ok old)) (incoming_of b y (left_behind result mid)) (with_more old came)
+  One result = (came : List ℕ) × Advances a b came × AnswersMessage (given result) (incoming_of a x (Ok old)) (incoming_of b y (left_behind result mid)) (with_more old came)
 
   pub first_stops : (fault : Fault) → First (Err fault) → One (Err fault)
   first_stops fault q = let s = taken_stop a a b x x y old old mid [] (taken_none a old place) refl fault q in (s.0, s.1, inl (inl s.2))
@@ -46,13 +46,13 @@ module _ (a b : Option (List ℕ)) (x y : ℕ) (old mid : Received) (place : old
   pub first_quiet : (message : Payload) → First (Ok (arrival.Message message)) → y ≡ x
   first_quiet message q = more_quiet a a b x x y old old mid [] (taken_none a old place) refl message q
 
-module _ (a b c : Option (List ℕ)) (x y z : ℕ) (old mid new : Received) (place : old.place ≡ InAnswer) (message : Payload)
-    (p : (came : List ℕ) × Consumes a b came × ArrivesAs (Ok (arrival.Message message)) (incoming_of a x (Ok old)) (incoming_of b y (Ok mid)) (with_more old came) mid) where
+module _ (a b c : Tape) (x y z : ℕ) (old mid new : Received) (place : old.place ≡ InAnswer) (message : Payload)
+    (p : (came : List ℕ) × Advances a b came × ArrivesAs (Ok (arrival.Message message)) (incoming_of a x (Ok old)) (incoming_of b y (Ok mid)) (with_more old came) mid) where
   abbrev Second : Result Arrival Fault → Type 0
-  Second result = (came : List ℕ) × Consumes b c came × ArrivesAs result (incoming_of b y (Ok mid)) (incoming_of c z (Ok new)) (with_more mid came) new
+  Second result = (came : List ℕ) × Advances b c came × ArrivesAs result (incoming_of b y (Ok mid)) (incoming_of c z (Ok new)) (with_more mid came) new
 
   abbrev Both : Read → Type 0
-  Both result = (came : List ℕ) × Consumes a c came × AnswersMessage (given result) (incoming_of a x (Ok old)) (incoming_of c z (left_behind result new)) (with_more old came)
+  Both result = (came : List ℕ) × Advances a c came × AnswersMessage (given result) (incoming_of a x (Ok old)) (incoming_of c z (left_behind result new)) (with_more old came)
 
   taken : Taken a b old mid (message ∷ [])
   taken = first_taken a b x y old mid place message p

@@ -1,5 +1,5 @@
 -- A put that is sent message by message.
-use Rattle.std.proofs.Common.{◌≡◌, ◌⊎◌, ℕ, ◌+◌, ◌<◌, ◌≤◌, List, [], ◌∷◌, ◌++◌, length, get_or, Option, Some, None, Ok, Err, inl, inr, arith, refl, sym, ap, subst, ◌∙◌, append_assoc, append-nil}
+use Rattle.std.proofs.Common.{◌≡◌, ◌⊎◌, ℕ, ◌+◌, ◌<◌, ◌≤◌, List, [], ◌∷◌, ◌++◌, length, Option, Some, None, Ok, Err, inl, inr, arith, refl, sym, ap, subst, ◌∙◌, append_assoc, append-nil}
 use Rattle.std.specs.Prelude.{Result}
 use Rattle.std.specs.Io.KnownBytes.{Appends}
 use Rattle.std.proofs.KnownBytes.{Appends-nil}
@@ -9,17 +9,17 @@ use Rattle.scan_base.specs.declared.fault.Fault.{Fault}
 use Rattle.scan_base.specs.declared.fault.Fault.TheVariants.{MessageTooLarge, OutOfMemory, Transport}
 use Rattle.scan_base.specs.Limits.{most_message_bytes}
 use Rattle.grpc_frame.specs.declared.record.Record.TheVariants.{Open, Message, End}
-use Rattle.grpc_frame.specs.Ends.{AppendsBeginning, CountsFailure, FailsByTransport, Writes}
+use Rattle.grpc_frame.specs.Ends.{AppendsBeginning, Tape, Writes}
 use Rattle.grpc_frame.specs.Records.{Received, spelling}
-use Rattle.grpc_frame.specs.Sending.{Sent, NotSent, Sends}
+use Rattle.grpc_frame.specs.Sending.{Sent, NotSent}
 use Rattle.grpc_frame.proofs.Sending.{begun_alone, both_sent, second_not_sent, flushed}
 use Rattle.flight_info.specs.Payloads.{Payload}
 use Rattle.client_calls.specs.declared.call.Method.TheVariants.{DoPut}
 use Rattle.client_calls.specs.declared.failure.Failure.TheVariants.{Found}
 use Rattle.client_calls.specs.Answers.{Incoming, Stop, stopped_at}
-use Rattle.client_calls.specs.Calls.{path_of, call_bytes, Fit}
+use Rattle.client_calls.specs.Calls.{path_of, Fit}
 use Rattle.client_calls.specs.Outcome.{Line, Outgoing, left_of, stopped_by}
-use Rattle.client_calls.specs.Sending.{FailsPut, IsCutShort, IsPutting, PutAt, put_at, unended_bytes}
+use Rattle.client_calls.specs.Sending.{FailsPut, IsPutting, PutAt, put_at, unended_bytes}
 use Rattle.client_calls.specs.inside.Parts.{HasStopped, IsOpen, IsUnmade, SendsCall, SendsPart, StopsAt, incoming_of, line_of, outgoing_of}
 use Rattle.client_calls.proofs.Calling.{is_none}
 use Rattle.client_calls.proofs.Sending.{bytes_more, end_last}
@@ -33,7 +33,7 @@ end_written r a b c d mid last bytes sent more wrote = flushed r a c d [] last (
 pub end_not_sent : (a b c : Option (List ℕ)) (mid after bytes : List ℕ) → Sent a b [] mid bytes → NotSent b c mid after (spelling End) → AppendsBeginning a c (bytes ++ spelling End)
 end_not_sent a b c mid after bytes sent failed = begun_alone a c [] after (bytes ++ spelling End) refl (second_not_sent a b c [] mid after bytes (spelling End) sent failed)
 
-module _ (a : Option (List ℕ)) (x : ℕ) (left : Received) (b c : Option (List ℕ)) (y z : ℕ) (bytes before after : List ℕ) (line : Line) where
+module _ (a : Tape) (x : ℕ) (left : Received) (b c : Option (List ℕ)) (y z : ℕ) (bytes before after : List ℕ) (line : Line) where
   pub part_sent : (stopped : Option Fault) → line_of a x stopped left (outgoing_of b y) ≡ line → Sent b c before after bytes → z ≡ y
       → SendsPart (Ok tt) bytes line (line_of a x stopped left (outgoing_of c z)) before after
   part_sent stopped is sent same =
@@ -47,7 +47,7 @@ module _ (a : Option (List ℕ)) (x : ℕ) (left : Received) (b c : Option (List
       (kind, failed, counted, ap (λ (f : Fault). incoming_of a x (stopped_at f left)) kind)
 
 -- a connection was stopped
-pub has_stopped : (a : Option (List ℕ)) (x : ℕ) (stopped : Option Fault) (left : Received) (out : Outgoing) (line : Line) (fault : Fault)
+pub has_stopped : (a : Tape) (x : ℕ) (stopped : Option Fault) (left : Received) (out : Outgoing) (line : Line) (fault : Fault)
     → line_of a x stopped left out ≡ line → IsOpen line → StopsAt fault line (line_of a x (Some fault) left out)
 has_stopped a x stopped left out line fault is is_open =
     subst (λ (l : Line). StopsAt fault l (line_of a x (Some fault) left out))
@@ -204,12 +204,12 @@ stopped_first old messages fault (at, is) = (
 
 -- ---- its end
 
-pub start : (messages : List Payload) (begun : Line) (a : Option (List ℕ)) (x : ℕ) (left : Received) (b : Option (List ℕ)) (y : ℕ) (before : List ℕ) (line : Line) (stopped : Option Fault)
+pub start : (messages : List Payload) (begun : Line) (a : Tape) (x : ℕ) (left : Received) (b : Option (List ℕ)) (y : ℕ) (before : List ℕ) (line : Line) (stopped : Option Fault)
     → IsPutting messages begun (put_at line before) → line_of a x stopped left (outgoing_of b y) ≡ line → Sent begun.outgoing.output b [] before (unended_bytes messages)
 start messages begun a x left b y before line stopped putting is =
     subst (λ (l : Line). Sent begun.outgoing.output l.outgoing.output [] before (unended_bytes messages)) (sym is) putting.sent
 
-module _ (messages : List Payload) (begun : Line) (a : Option (List ℕ)) (x : ℕ) (left : Received) (b c : Option (List ℕ)) (y z : ℕ) (before : List ℕ) (line : Line)
+module _ (messages : List Payload) (begun : Line) (a : Tape) (x : ℕ) (left : Received) (b c : Option (List ℕ)) (y z : ℕ) (before : List ℕ) (line : Line)
     (putting : IsPutting messages begun (put_at line before)) (stopped : Option Fault) (is : line_of a x stopped left (outgoing_of b y) ≡ line) where
   pub ended : Writes {A = Unit {0}} {E = Fault} (Ok tt) begun.outgoing.output c (unended_bytes messages ++ spelling End) → z ≡ y
       → SendsCall (Ok tt) DoPut messages begun (line_of a x stopped left (outgoing_of c z))

@@ -1,9 +1,9 @@
 -- The stream of an answer.
-use Rattle.std.proofs.Common.{◌≡◌, ◌≢◌, ℕ, List, [], ◌∷◌, ◌++◌, Option, Some, Result, Ok, Err, refl, ap, inl, inr}
-use Rattle.std.specs.Io.KnownBytes.{Consumes}
+use Rattle.std.proofs.Common.{◌≡◌, ◌≢◌, ℕ, List, [], ◌∷◌, ◌++◌, Some, Result, Ok, Err, refl, ap, inl, inr}
 use Rattle.scan_base.specs.declared.fault.Fault.{Fault}
 use Rattle.scan_base.specs.declared.fault.Fault.TheVariants.{OutOfMemory}
 use Rattle.scan_base.specs.Reading.{RefusesFirst}
+use Rattle.grpc_frame.specs.Ends.{Advances, Tape}
 use Rattle.grpc_frame.specs.Records.{Received, with_more}
 use Rattle.flight_info.specs.Payloads.{Payload}
 use Rattle.flight_client.specs.Stream.{StreamAt, after_payload, glance_of, Came, Ends}
@@ -16,12 +16,12 @@ use Rattle.client_calls.specs.inside.Arriving.{ArrivesAs}
 use Rattle.client_calls.specs.inside.Parts.{incoming_of, left_behind, given}
 use Rattle.client_calls.proofs.Taking.{Taken, taken_more, more_quiet, taken_stop, answered, finished}
 
-module _ (a b c : Option (List ℕ)) (x y z : ℕ) (old mid new : Received) (payloads : List Payload) (p : Taken a b old mid payloads) (same : y ≡ x) (stream : StreamAt) (came : Came payloads stream) where
+module _ (a b c : Tape) (x y z : ℕ) (old mid new : Received) (payloads : List Payload) (p : Taken a b old mid payloads) (same : y ≡ x) (stream : StreamAt) (came : Came payloads stream) where
   abbrev Since : Result Arrival Fault → Type 0
-  Since result = (more : List ℕ) × Consumes b c more × ArrivesAs result (incoming_of b y (Ok mid)) (incoming_of c z (Ok new)) (with_more mid more) new
+  Since result = (more : List ℕ) × Advances b c more × ArrivesAs result (incoming_of b y (Ok mid)) (incoming_of c z (Ok new)) (with_more mid more) new
 
   abbrev Gives : Result (Result StreamAt Failure) Fault → Type 0
-  Gives result = (more : List ℕ) × Consumes a c more × AnswersStream (given result) (incoming_of a x (Ok old)) (incoming_of c z (left_behind result new)) (with_more old more)
+  Gives result = (more : List ℕ) × Advances a c more × AnswersStream (given result) (incoming_of a x (Ok old)) (incoming_of c z (left_behind result new)) (with_more old more)
 
   pub stream_stops : (fault : Fault) → Since (Err fault) → Gives (Err fault)
   stream_stops fault q = let s = taken_stop a b c x y z old mid new payloads p same fault q in (s.0, s.1, inl (payloads, stream, came, s.2))

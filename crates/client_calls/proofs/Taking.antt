@@ -1,8 +1,7 @@
 -- Records taken one after another from an answer.
 use Rattle.std.proofs.Common.{◌≡◌, ◌≢◌, ℕ, List, [], ◌∷◌, ◌++◌, map, Option, Some, None, Result, Ok, Err, refl, sym, ap, subst, ◌∙◌, append_assoc, append-nil, inl, inr}
 use Rattle.std.specs.List.{flat_map}
-use Rattle.std.specs.Io.KnownBytes.{Consumes, IsAtEnd}
-use Rattle.std.proofs.KnownBytes.{Consumes-nil, Consumes-trans}
+use Rattle.std.specs.Io.KnownBytes.{IsAtEnd}
 use Rattle.std.proofs.lemmas.Grind.{flat_map-append}
 use Rattle.std.proofs.lemmas.List.{map-append}
 use Rattle.std.proofs.lemmas.List.Elements.{All-append, All-cons, All-nil}
@@ -12,8 +11,10 @@ use Rattle.grpc_frame.specs.declared.place.Place.{Place}
 use Rattle.grpc_frame.specs.declared.place.Place.TheVariants.{InAnswer}
 use Rattle.grpc_frame.specs.declared.record.Record.{Record}
 use Rattle.grpc_frame.specs.declared.record.Record.TheVariants.{Open, Message, End, Status}
+use Rattle.grpc_frame.specs.Ends.{Advances, Tape}
 use Rattle.grpc_frame.specs.Records.{spelling, IsRecord, place_after, Received, with_more, Leads, Breaks, Flaw, fault_of, wrong_kind, long_path, wrong_flag, long_message, bad_text}
 use Rattle.grpc_frame.specs.Arrivals.{Arrives, IsReason, CountsTransport}
+use Rattle.grpc_frame.proofs.Tapes.{Advances-nil, Advances-trans}
 use Rattle.flight_info.specs.Payloads.{Payload}
 use Rattle.flight_client.specs.Status.{StatusSays}
 use Rattle.client_calls.specs.declared.answer.Arrival.{Arrival}
@@ -83,12 +84,12 @@ place_stays (Ok (Some found)) old new came place leads = still found old.place n
 place_stays (Ok None) old new came place q = ap (λ (r : Received). r.place) q.0 ∙ place
 place_stays (Err fault) old new came place q = ap (λ (r : Received). r.place) q.0 ∙ place
 
-module _ (a b : Option (List ℕ)) (failed failed' : ℕ) (old new : Received) (place : old.place ≡ InAnswer) where
+module _ (a b : Tape) (failed failed' : ℕ) (old new : Received) (place : old.place ≡ InAnswer) where
   abbrev Next : Result (Option Record) Fault → Type 0
-  Next result = (came : List ℕ) × Consumes a b came × Arrives result old new came
+  Next result = (came : List ℕ) × Advances a b came × Arrives result old new came
 
   abbrev Gave : Result Arrival Fault → Type 0
-  Gave result = (came : List ℕ) × Consumes a b came × ArrivesAs result (incoming_of a failed (Ok old)) (incoming_of b failed' (Ok new)) (with_more old came) new
+  Gave result = (came : List ℕ) × Advances a b came × ArrivesAs result (incoming_of a failed (Ok old)) (incoming_of b failed' (Ok new)) (with_more old came) new
 
   pub next_place : (result : Result (Option Record) Fault) → Next result → new.place ≡ InAnswer
   next_place result q = place_stays result old new q.0 place q.2
@@ -105,7 +106,7 @@ module _ (a b : Option (List ℕ)) (failed failed' : ℕ) (old new : Received) (
   pub next_end : Next (Ok (Some End)) → ⊥
   next_end q = let moves = rw place at q.2.moves in absurd cc
 
-  pub next_none : Next (Ok None) → IsAtEnd b → failed' ≡ failed → Gave (Err Transport)
+  pub next_none : Next (Ok None) → IsAtEnd b.left → failed' ≡ failed → Gave (Err Transport)
   next_none q at_end quiet = (q.0, q.1, (q.2.0, inl (refl, q.2.1, inr (at_end, quiet))))
 
   pub next_stop : (fault : Fault) → Next (Err fault) → CountsTransport {A = Option Record} (Err fault) failed failed' → Gave (Err fault)
@@ -124,16 +125,16 @@ module _ (a b : Option (List ℕ)) (failed failed' : ℕ) (old new : Received) (
 
 -- ---- the messages so far
 
-pub taken_none : (source : Option (List ℕ)) (old : Received) → old.place ≡ InAnswer → Taken source source old old []
+pub taken_none : (source : Tape) (old : Received) → old.place ≡ InAnswer → Taken source source old old []
 taken_none source old place = record {
   came = [];
-  consumed = Consumes-nil source;
+  consumed = Advances-nil source;
   fronts = record { whole = append-nil old.bytes; fits = All-nil IsRecord; place = place };
 }
 
-module _ (a b c : Option (List ℕ)) (x y z : ℕ) (old mid new : Received) (messages : List Payload) (p : Taken a b old mid messages) (same : y ≡ x) where
+module _ (a b c : Tape) (x y z : ℕ) (old mid new : Received) (messages : List Payload) (p : Taken a b old mid messages) (same : y ≡ x) where
   abbrev Since : Result Arrival Fault → Type 0
-  Since result = (came : List ℕ) × Consumes b c came × ArrivesAs result (incoming_of b y (Ok mid)) (incoming_of c z (Ok new)) (with_more mid came) new
+  Since result = (came : List ℕ) × Advances b c came × ArrivesAs result (incoming_of b y (Ok mid)) (incoming_of c z (Ok new)) (with_more mid came) new
 
   abbrev all_came : List ℕ → List ℕ
   all_came more = p.came ++ more
@@ -142,8 +143,8 @@ module _ (a b c : Option (List ℕ)) (x y z : ℕ) (old mid new : Received) (mes
   stand : (more : List ℕ) → Fronts (map Message messages) (with_more old (all_came more)) (with_more mid more)
   stand more = subst (λ (all : Received). Fronts (map Message messages) all (with_more mid more)) (twice old p.came more) (fronts_then (with_more old p.came) mid (map Message messages) more p.fronts)
 
-  all_consumed : (more : List ℕ) → Consumes b c more → Consumes a c (all_came more)
-  all_consumed more q = Consumes-trans a b c p.came more p.consumed q
+  all_consumed : (more : List ℕ) → Advances b c more → Advances a c (all_came more)
+  all_consumed more q = Advances-trans a b c p.came more p.consumed q
 
   -- one message more
   pub taken_more : (message : Payload) → Since (Ok (arrival.Message message)) → Taken a c old new (messages ++ message ∷ [])
@@ -158,7 +159,7 @@ module _ (a b c : Option (List ℕ)) (x y z : ℕ) (old mid new : Received) (mes
 
   -- the status
   pub taken_end : (end : Result (Unit {0}) Fault) → Since (Ok (arrival.End end))
-      → (came : List ℕ) × Consumes a c came × ((code : ℕ) × (text : List ℕ) × IsAnswer messages code text (incoming_of a x (Ok old)) (incoming_of c z (Ok new)) (with_more old came) × StatusSays code text end)
+      → (came : List ℕ) × Advances a c came × ((code : ℕ) × (text : List ℕ) × IsAnswer messages code text (incoming_of a x (Ok old)) (incoming_of c z (Ok new)) (with_more old came) × StatusSays code text end)
   taken_end end q = (all_came q.0, all_consumed q.0 q.1, (q.2.0, q.2.1, is, q.2.2))
     where
       is : IsAnswer messages q.2.0 q.2.1 (incoming_of a x (Ok old)) (incoming_of c z (Ok new)) (with_more old (all_came q.0))
@@ -171,7 +172,7 @@ module _ (a b c : Option (List ℕ)) (x y z : ℕ) (old mid new : Received) (mes
 
   -- the answer does not come to it
   pub taken_stop : (fault : Fault) → Since (Err fault)
-      → (came : List ℕ) × Consumes a c came × StopsBehind messages fault (incoming_of a x (Ok old)) (incoming_of c z (stopped_at fault new)) (with_more old came)
+      → (came : List ℕ) × Advances a c came × StopsBehind messages fault (incoming_of a x (Ok old)) (incoming_of c z (stopped_at fault new)) (with_more old came)
   taken_stop fault q = (all_came q.0, all_consumed q.0 q.1, record { at = new; fronts = here; stopped = refl; halts = by q.2.1 })
     where
       here : Fronts (map Message messages) (with_more old (all_came q.0)) new
@@ -186,12 +187,12 @@ module _ (a b c : Option (List ℕ)) (x y z : ℕ) (old mid new : Received) (mes
 
   -- the server's fault
   pub answered : (fault : Fault) → Since (Ok (arrival.End (Err fault)))
-      → (came : List ℕ) × Consumes a c came × IsAnswered fault (incoming_of a x (Ok old)) (incoming_of c z (Ok new)) (with_more old came)
+      → (came : List ℕ) × Advances a c came × IsAnswered fault (incoming_of a x (Ok old)) (incoming_of c z (Ok new)) (with_more old came)
   answered fault q = let e = taken_end (Err fault) q in (e.0, e.1, (messages, e.2.0, e.2.1, e.2.2, e.2.3))
 
   -- status 0
   pub finished : Since (Ok (arrival.End (Ok tt)))
-      → (came : List ℕ) × Consumes a c came × ((text : List ℕ) × IsAnswer messages 0 text (incoming_of a x (Ok old)) (incoming_of c z (Ok new)) (with_more old came))
+      → (came : List ℕ) × Advances a c came × ((text : List ℕ) × IsAnswer messages 0 text (incoming_of a x (Ok old)) (incoming_of c z (Ok new)) (with_more old came))
   finished q =
       let e = taken_end (Ok tt) q in
       (e.0, e.1, (e.2.1, subst (λ (code : ℕ). IsAnswer messages code e.2.1 (incoming_of a x (Ok old)) (incoming_of c z (Ok new)) (with_more old e.0)) e.2.3 e.2.2))

@@ -1,5 +1,5 @@
 -- What comes for a call.
-use Rattle.std.specs.Prelude.{◌≡◌, ◌≢◌, ◌⊎◌, ℕ, ◌+◌, List, [], ◌∷◌, ◌++◌, map, All, Option, Some, Result, Ok, Err}
+use Rattle.std.specs.Prelude.{◌≡◌, ◌≢◌, ◌⊎◌, ℕ, ◌+◌, List, [], ◌∷◌, ◌++◌, map, All, Some, Result, Ok, Err}
 use Rattle.std.specs.List.{flat_map}
 use Rattle.std.specs.Io.KnownBytes.{IsAtEnd}
 use Rattle.scan_base.specs.declared.fault.Fault.{Fault}
@@ -9,6 +9,7 @@ use Rattle.grpc_frame.specs.declared.place.Place.TheVariants.{InAnswer}
 use Rattle.grpc_frame.specs.declared.record.Record.{Record}
 use Rattle.grpc_frame.specs.declared.record.Record.TheVariants.{Message, Status}
 use Rattle.grpc_frame.specs.Records.{spelling, IsRecord, Received, Breaks, IsCut}
+use Rattle.grpc_frame.specs.Ends.{Tape}
 use Rattle.grpc_frame.specs.Arrivals.{IsSound}
 use Rattle.flight_info.specs.Payloads.{Payload}
 use Rattle.flight_client.specs.Status.{StatusSays}
@@ -35,10 +36,9 @@ pub record Stop : Type 0 where
 abbrev pub stopped_at : Fault → Received → Result Received Stop
 stopped_at fault at = Err (record { fault = fault; at = at })
 
--- the end that is read: the bytes that it will give, where they are known, how many reads failed, and what came and is
--- not taken yet, or why a call stopped
+-- the end that is read: its tape, how many reads failed, and what came and is not taken yet, or why a call stopped
 pub record Incoming : Type 0 where
-  pub input : Option (List ℕ)
+  pub input : Tape
   pub failed : ℕ
   pub left : Result Received Stop
 
@@ -48,7 +48,7 @@ Quiet old new = new.failed ≡ old.failed
 
 -- a read failed and was counted, or the input ended
 abbrev pub NoMore : Incoming → Incoming → Type 0
-NoMore old new = (new.failed ≡ old.failed + 1) ⊎ (IsAtEnd new.input × Quiet old new)
+NoMore old new = (new.failed ≡ old.failed + 1) ⊎ (IsAtEnd new.input.left × Quiet old new)
 
 -- what came is the answer of these messages and this status, and what stands behind it is left
 pub record IsAnswer (messages : List Payload) (code : ℕ) (text : List ℕ) (old new : Incoming) (all : Received) : Type 0 where

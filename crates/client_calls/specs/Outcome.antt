@@ -1,10 +1,10 @@
 -- What became of a call, and of the connection on which it was made.
 use Rattle.std.specs.Prelude.{◌≡◌, ◌⊎◌, ℕ, ◌+◌, List, Option, Some, None, Result, Ok, Err}
-use Rattle.std.specs.Io.KnownBytes.{Appends, Consumes}
+use Rattle.std.specs.Io.KnownBytes.{Appends}
 use Rattle.scan_base.specs.declared.fault.Fault.{Fault}
 use Rattle.scan_base.specs.declared.fault.Fault.TheVariants.{MessageTooLarge, OutOfMemory, Transport}
 use Rattle.grpc_frame.specs.Records.{Received, with_more}
-use Rattle.grpc_frame.specs.Ends.{AppendsBeginning}
+use Rattle.grpc_frame.specs.Ends.{Advances, AppendsBeginning}
 use Rattle.flight_info.specs.Payloads.{Payload}
 use Rattle.client_calls.specs.declared.call.Method.{Method}
 use Rattle.client_calls.specs.declared.failure.Failure.{Failure}
@@ -52,7 +52,7 @@ pub record IsBegun (method : Method) (messages : List Payload) (old new : Outgoi
 pub record IsCalled (method : Method) (messages : List Payload) (Answers : Incoming → Incoming → Received → Type 0) (left : Received) (old new : Line) : Type 0 where
   pub written : IsWritten method messages old.outgoing new.outgoing
   pub came : List ℕ
-  pub consumed : Consumes old.incoming.input new.incoming.input came
+  pub consumed : Advances old.incoming.input new.incoming.input came
   pub answers : Answers old.incoming new.incoming (with_more left came)
 
 -- why a call was not written: a write failed, and the connection has stopped; or nothing is done, since a message is too

@@ -1,8 +1,8 @@
 -- The answer of a fetch while it is taken, payload by payload.
 use Rattle.std.specs.Prelude.{◌≡◌, ◌⊎◌, ℕ, List, [], ◌∷◌, ◌++◌, map, Option, Some, None, Result, Ok, Err}
-use Rattle.std.specs.Io.KnownBytes.{Consumes}
 use Rattle.scan_base.specs.declared.fault.Fault.TheVariants.{BadBatch}
 use Rattle.arrays.specs.Batch.{BatchAt, rows_of}
+use Rattle.grpc_frame.specs.Ends.{Advances, Tape}
 use Rattle.grpc_frame.specs.declared.record.Record.TheVariants.{Message}
 use Rattle.grpc_frame.specs.Records.{Received, with_more}
 use Rattle.ipc_batch.specs.State.{Known, State}
@@ -21,9 +21,9 @@ pub record FetchAt : Type 0 where
   pub work : ℕ
 
 -- these messages were taken of what came: they stand in front of it, and the rest is left
-pub record Taken (a b : Option (List ℕ)) (old new : Received) (messages : List Payload) : Type 0 where
+pub record Taken (a b : Tape) (old new : Received) (messages : List Payload) : Type 0 where
   pub came : List ℕ
-  pub consumed : Consumes a b came
+  pub consumed : Advances a b came
   pub fronts : Fronts (map Message messages) (with_more old came) new
 
 -- a fetch was asked, and these payloads of its answer were taken

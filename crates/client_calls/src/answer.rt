@@ -1,8 +1,7 @@
 //! Reading an answer.
 
 ghost use Rattle.std.specs.Prelude.{◌≡◌, ◌<◌, ℕ, List, Ok, IfOk};
-ghost use Rattle.std.specs.Io.KnownBytes.{Consumes};
-ghost use Rattle.grpc_frame.specs.Ends.{CanFail};
+ghost use Rattle.grpc_frame.specs.Ends.{Advances, CanFail};
 ghost use Rattle.grpc_frame.specs.declared.place.Place.TheVariants.{InAnswer};
 ghost use Rattle.grpc_frame.specs.Records.{with_more};
 ghost use Rattle.grpc_frame.specs.Arrivals.{work_left};
@@ -42,10 +41,10 @@ pub(crate) fn next_arrival<R: Input>(inbox: &mut Inbox, reader: &mut R) -> Resul
     requires failures { CanFail (R.failures reader.old) }
     requires place { inbox.old.place ≡ InAnswer }
     ensures arrives { (came : List ℕ)
-        × Consumes (R.remaining reader.old) (R.remaining reader.new) came
+        × Advances (R.tape reader.old) (R.tape reader.new) came
         × ArrivesAs result
-        (incoming_of (R.remaining reader.old) (R.failures reader.old) (Ok inbox.old))
-        (incoming_of (R.remaining reader.new) (R.failures reader.new) (Ok inbox.new))
+        (incoming_of (R.tape reader.old) (R.failures reader.old) (Ok inbox.old))
+        (incoming_of (R.tape reader.new) (R.failures reader.new) (Ok inbox.new))
         (with_more inbox.old came) inbox.new }
     ensures place { inbox.new.place ≡ InAnswer }
     ensures fewer { IfOk result (λ _.
@@ -76,10 +75,10 @@ pub(crate) fn read_one<R: Input>(
     requires failures { CanFail (R.failures reader.old) }
     requires place { inbox.old.place ≡ InAnswer }
     ensures answer { (came : List ℕ)
-        × Consumes (R.remaining reader.old) (R.remaining reader.new) came
+        × Advances (R.tape reader.old) (R.tape reader.new) came
         × AnswersOne (λ given message. given ≡ Ok message) (given result)
-        (incoming_of (R.remaining reader.old) (R.failures reader.old) (Ok inbox.old))
-        (incoming_of (R.remaining reader.new) (R.failures reader.new) (left_behind result inbox.new))
+        (incoming_of (R.tape reader.old) (R.failures reader.old) (Ok inbox.old))
+        (incoming_of (R.tape reader.new) (R.failures reader.new) (left_behind result inbox.new))
         (with_more inbox.old came) }
     ensures place { inbox.new.place ≡ InAnswer }
 {
@@ -121,10 +120,10 @@ pub(crate) fn read_stream<R: Input>(
     requires failures { CanFail (R.failures reader.old) }
     requires place { inbox.old.place ≡ InAnswer }
     ensures answer { (came : List ℕ)
-        × Consumes (R.remaining reader.old) (R.remaining reader.new) came
+        × Advances (R.tape reader.old) (R.tape reader.new) came
         × AnswersStream (given result)
-        (incoming_of (R.remaining reader.old) (R.failures reader.old) (Ok inbox.old))
-        (incoming_of (R.remaining reader.new) (R.failures reader.new) (left_behind result inbox.new))
+        (incoming_of (R.tape reader.old) (R.failures reader.old) (Ok inbox.old))
+        (incoming_of (R.tape reader.new) (R.failures reader.new) (left_behind result inbox.new))
         (with_more inbox.old came) }
     ensures place { inbox.new.place ≡ InAnswer }
 {

@@ -57,7 +57,7 @@ impl<R: Input, W: Output> Model for Connection<R, W> {
 
     ghost view = { λ c. record {
       incoming = record {
-        input = R.remaining c.reader;
+        input = R.tape c.reader;
         failed = R.failures c.reader;
         left = left_of c.stopped c.inbox;
       };
@@ -83,7 +83,7 @@ impl<R: Input, W: Output> Connection<R, W> {
     pub fn new(alloc: Global, reader: R, writer: W) -> Connection<R, W>
         ensures { result ≡ record {
           incoming = record {
-            input = R.remaining reader;
+            input = R.tape reader;
             failed = R.failures reader;
             left = Ok (record { bytes = []; place = InAnswer });
           };
@@ -100,7 +100,7 @@ impl<R: Input, W: Output> Connection<R, W> {
 
     /// What is read from.
     pub fn reader(&self) -> &R
-        ensures input { R.remaining result.now ≡ self.now.incoming.input }
+        ensures input { R.tape result.now ≡ self.now.incoming.input }
         ensures failed { R.failures result.now ≡ self.now.incoming.failed }
     {
         &self.reader
@@ -128,7 +128,7 @@ impl<R: Input, W: Output> Connection<R, W> {
     pub(crate) fn into_parts(self) -> (Inbox, R, W)
         requires { IsOpen self }
         ensures place { result.0.place ≡ InAnswer }
-        ensures line { line_of (R.remaining result.1) (R.failures result.1) None result.0
+        ensures line { line_of (R.tape result.1) (R.failures result.1) None result.0
             (outgoing_of (W.contents result.2) (W.failures result.2)) ≡ self }
     {
         let Connection {

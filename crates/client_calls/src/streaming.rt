@@ -66,7 +66,7 @@ impl<R: Input, W: Output> Model for Fetching<R, W> {
     ghost view = { λ f. record {
       line = record {
         incoming = record {
-          input = R.remaining f.reader;
+          input = R.tape f.reader;
           failed = R.failures f.reader;
           left = left_of f.stopped f.inbox;
         };
@@ -125,6 +125,7 @@ impl<R: Input + Drop, W: Output + Drop> Fetching<R, W> {
         ensures few { IfOk result (λ batch. IfSome batch (λ b. length b.columns ≤ most_columns)) }
         ensures kept { KeepsSchema self.old.state self.new.state }
         ensures quiet { IfOk result (λ _. self.new.line.incoming.failed ≡ self.old.line.incoming.failed) }
+        ensures sends { self.new.line.outgoing ≡ self.old.line.outgoing }
         ensures fewer { IfOk result (λ batch. IfSome batch (λ _. self.new.work < self.old.work)) }
     {
         if let Some(fault) = self.stopped {

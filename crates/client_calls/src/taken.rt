@@ -1,9 +1,8 @@
 //! Taking the answer of a fetch, payload by payload.
 
-ghost use Rattle.std.specs.Prelude.{◌≡◌, ◌<◌, ℕ, List, Option, None, Ok, IfOk, IfSome};
-ghost use Rattle.std.specs.Io.KnownBytes.{Consumes};
+ghost use Rattle.std.specs.Prelude.{◌≡◌, ◌<◌, ℕ, List, None, Ok, IfOk, IfSome};
 ghost use Rattle.grpc_frame.specs.Arrivals.{work_left};
-ghost use Rattle.grpc_frame.specs.Ends.{CanFail};
+ghost use Rattle.grpc_frame.specs.Ends.{Advances, CanFail, Tape};
 ghost use Rattle.grpc_frame.specs.Records.{Received, with_more};
 ghost use Rattle.grpc_frame.specs.declared.place.Place.TheVariants.{InAnswer};
 ghost use Rattle.ipc_batch.specs.Said.{HasColumns};
@@ -43,10 +42,10 @@ pub(crate) fn take_payload<R: Input>(
     requires failures { CanFail (R.failures reader.old) }
     requires place { inbox.old.place ≡ InAnswer }
     ensures takes { (came : List ℕ)
-        × Consumes (R.remaining reader.old) (R.remaining reader.new) came
+        × Advances (R.tape reader.old) (R.tape reader.new) came
         × TakesAs result stream.old stream.new
-        (incoming_of (R.remaining reader.old) (R.failures reader.old) (Ok inbox.old))
-        (incoming_of (R.remaining reader.new) (R.failures reader.new) (Ok inbox.new))
+        (incoming_of (R.tape reader.old) (R.failures reader.old) (Ok inbox.old))
+        (incoming_of (R.tape reader.new) (R.failures reader.new) (Ok inbox.new))
         (with_more inbox.old came) inbox.new }
     ensures place { inbox.new.place ≡ InAnswer }
     ensures columns { IfOk result (λ took. IfOk took (λ one. HasColumns (batch_in one) stream.new)) }
@@ -78,9 +77,9 @@ pub(crate) fn take_batch<R: Input>(
 ) -> Result<Result<Option<Batch>, Failure>, Fault>
     requires failures { CanFail (R.failures reader.old) }
     requires place { inbox.old.place ≡ InAnswer }
-    ensures takes { (whole : StreamAt) (a : Option (List ℕ)) (old : Received) → whole.state ≡ stream.old →
-        HasTaken whole a (R.remaining reader.old) old inbox.old →
-        BatchOrEnd result whole stream.new a (R.remaining reader.new) (R.failures reader.old) (R.failures reader.new) old inbox.new }
+    ensures takes { (whole : StreamAt) (a : Tape) (old : Received) → whole.state ≡ stream.old →
+        HasTaken whole a (R.tape reader.old) old inbox.old →
+        BatchOrEnd result whole stream.new a (R.tape reader.new) (R.failures reader.old) (R.failures reader.new) old inbox.new }
     ensures place { inbox.new.place ≡ InAnswer }
     ensures columns { IfOk result (λ took. IfOk took (λ batch. HasColumns batch stream.new)) }
     ensures kept { KeepsSchema stream.old stream.new }

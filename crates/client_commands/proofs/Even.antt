@@ -1,9 +1,10 @@
 -- Parts of a whole that are as even as whole numbers are.
 use native.Mathlib.Omega.{arith}
-use Rattle.std.proofs.Common.{◌≡◌, ◌∙◌, ◌<◌, ◌≤◌, ◌⊎◌, inl, inr, ℕ, zero, suc, ◌+◌, ◌-◌, ◌*◌, ◌/◌, List, length, map, take, drop, ap}
+use Rattle.std.proofs.Common.{◌≡◌, ◌∙◌, ◌<◌, ◌≤◌, ◌⊎◌, inl, inr, ℕ, zero, suc, ◌+◌, ◌-◌, ◌*◌, ◌/◌, List, length, map, take, drop, ap, subst}
 use Rattle.std.proofs.lemmas.List.{length-take-le, length-drop, length-map}
 use Rattle.std.proofs.Math.Nat.{add-mul, mul-add, mul-le-mul_right, div-mul-le_self, lt-div-mul-add, div-le_self}
 use Rattle.client_commands.specs.Spread.{IsEvenPart}
+use Rattle.client_commands.specs.inside.Relaying.{IsLeft}
 
 -- behind a front that has so many parts stands one part more: the quotient, rounded down
 abbrev pub IsCut : (front part many : ℕ) → Type 0
@@ -74,3 +75,41 @@ last_part front part many cut = (cut.1, omega (arith, cut.0))
 -- a whole is its own only part
 pub only_part : (whole : ℕ) → IsEvenPart whole 1 whole
 only_part whole = (omega arith, omega arith)
+
+-- ---- parts that are cut off the front
+
+-- so much is left of a whole
+pub all_left : (whole many : ℕ) → many ≤ whole → 0 < many → IsLeft whole many whole many
+all_left whole many fits some = record { even = λ part even. even; enough = fits; none = λ none. absurd (omega (arith, some, none)) }
+
+-- and behind one part more
+module _ (whole many rest others part after : ℕ) (left : IsLeft whole many rest (others + 1)) (is : part ≡ rest / (others + 1)) (cut : part + after ≡ rest) where
+  behind_part : IsCut after part others
+  behind_part = cut_off rest others part after is (omega (arith, cut))
+
+  pub part_even : IsEvenPart whole many part
+  part_even = left.even part (subst (λ (n : ℕ). IsEvenPart n (others + 1) part) (omega (arith, cut)) (last_part after part others behind_part))
+
+  some_part : 1 ≤ part
+  some_part = by (less_or part 1)
+    where
+      by : (part < 1) ⊎ (1 ≤ part) → 1 ≤ part
+      by (inr fine) = fine
+      by (inl none) =
+          let zero_is : part ≡ 0 = omega (arith, none) in
+          let cut_at : after + part < (part + 1) * (others + 1) = behind_part.1 in
+          let less : after + 0 < (0 + 1) * (others + 1) = subst (λ (p : ℕ). after + p < (p + 1) * (others + 1)) zero_is cut_at in
+          absurd (omega (arith, less, left.enough, cut, zero_is))
+
+  pub part_left : IsLeft whole many after others
+  part_left = record {
+    even = λ other even. left.even other (subst (λ (n : ℕ). IsEvenPart n (others + 1) other) (omega (arith, cut)) (front_part after part others other behind_part even));
+    enough =
+        let low : part * (others + 1) ≤ after + part = behind_part.0 in
+        let one : 1 * others ≤ part * others = mul-le-mul_right others some_part in
+        omega (arith, low, one, mul-add part others 1);
+    none = λ none.
+        let high : after + part < (part + 1) * (others + 1) = behind_part.1 in
+        let lone : after + part < (part + 1) * (0 + 1) = subst (λ (n : ℕ). after + part < (part + 1) * (n + 1)) none high in
+        omega (arith, lone);
+  }

@@ -3,6 +3,7 @@ pub mod Parts
 pub mod Passing
 pub mod Even
 pub mod Spread
+pub mod InTurn
 pub mod Listing
 pub mod Listed
 pub mod RowsSent

@@ -1,12 +1,11 @@
 -- Streams that are written as they come.
 use Rattle.std.proofs.Common.{◌≡◌, ◌&&◌, ◌⊎◌, ◌+◌, ◌<◌, ℕ, Bool, true, false, List, [], ◌∷◌, ◌++◌, length, Option, Some, None, Result, Ok, Err, refl, sym, ap, subst, ◌∙◌, inl, inr, append-nil, append_assoc, map, take, drop, get_or}
-use Rattle.std.specs.Prelude.{◌==◌, not}
 use Rattle.std.specs.List.{list_all}
 use Rattle.std.proofs.lemmas.Grind.{flat_map-append}
 use Rattle.std.proofs.lemmas.List.Elements.{All-cons, All-head, All-nil}
 use Rattle.scan_base.specs.declared.fault.Fault.{Fault}
-use Rattle.scan_base.specs.declared.fault.Fault.TheVariants.{BadBatch, BadProto, LimitReached, OutOfMemory, SchemaMismatch, Transport}
-use Rattle.scan_base.specs.Reading.{◌>>=◌, demand}
+use Rattle.scan_base.specs.declared.fault.Fault.TheVariants.{BadBatch, LimitReached, OutOfMemory, SchemaMismatch, Transport}
+use Rattle.scan_base.specs.Reading.{◌>>=◌}
 use Rattle.scan_base.specs.Lists.{each}
 use Rattle.arrow_schema.specs.declared.schema.Schema.{Schema}
 use Rattle.arrow_schema.specs.declared.data_type.DataType.{DataType}
@@ -21,29 +20,27 @@ use Rattle.ipc_batch.proofs.Lengths.{fine, both}
 use Rattle.table_versions.specs.Table.{Table, same_field, same_fields, same_name, same_type}
 use Rattle.scan_base.specs.Value.{same_flag}
 use Rattle.table_versions.proofs.Alike.{typed_alike}
-use Rattle.flight_proto.specs.FlightInfo.{EndpointSaid, InfoSaid, info_of}
-use Rattle.flight_proto.specs.Wanted.{Wanted, wanted_bytes}
+use Rattle.flight_proto.specs.FlightInfo.{EndpointSaid}
 use Rattle.flight_info.specs.Payloads.{Payload}
-use Rattle.flight_client.specs.Info.{info_answered}
 use Rattle.flight_client.specs.Join.{joined, one_schema, schema_of_all}
 use Rattle.flight_client.specs.Stream.{StreamAt, schema_said}
 use Rattle.flight_client.proofs.Arrivals.{schema_there}
-use Rattle.grpc_frame.specs.Records.{Received}
-use Rattle.row_stream.specs.Stream.{numbered_from, numbered_schema, BreaksOff, CountsTransport, CountsWrites, HasShortRows, IsCause, WritesBeginning, WritesStream}
+use Rattle.flight_client.proofs.Together.{fields_same}
+use Rattle.grpc_frame.specs.Ends.{CanFail}
+use Rattle.row_stream.specs.Stream.{numbered_from, numbered_schema, BreaksOff, CountsTransport, CountsWrites, HasShortRows, IsCause, WritesBeginning}
 use Rattle.row_stream.specs.Writing.{Begins, WriterAt, SendsBatch, SoFar}
 use Rattle.row_stream.proofs.Broken.{breaks_before}
-use Rattle.client_calls.specs.declared.call.Method.TheVariants.{GetFlightInfo}
 use Rattle.client_calls.specs.declared.failure.Failure.{Failure}
 use Rattle.client_calls.specs.declared.failure.Failure.TheVariants.{Found}
-use Rattle.client_calls.specs.Answers.{AnswersOne, Stop}
-use Rattle.client_calls.specs.Commands.{ReadsEndpoints}
-use Rattle.client_calls.specs.Outcome.{CallsAt, Line}
+use Rattle.client_calls.specs.Outcome.{Line}
 use Rattle.client_calls.specs.Taking.{FetchAt, FetchGives, HasNoSchema, IsBegun, IsFetching, KeepsSchema, ended, with_batch}
 use Rattle.command_ends.specs.Printing.{Said}
-use Rattle.client_commands.specs.Fetching.{Asks, FetchesEach, FetchesOne, FetchStops}
-use Rattle.client_commands.specs.Streaming.{ComeSome, SaysFirst, SaysSchema, Stops, StopsAmong, Streams, WhyNoMore, WritesSome, WritesUpTo, rows_held}
-use Rattle.client_commands.specs.inside.Passing.{BreaksAtFailure, EndsAt, FitsSchema, HasPassed, HavePassed, IsPassing, PassingAt, StopsPassing, WhyUnwritten}
-use Rattle.client_commands.proofs.Fetched.{fetched_more, front_more, quiet, split_at}
+use Rattle.client_commands.specs.Fetching.{FetchesEach, FetchesOne, FetchStops}
+use Rattle.client_commands.specs.Lines.{CanCount}
+use Rattle.client_commands.specs.Streaming.{ComeSome, SaysFirst, SaysSchema, Stops, WhyNoMore, WritesBroken, WritesSome, WritesUpTo, rows_held}
+use Rattle.client_commands.specs.inside.Passing.{Breaks, BreaksAtFailure, EndsAt, FitsSchema, HasPassed, IsPassing, StopsPassing, WhyUnwritten}
+use Rattle.client_commands.specs.inside.Runs.{AreSent, Fits, Follows, HavePassed, IsOpen, Opens, Passes, PassedAt, PassingAt, StopsInRun}
+use Rattle.client_commands.proofs.Fetched.{front_more, quiet, split_at}
 
 -- ---- streams that came
 
@@ -323,104 +320,136 @@ module _ (ticket : Payload) (schema own : Schema) (rows : Rows) (start : Option 
 
 -- ---- a stream behind others
 
-module _ (front behind : List EndpointSaid) (endpoint : EndpointSaid) (streams : List StreamAt) (first middle : Line) (fetched : FetchesEach front streams first middle) where
-  came_next : (stream : StreamAt) (some : Line) → IsFetching endpoint.ticket stream middle some → ComeSome (front ++ endpoint ∷ behind) (streams ++ stream ∷ []) first some
-  came_next stream some fetching = come_behind front (endpoint ∷ behind) streams (stream ∷ []) first middle some fetched (inl (refl, fetching))
+-- the first stream's schema
+first_says : (before : List StreamAt) (schema own : Schema) → Follows before schema own → (stream : StreamAt) → SaysSchema stream own → SaysFirst (before ++ stream ∷ []) schema
+first_says [] schema own same stream says = subst (SaysSchema stream) same says
+first_says (s ∷ ss) schema own follows stream says = follows.0
 
-  came_whole : (stream : StreamAt) (some : Line) → FetchesOne endpoint (Ok stream) middle some → ComeSome (front ++ endpoint ∷ behind) (streams ++ stream ∷ []) first some
-  came_whole stream some one = come_behind front (endpoint ∷ behind) streams (stream ∷ []) first middle some fetched (inr (some, one, come_none behind some))
+has_same : (before : List StreamAt) (schema own : Schema) → Follows before schema own → same_fields schema.fields own.fields ≡ true
+has_same [] schema own same = subst (λ (s : Schema). same_fields schema.fields s.fields ≡ true) (sym same) (fields_same schema.fields)
+has_same (s ∷ ss) schema own follows = follows.2
 
-  came_front : ComeSome (front ++ endpoint ∷ behind) streams first middle
-  came_front = subst (λ (all : List StreamAt). ComeSome (front ++ endpoint ∷ behind) all first middle) (append-nil streams) (come_behind front (endpoint ∷ behind) streams [] first middle middle fetched refl)
+joins : (before : List StreamAt) (schema own : Schema) → Follows before schema own → (stream : StreamAt) → schema_said stream ≡ Ok own → joined (before ++ stream ∷ []) ≡ Ok (held_table schema (before ++ stream ∷ []))
+joins [] schema own same stream says = joined_first stream schema (says ∙ ap (λ (s : Schema). fine s) same)
+joins (s ∷ ss) schema own follows stream says = joined_more (s ∷ ss) stream schema own follows.1 says follows.2
 
-  fetch_stops : (failure : Failure) (last : Line) → FetchGives endpoint.ticket (Err failure) middle last → FetchStops (front ++ endpoint ∷ behind) failure first last
-  fetch_stops failure last gives = record { front = front; rest = endpoint ∷ behind; splits = refl; streams = streams; middle = middle; fetched = fetched; why = inl gives }
+-- what was sent of streams breaks off
+pub breaks_sent : (streams : List StreamAt) (begun mid out : Said) (writer : WriterAt) → AreSent streams begun writer mid → Breaks writer mid out → WritesBroken streams begun out
+breaks_sent streams begun mid out writer sent breaks = (
+  sent.schema,
+  sent.says,
+  subst (λ (n : ℕ). BreaksOff (numbered_schema sent.schema) (rows_held streams) begun.bytes out.bytes n out.failures) sent.quiet
+      (breaks (numbered_schema sent.schema) (rows_held streams) begun.bytes sent.so),
+)
+
+module _ (before : List StreamAt) (behind : List EndpointSaid) (endpoint : EndpointSaid) (line : Line) where
+  came_next : (stream : StreamAt) (some : Line) → IsFetching endpoint.ticket stream line some → ComeSome (endpoint ∷ behind) (stream ∷ []) line some
+  came_next stream some fetching = inl (refl, fetching)
+
+  came_whole : (stream : StreamAt) (some : Line) → FetchesOne endpoint (Ok stream) line some → ComeSome (endpoint ∷ behind) (stream ∷ []) line some
+  came_whole stream some one = inr (some, one, come_none behind some)
+
+  fetch_stops : (failure : Failure) (last : Line) → FetchGives endpoint.ticket (Err failure) line last → FetchStops (endpoint ∷ behind) failure line last
+  fetch_stops failure last gives = record { front = []; rest = endpoint ∷ behind; splits = refl; streams = []; middle = line; fetched = refl; why = inl gives }
 
   -- it was not begun
-  pub not_begun : (failure : Failure) (last : Line) (begun out : Said) → WritesSome streams begun out
-      → FetchGives endpoint.ticket (Err failure) middle last ⊎ HasNoSchema endpoint.ticket failure middle last → StopsAmong (front ++ endpoint ∷ behind) failure first last begun out
-  not_begun failure last begun out wrote (inl gives) = record { streams = streams; some = middle; came = came_front; why = inl (fetch_stops failure last gives, wrote) }
+  pub not_begun : (failure : Failure) (last : Line) (begun out : Said) → WritesSome before begun out
+      → FetchGives endpoint.ticket (Err failure) line last ⊎ HasNoSchema endpoint.ticket failure line last → StopsInRun before (endpoint ∷ behind) failure line begun out
+  not_begun failure last begun out wrote (inl gives) = record {
+    more = [];
+    some = line;
+    came = refl;
+    last = last;
+    why = inl (fetch_stops failure last gives, subst (λ (l : List StreamAt). WritesSome l begun out) (sym (append-nil before)) wrote);
+  }
   not_begun failure last begun out wrote (inr lacks) = record {
-    streams = streams ++ lacks.stream ∷ [];
+    more = lacks.stream ∷ [];
     some = last;
     came = came_whole lacks.stream last lacks.whole;
-    why = inr (BadBatch, lacks.failure_is, record { before = streams; last = lacks.stream; are = refl; lacks = lacks.none }, writes_more streams lacks.stream begun out wrote, refl);
+    last = last;
+    why = inr (BadBatch, lacks.failure_is, record { before = before; last = lacks.stream; are = refl; lacks = lacks.none }, writes_more before lacks.stream begun out wrote, refl);
   }
 
   -- it has other columns
-  pub has_other : (state : State) (line : Line) (schema own : Schema) (begun out : Said) (it : IsBegun endpoint.ticket state middle line) → WritesSome streams begun out
-      → SaysFirst streams schema → (it.known).schema ≡ own → same_fields schema.fields own.fields ≡ false → StopsAmong (front ++ endpoint ∷ behind) (Found SchemaMismatch) first line begun out
-  has_other state line schema own begun out it wrote says is differ = record {
-    streams = streams ++ it.stream ∷ [];
-    some = line;
-    came = came_next it.stream line it.fetching;
+  has_other : (state : State) (now : Line) (schema : Schema) (begun out : Said) (it : IsBegun endpoint.ticket state line now) → WritesSome before begun out
+      → SaysFirst before schema → same_fields schema.fields it.known.schema.fields ≡ false → StopsInRun before (endpoint ∷ behind) (Found SchemaMismatch) line begun out
+  has_other state now schema begun out it wrote says differ = record {
+    more = it.stream ∷ [];
+    some = now;
+    came = came_next it.stream now it.fetching;
+    last = now;
     why = inr (
       SchemaMismatch,
       refl,
       record {
         schema = schema;
-        first = first_stays streams it.stream schema says;
-        before = streams;
+        first = first_stays before it.stream schema says;
+        before = before;
         last = it.stream;
         are = refl;
-        other = own;
-        says = (it.known, it.state_is ∙ it.has_schema, is);
+        other = it.known.schema;
+        says = (it.known, it.state_is ∙ it.has_schema, refl);
         differ = differ;
       },
-      writes_more streams it.stream begun out wrote,
+      writes_more before it.stream begun out wrote,
       refl,
     );
   }
 
-  -- it stopped behind some rows
-  pub stream_stops : (schema own : Schema) (failure : Failure) (last : Line) (begun mid out : Said) → ((stream : StreamAt) → SaysSchema stream own → SaysFirst (streams ++ stream ∷ []) schema) → mid.failures ≡ begun.failures
-      → StopsPassing endpoint.ticket schema own (rows_held streams) begun.bytes middle failure last mid out → StopsAmong (front ++ endpoint ∷ behind) failure first last begun out
-  stream_stops schema own failure last begun mid out says quiet stops = record {
-    streams = streams ++ stops.stream ∷ [];
-    some = stops.some;
-    came = came_next stops.stream stops.some stops.fetching;
-    why = by stops.why;
-  }
-    where
-      first_says : SaysFirst (streams ++ stops.stream ∷ []) schema
-      first_says = says stops.stream stops.says
+-- ---- a stream that is begun
 
-      breaks : BreaksOff (numbered_schema schema) (rows_held streams ++ stops.stream.rows) begun.bytes out.bytes mid.failures out.failures → WritesSome (streams ++ stops.stream ∷ []) begun out
-      breaks off = inr (
-        schema,
-        first_says,
-        subst (λ (n : ℕ). BreaksOff (numbered_schema schema) (rows_held (streams ++ stops.stream ∷ [])) begun.bytes out.bytes n out.failures) quiet
-            (subst (λ (rows : Rows). BreaksOff (numbered_schema schema) rows begun.bytes out.bytes mid.failures out.failures) (sym (rows_more streams stops.stream)) off),
-      )
+-- no read and no write of that failed
+pub begun_counts : (ticket : Payload) (state : State) (old new : Line) → IsBegun ticket state old new → CanCount old → CanCount new
+begun_counts ticket state old new it can =
+    let taken = it.fetching.2 in
+    (subst CanFail (sym taken.quiet) can.0, subst CanFail (sym taken.written.quiet) can.1)
 
-      up_to : (fault : Fault) → EndsAt fault (numbered_schema schema) (rows_held streams ++ stops.stream.rows) begun.bytes out.bytes mid.failures out.failures → WritesUpTo fault (streams ++ stops.stream ∷ []) begun out
-      up_to Transport (part, counted) = (
-        schema,
-        first_says,
-        subst (λ (rows : Rows). WritesBeginning (numbered_schema schema) rows begun.bytes out.bytes) (sym (rows_more streams stops.stream)) part,
-        subst (λ (n : ℕ). out.failures ≡ n + 1) quiet counted,
-      )
-      up_to _ off = breaks off
+same_known : (state : State) (a b : Known) → state ≡ Some a → state ≡ Some b → a ≡ b
+same_known state a b p q = cc
 
-      by : ((FetchGives endpoint.ticket (Err failure) middle last × BreaksOff (numbered_schema schema) (rows_held streams ++ stops.stream.rows) begun.bytes out.bytes mid.failures out.failures)
-          ⊎ ((fault : Fault) × (failure ≡ Found fault) × WhyUnwritten schema stops.stream fault × EndsAt fault (numbered_schema schema) (rows_held streams ++ stops.stream.rows) begun.bytes out.bytes mid.failures out.failures × (last ≡ stops.some)))
-          → Stops (front ++ endpoint ∷ behind) (streams ++ stops.stream ∷ []) failure first stops.some last begun out
-      by (inl (gives, off)) = inl (fetch_stops failure last gives, breaks off)
-      by (inr (fault, is, why, ends, same)) = inr (fault, is, no_more streams stops.stream schema fault first_says why, up_to fault ends, same)
+-- the columns that are written are those of the schema, whatever numbers dictionaries have
+unnumbered : (schema written own : Schema) (same : Bool) → written ≡ numbered_schema schema → same_fields written.fields own.fields ≡ same → same_fields schema.fields own.fields ≡ same
+unnumbered schema written own same is fits =
+    sym (same_numbered 0 schema.fields own.fields) ∙ (ap (λ (w : Schema). same_fields w.fields own.fields) (sym is) ∙ fits)
 
-  -- it came whole
-  pub stream_passed : (schema own : Schema) (now : FetchAt) (begun mid out : Said) (writer : WriterAt) → ((stream : StreamAt) → SaysSchema stream own → SaysFirst (streams ++ stream ∷ []) schema) → mid.failures ≡ begun.failures
-      → ((stream : StreamAt) → schema_said stream ≡ Ok own → joined (streams ++ stream ∷ []) ≡ Ok (held_table schema (streams ++ stream ∷ [])))
-      → HasPassed endpoint.ticket schema own (rows_held streams) begun.bytes middle now mid out writer → HavePassed (front ++ endpoint ∷ []) first begun (record { line = now.line; schema = schema; writer = writer }) out
-  stream_passed schema own now begun mid out writer says quiet join passed = record {
-    streams = streams ++ passed.stream ∷ [];
-    fetched = fetched_more front streams endpoint passed.stream first middle now.line fetched passed.fetched;
-    says = says passed.stream passed.says;
-    join = join passed.stream (says_ended passed.stream own passed.ended passed.says);
-    written = passed.written;
-    so = subst (λ (rows : Rows). SoFar (numbered_schema schema) rows begun.bytes out.bytes writer.waiting) (sym (rows_more streams passed.stream)) passed.so;
-    quiet = passed.quiet ∙ quiet;
-  }
+-- it follows streams that were sent
+follows_sent : (streams : List StreamAt) (begun out : Said) (writer : WriterAt) (sent : AreSent streams begun writer out) (own : Schema) → same_fields sent.schema.fields own.fields ≡ true → Follows streams sent.schema own
+follows_sent [] begun out writer sent own same = absurd sent.says
+follows_sent (s ∷ ss) begun out writer sent own same = (sent.says, sent.join, same)
+
+-- the columns of a stream that is begun, as they are compared
+of_known : (ticket : Payload) (fetch : FetchAt) (line : Line) (written : Schema) (same : Bool) (it : IsBegun ticket fetch.state line fetch.line)
+    → (known : Known) × (fetch.state ≡ Some known) × (same_fields written.fields known.schema.fields ≡ same) → same_fields written.fields it.known.schema.fields ≡ same
+of_known ticket fetch line written same it (known, is, fits) =
+    subst (λ (k : Known). same_fields written.fields k.schema.fields ≡ same) (same_known fetch.state known it.known is it.has_schema) fits
+
+module _ {A : Type 0} (view : A → PassingAt) (streams : List StreamAt) (endpoint : EndpointSaid) (line : Line) (begun mid out : Said) (writer : WriterAt)
+    (sent : AreSent streams begun writer mid) where
+  -- where it has the columns that are written it is open
+  pub opens_by : (fetch : FetchAt) (result : Result A Failure) → IsBegun endpoint.ticket fetch.state line fetch.line → Fits view result fetch writer mid out → Opens view result streams endpoint line begun out
+  opens_by fetch (Ok passing) it fits =
+      let same = of_known endpoint.ticket fetch line writer.schema true it fits.1 in
+      let open_at : IsOpen streams endpoint.ticket line begun (record { fetch = fetch; writer = writer }) mid = record {
+        begins = it;
+        schema = sent.schema;
+        follows = follows_sent streams begun mid writer sent it.known.schema (unnumbered sent.schema writer.schema it.known.schema true sent.written same);
+        written = sent.written;
+        so = sent.so;
+        quiet = sent.quiet;
+      } in
+      subst (λ (now : PassingAt). IsOpen streams endpoint.ticket line begun now out) (sym fits.0)
+      (subst (λ (o : Said). IsOpen streams endpoint.ticket line begun (record { fetch = fetch; writer = writer }) o) (sym fits.2) open_at)
+  opens_by fetch (Err failure) it fits =
+      let differ = of_known endpoint.ticket fetch line writer.schema false it fits.1 in
+      λ behind. subst (λ (f : Failure). StopsInRun streams (endpoint ∷ behind) f line begun out) (sym fits.0)
+      (has_other streams behind endpoint line fetch.state fetch.line sent.schema begun out it (inr (breaks_sent streams begun mid out writer sent fits.2)) sent.says
+      (unnumbered sent.schema writer.schema it.known.schema false sent.written differ))
+
+  -- it was not begun, and what was sent breaks off
+  pub not_opened : (failure : Failure) → Breaks writer mid out → (new : Line) × (FetchGives endpoint.ticket (Err failure) line new ⊎ HasNoSchema endpoint.ticket failure line new)
+      → Opens view (Err failure) streams endpoint line begun out
+  not_opened failure breaks stops = λ behind.
+      not_begun streams behind endpoint line failure stops.0 begun out (inr (breaks_sent streams begun mid out writer sent breaks)) stops.1
 
 -- ---- the first stream
 
@@ -431,12 +460,13 @@ same_said a b bytes failures =
     ∙ ap (λ (n : ℕ). let said : Said = record { bytes = a.bytes; failures = n } in said) failures
 
 -- its schema was not sent
-pub schema_unsent : (endpoint : EndpointSaid) (behind : List EndpointSaid) (state : State) (schema : Schema) (fault : Fault) (first line : Line) (begun out : Said) (it : IsBegun endpoint.ticket state first line) → (it.known).schema ≡ schema
-    → Begins {A = WriterAt} (λ (writer : WriterAt). writer) (Err fault) (numbered_schema schema) begun.bytes out.bytes → IsCause (numbered_schema schema) [] fault → CountsTransport {A = Unit {0}} (Err fault) begun.failures out.failures → StopsAmong (endpoint ∷ behind) (Found fault) first line begun out
+pub schema_unsent : (endpoint : EndpointSaid) (behind : List EndpointSaid) (state : State) (schema : Schema) (fault : Fault) (first line : Line) (begun out : Said) (it : IsBegun endpoint.ticket state first line) → it.known.schema ≡ schema
+    → Begins {A = WriterAt} (λ (writer : WriterAt). writer) (Err fault) (numbered_schema schema) begun.bytes out.bytes → IsCause (numbered_schema schema) [] fault → CountsTransport {A = Unit {0}} (Err fault) begun.failures out.failures → StopsInRun [] (endpoint ∷ behind) (Found fault) first begun out
 schema_unsent endpoint behind state schema fault first line begun out it is begins cause counted = record {
-  streams = it.stream ∷ [];
+  more = it.stream ∷ [];
   some = line;
   came = inl (refl, it.fetching);
+  last = line;
   why = inr (fault, refl, (by fault begins cause counted).0, (by fault begins cause counted).1, refl);
 }
   where
@@ -455,90 +485,143 @@ schema_unsent endpoint behind state schema fault first line begun out it is begi
     by LimitReached begins cause counted = absurd (cause (All-nil (HasShortRows (numbered_schema schema))))
     by _ begins cause counted = absurd cause
 
--- ---- all streams
+-- its schema was sent, and nothing else
+pub opens_first : (endpoint : EndpointSaid) (line : Line) (begun out : Said) (now : PassingAt) (schema : Schema) (it : IsBegun endpoint.ticket now.fetch.state line now.fetch.line) → it.known.schema ≡ schema
+    → Begins {A = WriterAt} (λ (writer : WriterAt). writer) (Ok now.writer) (numbered_schema schema) begun.bytes out.bytes → out.failures ≡ begun.failures → IsOpen [] endpoint.ticket line begun now out
+opens_first endpoint line begun out now schema it is begins quiet =
+    record { begins = it; schema = schema; follows = is; written = begins.0; so = begins.1; quiet = quiet }
 
-come_all : (endpoints : List EndpointSaid) (streams : List StreamAt) (old new : Line) → FetchesEach endpoints streams old new → ComeSome endpoints streams old new
-come_all [] [] old new same = same
-come_all [] (s ∷ ss) old new same = absurd same
-come_all (e ∷ es) [] old new same = absurd same
-come_all (e ∷ es) (s ∷ ss) old new fetched = inr (fetched.0, fetched.1, come_all es ss fetched.0 new fetched.2)
+-- ---- a stream that is open
 
--- what was sent so far breaks off
-pub have_written : (endpoints : List EndpointSaid) (first : Line) (begun mid out : Said) (now : PassingAt) (passed : HavePassed endpoints first begun now mid)
-    → ((schema : Schema) (rows : Rows) (start : Option (List ℕ)) → SoFar schema rows start mid.bytes (now.writer).waiting → BreaksOff schema rows start out.bytes mid.failures out.failures)
-    → WritesSome passed.streams begun out
-have_written endpoints first begun mid out now passed breaks = inr (
-  now.schema,
-  passed.says,
-  subst (λ (n : ℕ). BreaksOff (numbered_schema now.schema) (rows_held passed.streams) begun.bytes out.bytes n out.failures) passed.quiet
-      (breaks (numbered_schema now.schema) (rows_held passed.streams) begun.bytes passed.so),
-)
+module _ (before : List StreamAt) (endpoint : EndpointSaid) (line : Line) (begun mid : Said) (now : PassingAt) (at : IsOpen before endpoint.ticket line begun now mid) where
+  -- its batches come next
+  pub passing_at : IsPassing endpoint.ticket at.schema at.begins.known.schema (rows_held before) begun.bytes line at.begins.stream now.fetch mid now.writer
+  passing_at = at_begin endpoint.ticket at.schema at.begins.known.schema (rows_held before) begun.bytes line now.fetch mid now.writer at.begins refl
+      (has_same before at.schema at.begins.known.schema at.follows) at.written at.so
 
-module _ (wanted : Wanted) (endpoints : List EndpointSaid) (old middle : Line) (asked : Asks wanted (Ok endpoints) old middle) (begun out out' : Said) (now : PassingAt) (passed : HavePassed endpoints middle begun now out) where
-  -- the end was written
-  pub all_streamed : WritesStream {A = Unit {0}} {E = Fault} (Ok tt) (numbered_schema now.schema) (rows_held passed.streams) begun.bytes out'.bytes → out'.failures ≡ out.failures → Streams wanted (Ok tt) old now.line begun out'
-  all_streamed (stream, whole, wrote) quiet = record {
-    table = held_table now.schema passed.streams;
-    fetched = record { endpoints = endpoints; middle = middle; asked = asked; streams = passed.streams; fetched = passed.fetched; rows_are = passed.join };
-    stream = stream;
-    whole = whole;
-    wrote = wrote;
-    quiet = quiet ∙ passed.quiet;
+  -- it stopped behind some rows
+  pub stream_stops : (behind : List EndpointSaid) (failure : Failure) (last : Line) (out : Said)
+      → StopsPassing endpoint.ticket at.schema at.begins.known.schema (rows_held before) begun.bytes line failure last mid out → StopsInRun before (endpoint ∷ behind) failure line begun out
+  stream_stops behind failure last out stops = record {
+    more = stops.stream ∷ [];
+    some = stops.some;
+    came = came_next before behind endpoint line stops.stream stops.some stops.fetching;
+    last = last;
+    why = by stops.why;
+  }
+    where
+      first_is : SaysFirst (before ++ stops.stream ∷ []) at.schema
+      first_is = first_says before at.schema at.begins.known.schema at.follows stops.stream stops.says
+
+      breaks : BreaksOff (numbered_schema at.schema) (rows_held before ++ stops.stream.rows) begun.bytes out.bytes mid.failures out.failures → WritesSome (before ++ stops.stream ∷ []) begun out
+      breaks off = inr (
+        at.schema,
+        first_is,
+        subst (λ (n : ℕ). BreaksOff (numbered_schema at.schema) (rows_held (before ++ stops.stream ∷ [])) begun.bytes out.bytes n out.failures) at.quiet
+            (subst (λ (rows : Rows). BreaksOff (numbered_schema at.schema) rows begun.bytes out.bytes mid.failures out.failures) (sym (rows_more before stops.stream)) off),
+      )
+
+      up_to : (fault : Fault) → EndsAt fault (numbered_schema at.schema) (rows_held before ++ stops.stream.rows) begun.bytes out.bytes mid.failures out.failures → WritesUpTo fault (before ++ stops.stream ∷ []) begun out
+      up_to Transport (part, counted) = (
+        at.schema,
+        first_is,
+        subst (λ (rows : Rows). WritesBeginning (numbered_schema at.schema) rows begun.bytes out.bytes) (sym (rows_more before stops.stream)) part,
+        subst (λ (n : ℕ). out.failures ≡ n + 1) at.quiet counted,
+      )
+      up_to _ off = breaks off
+
+      by : ((FetchGives endpoint.ticket (Err failure) line last × BreaksOff (numbered_schema at.schema) (rows_held before ++ stops.stream.rows) begun.bytes out.bytes mid.failures out.failures)
+          ⊎ ((fault : Fault) × (failure ≡ Found fault) × WhyUnwritten at.schema stops.stream fault × EndsAt fault (numbered_schema at.schema) (rows_held before ++ stops.stream.rows) begun.bytes out.bytes mid.failures out.failures × (last ≡ stops.some)))
+          → Stops (endpoint ∷ behind) (before ++ stops.stream ∷ []) failure line stops.some last begun out
+      by (inl (gives, off)) = inl (fetch_stops before behind endpoint line failure last gives, breaks off)
+      by (inr (fault, is, why, ends, same)) = inr (fault, is, no_more before stops.stream at.schema fault first_is why, up_to fault ends, same)
+
+  -- it came whole
+  pub stream_passed : (fetch : FetchAt) (out : Said) (after : PassedAt) → after.line ≡ fetch.line
+      → HasPassed endpoint.ticket at.schema at.begins.known.schema (rows_held before) begun.bytes line fetch mid out after.writer → HavePassed before (endpoint ∷ []) line begun after out
+  stream_passed fetch out after is passed = record {
+    streams = passed.stream ∷ [];
+    fetched = (fetch.line, passed.fetched, is);
+    sent = record {
+      schema = at.schema;
+      says = first_says before at.schema at.begins.known.schema at.follows passed.stream passed.says;
+      join = joins before at.schema at.begins.known.schema at.follows passed.stream (says_ended passed.stream at.begins.known.schema passed.ended passed.says);
+      written = passed.written;
+      so = subst (λ (rows : Rows). SoFar (numbered_schema at.schema) rows begun.bytes out.bytes after.writer.waiting) (sym (rows_more before passed.stream)) passed.so;
+      quiet = passed.quiet ∙ at.quiet;
+    };
   }
 
-  -- or not
-  pub not_ended : (fault : Fault) → WritesStream {A = Unit {0}} {E = Fault} (Err fault) (numbered_schema now.schema) (rows_held passed.streams) begun.bytes out'.bytes → fault ≡ Transport
-      → CountsTransport {A = Unit {0}} (Err fault) out.failures out'.failures → Streams wanted (Err (Found fault)) old now.line begun out'
-  not_ended fault part is counted = inr (record {
-    endpoints = endpoints;
-    middle = middle;
-    asked = asked;
-    stops = record {
-      streams = passed.streams;
-      some = now.line;
-      came = come_all endpoints passed.streams middle now.line passed.fetched;
-      why = inr (
+-- ---- streams of one connection
+
+fetches_both : (front rest : List EndpointSaid) (streams more : List StreamAt) (old middle new : Line) → FetchesEach front streams old middle → FetchesEach rest more middle new
+    → FetchesEach (front ++ rest) (streams ++ more) old new
+fetches_both [] rest [] more old middle new same fetched = subst (λ (from : Line). FetchesEach rest more from new) same fetched
+fetches_both [] rest (s ∷ ss) more old middle new same fetched = absurd same
+fetches_both (e ∷ es) rest [] more old middle new same fetched = absurd same
+fetches_both (e ∷ es) rest (s ∷ ss) more old middle new first fetched = (first.0, first.1, fetches_both es rest ss more first.0 middle new first.2 fetched)
+
+fetch_stops_behind : (front rest : List EndpointSaid) (streams : List StreamAt) (failure : Failure) (old middle last : Line) → FetchesEach front streams old middle → FetchStops rest failure middle last
+    → FetchStops (front ++ rest) failure old last
+fetch_stops_behind front rest streams failure old middle last fetched stops = record {
+  front = front ++ stops.front;
+  rest = stops.rest;
+  splits = ap (λ (l : List EndpointSaid). front ++ l) stops.splits ∙ sym (append_assoc front stops.front stops.rest);
+  streams = streams ++ stops.streams;
+  middle = stops.middle;
+  fetched = fetches_both front stops.front streams stops.streams old middle stops.middle fetched stops.fetched;
+  why = stops.why;
+}
+
+module _ (before : List StreamAt) (front : List EndpointSaid) (line : Line) (begun mid out : Said) (now : PassedAt) (passed : HavePassed before front line begun now mid) where
+  -- it stopped among those behind them
+  pub stops_behind : (rest : List EndpointSaid) (failure : Failure) → StopsInRun (before ++ passed.streams) rest failure now.line begun out → StopsInRun before (front ++ rest) failure line begun out
+  stops_behind rest failure stops = record {
+    more = passed.streams ++ stops.more;
+    some = stops.some;
+    came = come_behind front rest passed.streams stops.more line now.line stops.some passed.fetched stops.came;
+    last = stops.last;
+    why = by stops.why;
+  }
+    where
+      same : (before ++ passed.streams) ++ stops.more ≡ before ++ (passed.streams ++ stops.more)
+      same = append_assoc before passed.streams stops.more
+
+      by : Stops rest ((before ++ passed.streams) ++ stops.more) failure now.line stops.some stops.last begun out → Stops (front ++ rest) (before ++ (passed.streams ++ stops.more)) failure line stops.some stops.last begun out
+      by (inl (fails, wrote)) = inl (
+        fetch_stops_behind front rest passed.streams failure line now.line stops.last passed.fetched fails,
+        subst (λ (l : List StreamAt). WritesSome l begun out) same wrote,
+      )
+      by (inr (fault, is, why, wrote, still)) = inr (
         fault,
-        refl,
-        subst (WhyNoMore passed.streams) (sym is) tt,
-        subst (λ (f : Fault). WritesUpTo f passed.streams begun out') (sym is)
-            (now.schema, passed.says, part, subst (λ (n : ℕ). out'.failures ≡ n + 1) passed.quiet (subst (λ (f : Fault). CountsTransport {A = Unit {0}} (Err f) out.failures out'.failures) is counted)),
-        refl,
-      );
-    };
-  })
+        is,
+        subst (λ (l : List StreamAt). WhyNoMore l fault) same why,
+        subst (λ (l : List StreamAt). WritesUpTo fault l begun out) same wrote,
+        still,
+      )
 
--- ---- there are endpoints
+  -- these came whole, too
+  passed_behind : (rest : List EndpointSaid) (later : PassedAt) → HavePassed (before ++ passed.streams) rest now.line begun later out → HavePassed before (front ++ rest) line begun later out
+  passed_behind rest later more = record {
+    streams = passed.streams ++ more.streams;
+    fetched = fetches_both front rest passed.streams more.streams line now.line later.line passed.fetched more.fetched;
+    sent = subst (λ (l : List StreamAt). AreSent l begun later.writer out) (append_assoc before passed.streams more.streams) more.sent;
+  }
 
-none_demanded : (info : InfoSaid) → info.endpoints ≡ [] → (x : Unit {0}) → demand (not (length info.endpoints == 0)) BadProto ≡ Ok x → ⊥
-none_demanded info none x e = let no : Err BadProto ≡ Ok x = rw none at e in absurd cc
-
-some_said : (message : List ℕ) → (info_answered message >>= λ info. fine info.endpoints) ≡ Ok [] → ⊥
-some_said message e =
-    let answered = both (info_answered message) (λ (info : InfoSaid). fine info.endpoints) [] e in
-    let none : (answered.0).endpoints ≡ [] = let last = answered.2 in cc in
-    let read = both (info_of message) (λ (info : InfoSaid). (demand (not (length info.endpoints == 0)) BadProto >>= λ _. fine info)) answered.0 answered.1 in
-    let right = both (demand (not (length (read.0).endpoints == 0)) BadProto) (λ _. fine read.0) answered.0 read.2 in
-    let same : read.0 ≡ answered.0 = let last = right.2 in cc in
-    none_demanded read.0 (ap (λ (info : InfoSaid). info.endpoints) same ∙ none) right.0 right.1
-
-pub some_asked : (wanted : Wanted) (old new : Line) → Asks wanted (Ok []) old new → ⊥
-some_asked wanted old new = by old.incoming.left
-  where
-    by : (left : Result Received Stop) → CallsAt left GetFlightInfo (wanted_bytes wanted ∷ []) (AnswersOne (ReadsEndpoints (λ (endpoints : List EndpointSaid). endpoints))) (Ok []) old new → ⊥
-    by (Ok left) (inl called) = some_said called.answers.0 called.answers.2.0
-    by (Ok left) (inr refused) = let e = refused.1 in absurd cc
-    by (Err fault) stopped = let e = stopped.0 in absurd cc
+  -- one stream more, or not
+  pub passes_behind : {A : Type 0} (view : A → PassedAt) (endpoint : EndpointSaid) (result : Result A Failure) → Passes view result (before ++ passed.streams) [] endpoint now.line begun out → Passes view result before front endpoint line begun out
+  passes_behind view endpoint (Ok later) more = passed_behind (endpoint ∷ []) (view later) more
+  passes_behind view endpoint (Err failure) stops = λ behind. stops_behind (endpoint ∷ behind) failure (stops behind)
 
 -- ---- streams one behind the other
 
-module _ {X : Type 0} (said : X → EndpointSaid) (items : List X) (i : ℕ) (x : X) (inside : i < length items) (is : x ≡ get_or items i x) (front : EndpointSaid) where
+module _ {X : Type 0} (said : X → EndpointSaid) (items : List X) (i : ℕ) (x : X) (inside : i < length items) (is : x ≡ get_or items i x) (before : List StreamAt) (front : EndpointSaid) where
   -- the next one was passed on
-  pub passed_more : (first : Line) (begun out : Said) (now : PassingAt) → HavePassed ((front ∷ map said (take i items)) ++ said x ∷ []) first begun now out → HavePassed (front ∷ map said (take (i + 1) items)) first begun now out
-  passed_more first begun out now passed =
-      subst (λ (endpoints : List EndpointSaid). HavePassed (front ∷ endpoints) first begun now out) (sym (front_more said items i x inside is)) passed
+  pub passed_more : (line : Line) (begun out : Said) (now : PassedAt) → HavePassed before ((front ∷ map said (take i items)) ++ said x ∷ []) line begun now out → HavePassed before (front ∷ map said (take (i + 1) items)) line begun now out
+  passed_more line begun out now passed =
+      subst (λ (endpoints : List EndpointSaid). HavePassed before (front ∷ endpoints) line begun now out) (sym (front_more said items i x inside is)) passed
 
   -- or it stopped there
-  pub stopped_among : (failure : Failure) (first last : Line) (begun out : Said) → StopsAmong ((front ∷ map said (take i items)) ++ said x ∷ map said (drop (i + 1) items)) failure first last begun out → StopsAmong (front ∷ map said items) failure first last begun out
-  stopped_among failure first last begun out stops =
-      subst (λ (endpoints : List EndpointSaid). StopsAmong (front ∷ endpoints) failure first last begun out) (sym (split_at said items i x inside is)) stops
+  pub stopped_among : (failure : Failure) (line : Line) (begun out : Said) → StopsInRun before ((front ∷ map said (take i items)) ++ said x ∷ map said (drop (i + 1) items)) failure line begun out → StopsInRun before (front ∷ map said items) failure line begun out
+  stopped_among failure line begun out stops =
+      subst (λ (endpoints : List EndpointSaid). StopsInRun before (front ∷ endpoints) failure line begun out) (sym (split_at said items i x inside is)) stops

@@ -23,20 +23,20 @@ use Rattle.client_commands.specs.inside.Parts.{Apart, BothGive, FetchesAlone, Fe
 use Rattle.client_commands.proofs.Even.{IsCut, front_part, last_part, only_part}
 use Rattle.client_commands.specs.Spread.{Run, IsRun, IsEvenPart, EachGives, FailsBy, FetchesBy, FetchesOver, GivesAtLast, Giving, IsAsked, RefusesTwice, SharesEach, StopsOver, UnconnectedBy}
 
-abbrev run_of : List EndpointSaid → List StreamAt → Line → Line → Run
+abbrev pub run_of : List EndpointSaid → List StreamAt → Line → Line → Run
 run_of endpoints streams old new = record { endpoints = endpoints; streams = streams; old = old; new = new }
 
-abbrev began : Run → Line
+abbrev pub began : Run → Line
 began run = run.old
 
-abbrev asked : Run → List EndpointSaid
+abbrev pub asked : Run → List EndpointSaid
 asked run = run.endpoints
 
-abbrev gave : Run → List StreamAt
+abbrev pub gave : Run → List StreamAt
 gave run = run.streams
 
 -- a run has an even part of so many endpoints, over so many connections
-abbrev IsEven : ℕ → ℕ → Run → Type 0
+abbrev pub IsEven : ℕ → ℕ → Run → Type 0
 IsEven whole many run = IsEvenPart whole many (length run.endpoints)
 
 -- ---- over one connection
@@ -157,7 +157,7 @@ asked_counts wanted endpoints old new asks can = by old.incoming.left asks
 
 module _ {N : Type 0} (Gives : N → Option Ends → N → Type 0) where
   -- one connection more
-  gives_more : (handles : List N) (handle : N) (made : List Ends) (ends : Ends) → EachGives Gives handles made → GivesAtLast Gives handle ends
+  pub gives_more : (handles : List N) (handle : N) (made : List Ends) (ends : Ends) → EachGives Gives handles made → GivesAtLast Gives handle ends
       → EachGives Gives (handles ++ handle ∷ []) (made ++ ends ∷ [])
   gives_more [] handle [] ends given one = (one, tt)
   gives_more [] handle (m ∷ ms) ends given one = absurd given
@@ -165,14 +165,14 @@ module _ {N : Type 0} (Gives : N → Option Ends → N → Type 0) where
   gives_more (h ∷ hs) handle (m ∷ ms) ends given one = (given.0, gives_more hs handle ms ends given.1 one)
 
   -- as many connections as handles
-  many_given : (handles : List N) (made : List Ends) → EachGives Gives handles made → length made ≡ length handles
+  pub many_given : (handles : List N) (made : List Ends) → EachGives Gives handles made → length made ≡ length handles
   many_given [] [] given = refl
   many_given [] (m ∷ ms) given = absurd given
   many_given (h ∷ hs) [] given = absurd given
   many_given (h ∷ hs) (m ∷ ms) given = ap suc (many_given hs ms given.1)
 
   -- the lines of one connection more
-  lines_more : (first : Line) (made : List Ends) (ends : Ends)
+  pub lines_more : (first : Line) (made : List Ends) (ends : Ends)
       → (first ∷ map opened_line made) ++ opened_line ends ∷ [] ≡ first ∷ map opened_line (made ++ ends ∷ [])
   lines_more first made ends = ap (λ (l : List Line). first ∷ l) (sym (map-append opened_line made (ends ∷ [])))
 

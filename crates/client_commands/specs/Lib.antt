@@ -5,6 +5,7 @@ pub mod Fetching
 pub mod Handles
 pub mod Spread
 pub mod Streaming
+pub mod InTurn
 pub mod Names
 pub mod RowsPut
 pub mod Commands

@@ -1,5 +1,5 @@
 -- A connection as it is opened.
-use Rattle.std.specs.Prelude.{[], Ok}
+use Rattle.std.specs.Prelude.{◌≡◌, [], Ok}
 use Rattle.grpc_frame.specs.Ends.{CanFail}
 use Rattle.grpc_frame.specs.declared.place.Place.TheVariants.{InAnswer}
 use Rattle.client_calls.specs.Outcome.{Line}
@@ -15,3 +15,7 @@ opened_line ends = record {
 -- a failure more of each end can be counted
 abbrev pub CanCount : Line → Type 0
 CanCount line = CanFail line.incoming.failed × CanFail line.outgoing.failed
+
+-- as many calls of each end have failed
+abbrev pub SameCounts : Line → Line → Type 0
+SameCounts old new = (new.incoming.failed ≡ old.incoming.failed) × (new.outgoing.failed ≡ old.outgoing.failed)

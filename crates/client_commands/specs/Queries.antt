@@ -6,15 +6,15 @@ use Rattle.client_calls.specs.declared.failure.Failure.{Failure}
 use Rattle.client_calls.specs.Outcome.{Line}
 use Rattle.command_line.specs.declared.request.Format.{Format}
 use Rattle.command_ends.specs.Network.{Ends}
-use Rattle.command_ends.specs.Printing.{Said, cause_lines}
+use Rattle.command_ends.specs.Printing.{Said, Prints, cause_lines}
 use Rattle.command_ends.specs.declared.exit_status.ExitStatus.{ExitStatus}
-use Rattle.command_ends.specs.declared.exit_status.ExitStatus.TheVariants.{Done}
+use Rattle.command_ends.specs.declared.exit_status.ExitStatus.TheVariants.{Done, FaultAtThisEnd}
 use Rattle.client_commands.specs.Commands.{Connects, Desk, EndsBy}
 use Rattle.client_commands.specs.Handles.{Giving}
+use Rattle.client_commands.specs.InTurn.{Streams, StreamsUnconnected}
 use Rattle.client_commands.specs.Lines.{opened_line}
 use Rattle.client_commands.specs.Rows.{text_of}
 use Rattle.client_commands.specs.Spread.{FetchesSpread, IsUnconnected}
-use Rattle.client_commands.specs.Streaming.{Streams}
 use Rattle.client_commands.specs.Told.{Tells, TellsFailure}
 
 -- ---- a text of all rows
@@ -49,27 +49,40 @@ abbrev pub TellsEnd : Result (Unit {0}) Failure → ExitStatus → Said → Said
 TellsEnd (Ok done) status old new = (status ≡ Done) × (new ≡ old)
 TellsEnd (Err failure) status old new = TellsFailure failure status old new
 
--- the network gave a connection, over which the rows that are wanted were fetched and written as they came
-pub record IsPassedOn {N : Type 0} (Gives : Giving N) (wanted : Wanted) (before behind : N) (status : ExitStatus) (old new : Desk) : Type 0 where
+-- the network gave the first connection, and the rows that are wanted, fetched over up to `streams` connections, were written as they came
+pub record IsPassedOn {N : Type 0} (Gives : Giving N) (Shares : N → N → N → Type 0) (streams : ℕ) (wanted : Wanted)
+    (before middle behind : N) (status : ExitStatus) (old new : Desk) : Type 0 where
   pub ends : Ends
-  pub given : Gives before (Some ends) behind
+  pub given : Gives before (Some ends) middle
   pub result : Result (Unit {0}) Failure
   pub last : Line
-  pub streams : Streams wanted result (opened_line ends) last old.out new.out
+  pub written : Streams Gives Shares streams wanted middle behind result (opened_line ends) last old.out new.out
   pub tells : TellsEnd result status old.faults new.faults
 
--- or it gave none, and why is said
-abbrev pub PassesOn : {N : Type 0} → Giving N → Wanted → N → N → ExitStatus → Desk → Desk → Type 0
-PassesOn Gives wanted before behind status old new =
+-- the network gave the first connection, and no further one where it was needed: the stream that is written breaks off, and why is said
+pub record IsLeftOff {N : Type 0} (Gives : Giving N) (Shares : N → N → N → Type 0) (streams : ℕ) (wanted : Wanted)
+    (before middle behind : N) (status : ExitStatus) (old new : Desk) : Type 0 where
+  pub ends : Ends
+  pub given : Gives before (Some ends) middle
+  pub last : Line
+  pub unconnected : StreamsUnconnected Gives Shares streams wanted middle behind (opened_line ends) last old.out new.out
+  pub cause : List ℕ
+  pub status_is : status ≡ FaultAtThisEnd
+  pub says : Prints (cause_lines cause) old.faults new.faults
+
+-- the rows that are wanted are written as they come; or the network gave no connection, and why is said
+abbrev pub PassesOn : {N : Type 0} → Giving N → (N → N → N → Type 0) → ℕ → Wanted → N → N → ExitStatus → Desk → Desk → Type 0
+PassesOn {N} Gives Shares streams wanted before behind status old new =
     (Gives before None behind × ((cause : List ℕ) × EndsBy (cause_lines cause) status old new))
-    ⊎ IsPassedOn Gives wanted before behind status old new
+    ⊎ ((middle : N) × (IsPassedOn Gives Shares streams wanted before middle behind status old new
+    ⊎ IsLeftOff Gives Shares streams wanted before middle behind status old new))
 
 -- ---- all
 
 -- the rows that are wanted are told as a text, or else written as they come
 abbrev pub TellsWanted : {N : Type 0} → Giving N → (N → N → N → Type 0) → ℕ → Wanted → Option (Table → List ℕ) → N → N → ExitStatus → Desk → Desk → Type 0
 TellsWanted Gives Shares streams wanted (Some text) before behind status old new = PrintsAll Gives Shares streams wanted text before behind status old new
-TellsWanted Gives Shares streams wanted None before behind status old new = PassesOn Gives wanted before behind status old new
+TellsWanted Gives Shares streams wanted None before behind status old new = PassesOn Gives Shares streams wanted before behind status old new
 
 -- the rows that a query answers, in a format
 abbrev pub Queries : {N : Type 0} → Giving N → (N → N → N → Type 0) → ℕ → List ℕ → Format → N → N → ExitStatus → Desk → Desk → Type 0

@@ -1,24 +1,22 @@
--- Rows that are written as they come: fetched over one connection, and written as an Arrow IPC stream, batch by batch.
-use Rattle.std.specs.Prelude.{◌≡◌, ◌⊎◌, ℕ, ◌+◌, false, List, [], ◌∷◌, ◌++◌, Some, Result, Ok, Err}
+-- Rows that are written as they come, as an Arrow IPC stream: what came, what was written of it, and why no more was.
+use Rattle.std.specs.Prelude.{◌≡◌, ◌⊎◌, ◌+◌, false, List, [], ◌∷◌, ◌++◌, Some, Ok, Err}
 use Rattle.std.specs.List.{flat_map}
-use Rattle.std.specs.Io.KnownBytes.{Appends}
 use Rattle.scan_base.specs.declared.fault.Fault.{Fault}
 use Rattle.scan_base.specs.declared.fault.Fault.TheVariants.{BadBatch, LimitReached, OutOfMemory, SchemaMismatch, Transport}
 use Rattle.arrow_schema.specs.declared.schema.Schema.{Schema}
 use Rattle.arrays.specs.Batch.{BatchAt, rows_of}
 use Rattle.ipc_batch.specs.State.{Known}
 use Rattle.ipc_batch.specs.Said.{Rows}
-use Rattle.table_versions.specs.Table.{Table, same_fields}
+use Rattle.table_versions.specs.Table.{same_fields}
 use Rattle.flight_proto.specs.FlightInfo.{EndpointSaid}
-use Rattle.flight_proto.specs.Wanted.{Wanted}
 use Rattle.flight_client.specs.Stream.{StreamAt, schema_said}
-use Rattle.row_stream.specs.Stream.{numbered_schema, BreaksOff, HasShortRows, IsWhole, WritesBeginning}
+use Rattle.row_stream.specs.Stream.{numbered_schema, BreaksOff, HasShortRows, WritesBeginning}
 use Rattle.client_calls.specs.declared.failure.Failure.{Failure}
 use Rattle.client_calls.specs.declared.failure.Failure.TheVariants.{Found}
 use Rattle.client_calls.specs.Outcome.{Line}
 use Rattle.client_calls.specs.Taking.{IsFetching}
 use Rattle.command_ends.specs.Printing.{Said}
-use Rattle.client_commands.specs.Fetching.{Asks, FetchesOne, FetchStops, IsFetched}
+use Rattle.client_commands.specs.Fetching.{FetchesOne, FetchStops}
 
 -- ---- what came
 
@@ -45,12 +43,14 @@ SaysFirst (stream ∷ streams) schema = SaysSchema stream schema
 
 -- ---- what was written of it
 
--- no write of the rows failed: nothing was written; or an Arrow IPC stream of these rows behind the first schema, which says some of
--- them and breaks off
+-- an Arrow IPC stream of these rows behind the first schema, which says some of them and breaks off
+abbrev pub WritesBroken : List StreamAt → Said → Said → Type 0
+WritesBroken streams old new = (schema : Schema) × SaysFirst streams schema
+    × BreaksOff (numbered_schema schema) (rows_held streams) old.bytes new.bytes old.failures new.failures
+
+-- no write of the rows failed: nothing was written, or a stream that breaks off
 abbrev pub WritesSome : List StreamAt → Said → Said → Type 0
-WritesSome streams old new =
-    (new ≡ old)
-    ⊎ ((schema : Schema) × SaysFirst streams schema × BreaksOff (numbered_schema schema) (rows_held streams) old.bytes new.bytes old.failures new.failures)
+WritesSome streams old new = (new ≡ old) ⊎ WritesBroken streams old new
 
 -- one failed, which is counted: a beginning of a stream was written, which says some of the rows
 abbrev pub WritesPart : List StreamAt → Said → Said → Type 0
@@ -97,39 +97,11 @@ WhyNoMore streams OutOfMemory = Unit {0}
 WhyNoMore streams Transport = Unit {0}
 WhyNoMore streams _ = ⊥
 
--- ---- all
+-- ---- over a connection
 
--- all streams came and join, and the Arrow IPC stream of their rows was written whole
-pub record IsStreamed (wanted : Wanted) (old new : Line) (out out' : Said) : Type 0 where
-  pub table : Table
-  pub fetched : IsFetched wanted table old new
-  pub stream : List ℕ
-  pub whole : IsWhole (numbered_schema table.schema) table.rows stream
-  pub wrote : Appends out.bytes out'.bytes stream
-  pub quiet : out'.failures ≡ out.failures
-
--- a fetch failed; or there is a fault of these streams, or of writing
+-- The fetch of one of these endpoints failed; or there is a fault of these streams, or of writing. The streams are those that came over
+-- this connection, and before them those of others.
 abbrev pub Stops : List EndpointSaid → List StreamAt → Failure → Line → Line → Line → Said → Said → Type 0
 Stops endpoints streams failure old some new out out' =
     (FetchStops endpoints failure old new × WritesSome streams out out')
     ⊎ ((fault : Fault) × (failure ≡ Found fault) × WhyNoMore streams fault × WritesUpTo fault streams out out' × (new ≡ some))
-
--- these streams came, some of them, and no more were written
-pub record StopsAmong (endpoints : List EndpointSaid) (failure : Failure) (old new : Line) (out out' : Said) : Type 0 where
-  pub streams : List StreamAt
-  pub some : Line
-  pub came : ComeSome endpoints streams old some
-  pub why : Stops endpoints streams failure old some new out out'
-
--- where the rows are was asked, and then it stopped among their streams
-pub record IsCutShort (wanted : Wanted) (failure : Failure) (old new : Line) (out out' : Said) : Type 0 where
-  pub endpoints : List EndpointSaid
-  pub middle : Line
-  pub asked : Asks wanted (Ok endpoints) old middle
-  pub stops : StopsAmong endpoints failure middle new out out'
-
--- the rows that are wanted are written as they come; or a failure ends it, before the rows or among them
-abbrev pub Streams : Wanted → Result (Unit {0}) Failure → Line → Line → Said → Said → Type 0
-Streams wanted (Ok done) old new out out' = IsStreamed wanted old new out out'
-Streams wanted (Err failure) old new out out' =
-    (Asks wanted (Err failure) old new × (out' ≡ out)) ⊎ IsCutShort wanted failure old new out out'

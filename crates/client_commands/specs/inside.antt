@@ -2,5 +2,7 @@
 pub mod Naming
 pub mod Parts
 pub mod Passing
+pub mod Runs
+pub mod Relaying
 pub mod Forms
 pub mod RowsSent

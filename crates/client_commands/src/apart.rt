@@ -76,7 +76,7 @@ pub(crate) fn fetch_at_last<C: Connect + Drop>(
         (map endpoint_said endpoints.now) fetched result }
 {
     match fetched {
-        Ok(streams) => settle::<C>(Ok(streams)),
+        Ok(streams) => settle::<C, Vec<Stream>>(Ok(streams)),
         Err(refused) => {
             let Refused { handle, error: _ } = refused;
             settle(fetch_apart(alloc, handle, port, endpoints))
@@ -84,14 +84,14 @@ pub(crate) fn fetch_at_last<C: Connect + Drop>(
     }
 }
 
-// The streams, or why there are none.
-fn settle<C: Drop>(
-    fetched: Result<Result<Vec<Stream>, Failure>, Refused<C>>,
-) -> Result<Vec<Stream>, Lost>
-    ensures { Settles fetched result }
+/// What was made at last, or why it was not.
+pub(crate) fn settle<C: Drop, V: Drop>(
+    made: Result<Result<V, Failure>, Refused<C>>,
+) -> Result<V, Lost>
+    ensures { Settles made result }
 {
-    match fetched {
-        Ok(Ok(streams)) => Ok(streams),
+    match made {
+        Ok(Ok(value)) => Ok(value),
         Ok(Err(failure)) => Err(Lost::Failed(failure)),
         Err(refused) => Err(Lost::Unconnected(refused.error)),
     }

@@ -6,15 +6,15 @@ ghost use Rattle.command_ends.specs.Printing.{said_of};
 ghost use Rattle.client_commands.specs.Told.{Tells};
 ghost use Rattle.client_commands.specs.Rows.{text_of};
 ghost use Rattle.client_commands.specs.Commands.{desk_of};
-ghost use Rattle.client_commands.specs.Queries.{Queries, TellsEnd};
+ghost use Rattle.client_commands.specs.Queries.{Queries};
 ghost use Rattle.client_commands.specs.inside.Forms.{text_in};
+ghost use Rattle.client_commands.specs.inside.Relaying.{TellsStreamed};
 
 use crate::connecting::{end_unconnected, open};
+use crate::in_turn::stream_rows;
 use crate::lost::Lost;
 use crate::spreading::fetch_spread;
-use crate::streaming::{Writing, stream_rows};
 use crate::telling::{end_by_failure, end_by_printing};
-use client_calls::Failure;
 use command_ends::{Connect, ExitStatus};
 use command_line::Format;
 use csv_rows::write_csv;
@@ -31,7 +31,7 @@ use std::thread::Threads;
 pub struct Querying<'a> {
     /// The server's port.
     pub port: u16,
-    /// The most connections at a time.
+    /// The most connections over which its rows are fetched.
     pub streams: u32,
     /// The query's text.
     pub sql: &'a str,
@@ -43,10 +43,11 @@ pub struct Querying<'a> {
 
 /// Prints the rows that a query answers, in the order of the endpoints: a line of the columns' names, and a line for each
 /// row; or CSV, or a table for people. The endpoints are fetched over up to `streams` connections at a time. Each but the
-/// first is made in a thread of its own, and closed there behind its last stream; where the network gives none, it is asked
+/// first is made in a thread of its own, and closed behind its last stream; where the network gives none, it is asked
 /// once more behind the endpoints before. Nothing is printed before all came.
 ///
-/// An Arrow IPC stream is written as its rows come, batch by batch, and all endpoints are fetched over the first connection.
+/// An Arrow IPC stream is written as its rows come, batch by batch, and the connections are used one behind the other: while the
+/// run of one is written, the next one is made and its first stream is begun, in a thread of its own.
 ///
 /// A fault is printed on `faults` in a line, as far as that takes it; where no connection was made, a second line says so.
 pub fn query<T: Threads, C: Connect + Drop + Send, W: Output, E: Output>(
@@ -75,12 +76,8 @@ where
         Err(error) => return end_unconnected(alloc, faults, query.port, &error),
     };
     let Some(form) = text_form(query.format) else {
-        let writing = Writing {
-            alloc,
-            seed: query.seed,
-        };
-        let streamed = stream_rows(writing, connection, output, query.sql);
-        return end_by_streaming(faults, streamed);
+        let streamed = stream_rows(rt, alloc, network, connection, output, query);
+        return end_by_streaming(alloc, faults, query.port, streamed);
     };
     match fetch_spread(rt, alloc, network, connection, query) {
         Ok(rows) => tell_rows(alloc, output, faults, form, &rows),
@@ -140,12 +137,18 @@ fn tell_rows<W: Output, E: Output>(
 }
 
 // Tells why rows were not written whole, if so.
-fn end_by_streaming<E: Output>(faults: &mut E, streamed: Result<(), Failure>) -> ExitStatus
+fn end_by_streaming<E: Output>(
+    alloc: Global,
+    faults: &mut E,
+    port: u16,
+    streamed: Result<(), Lost>,
+) -> ExitStatus
     requires { CanFail (E.failures faults.old) }
-    ensures { TellsEnd streamed result (said_of E.Output faults.old) (said_of E.Output faults.new) }
+    ensures { TellsStreamed streamed result (said_of E.Output faults.old) (said_of E.Output faults.new) }
 {
     match streamed {
         Ok(()) => ExitStatus::Done,
-        Err(failure) => end_by_failure(faults, failure),
+        Err(Lost::Failed(failure)) => end_by_failure(faults, failure),
+        Err(Lost::Unconnected(error)) => end_unconnected(alloc, faults, port, &error),
     }
 }

@@ -9,13 +9,13 @@ ghost use Rattle.client_commands.specs.inside.Parts.{Apart, BothGive, FetchesAlo
 ghost use Rattle.std.specs.Thread.{IsSend};
 
 use crate::apart::{Refused, fetch_apart, fetch_at_last, fetch_part};
-use crate::connecting::share_each;
+use crate::asking::{Places, ask_places};
 use crate::lost::Lost;
 use crate::query::Querying;
-use client_calls::{Connection, Failure, info};
+use client_calls::{Connection, Failure};
 use command_ends::Connect;
 use flight_client::{Rows, Stream, join};
-use flight_proto::{FlightEndpoint, Wanted};
+use flight_proto::FlightEndpoint;
 use grpc_frame::{Input, Output};
 use std::alloc::Global;
 use std::thread;
@@ -44,12 +44,8 @@ where
     ensures { (last : Line) × SpreadsOrNot (λ old ends new. C.connects old query.entry.port ends new) C.shares
         query.entry.streams (rows_of query.entry.sql.now) network.old network.new result connection last }
 {
-    let endpoints = info(alloc, &mut connection, Wanted::Rows(query.sql))?;
-    let most = (query.streams as usize)
-        .min(endpoints.len())
-        .saturating_sub(1);
-    let others = share_each(alloc, network, most)?;
-    let streams = fetch_over(rt, alloc, connection, others, query.port, &endpoints)?;
+    let Places { endpoints, handles } = ask_places(alloc, network, &mut connection, query)?;
+    let streams = fetch_over(rt, alloc, connection, handles, query.port, &endpoints)?;
     Ok(join(streams)?)
 }
 

@@ -2,8 +2,12 @@
 #![tactic(auto)]
 
 mod codes;
+pub mod key_part;
+pub mod numbers;
 pub mod rows;
 pub mod seen;
 
+pub use crate::key_part::KeyPart;
+pub use crate::numbers::{SeenNumber, SeenNumbers};
 pub use crate::rows::KeyRows;
 pub use crate::seen::SeenRows;

@@ -1,11 +1,16 @@
 -- What the network gives.
-use Rattle.std.specs.Prelude.{ℕ, List, Option}
+use Rattle.std.specs.Prelude.{◌≡◌, ℕ, List, [], Option, Some}
+use Rattle.grpc_frame.specs.Ends.{Tape}
 
--- the ends of a connection as it is made: what is left to be read, and what was written, where they are known
+-- the ends of a connection as it is made: the tape of what comes, and what was written, where that is known
 pub record Ends : Type 0 where
-  pub input : Option (List ℕ)
+  pub input : Tape
   pub output : Option (List ℕ)
 
 -- the ends with these, in that order
-abbrev pub ends_of : Option (List ℕ) → Option (List ℕ) → Ends
+abbrev pub ends_of : Tape → Option (List ℕ) → Ends
 ends_of input output = record { input = input; output = output }
+
+-- nothing was read from them yet, and nothing was written to them
+abbrev pub AreNew : Ends → Type 0
+AreNew ends = (ends.input.given ≡ []) × (ends.output ≡ Some [])

@@ -1,25 +1,26 @@
 -- A whole input.
-use Rattle.std.specs.Prelude.{◌≡◌, ◌⊎◌, ℕ, ◌+◌, List, Option, Result, Ok, Err}
-use Rattle.std.specs.Io.KnownBytes.{Consumes, IsAtEnd}
+use Rattle.std.specs.Prelude.{◌≡◌, ◌⊎◌, ℕ, ◌+◌, List, Result, Ok, Err}
+use Rattle.std.specs.Io.KnownBytes.{IsAtEnd}
 use Rattle.scan_base.specs.declared.fault.Fault.{Fault}
 use Rattle.scan_base.specs.declared.fault.Fault.TheVariants.{BadFlatbuffer, OutOfMemory, Transport}
+use Rattle.grpc_frame.specs.Ends.{Advances, Tape}
 use Rattle.grpc_frame.specs.declared.ends.Input.{Ghosts as InputMembers}
 use Rattle.ipc_stream.specs.declared.message.IpcMessage.{IpcMessage}
 use Rattle.ipc_stream.specs.Stream.{Framed, IsStream}
 
--- an input: what it has left, where that is known, and how many reads have failed
+-- an input: its tape, and how many reads have failed
 pub record Source : Type 0 where
-  pub left : Option (List ℕ)
+  pub tape : Tape
   pub failed : ℕ
 
 -- both of an input, whose trait's ghost members these are
 abbrev pub source_of : {R : Type 0} → InputMembers R → R → Source
-source_of members input = record { left = members.remaining input; failed = members.failures input }
+source_of members input = record { tape = members.tape input; failed = members.failures input }
 
 -- all that was left came, which is these bytes, and no read failed
 pub record Gives (bytes : List ℕ) (old new : Source) : Type 0 where
-  pub came : Consumes old.left new.left bytes
-  pub end : IsAtEnd new.left
+  pub came : Advances old.tape new.tape bytes
+  pub end : IsAtEnd new.tape.left
   pub quiet : new.failed ≡ old.failed
 
 -- a read failed and was counted (F22), or memory was refused (F21)

@@ -1,8 +1,8 @@
 //! What came of an input.
 
 ghost use Rattle.std.specs.Prelude.{◌≡◌, ◌<◌, [], ℕ, List, Ok, OnOk};
-ghost use Rattle.std.specs.Io.KnownBytes.{Consumes, IsAtEnd};
-ghost use Rattle.grpc_frame.specs.Ends.{CanFail, CountsFailure, FailsByTransport, TakesTurn};
+ghost use Rattle.std.specs.Io.KnownBytes.{IsAtEnd};
+ghost use Rattle.grpc_frame.specs.Ends.{Advances, CanFail, CountsFailure, FailsByTransport, TakesTurn};
 ghost use Rattle.command_ends.specs.inside.Pieces.{ReadsIn};
 
 use grpc_frame::Input;
@@ -68,9 +68,9 @@ impl Held {
     pub fn read_from<R: Input>(&mut self, input: &mut R) -> Result<usize, Fault>
         requires { CanFail (R.failures input.old) }
         ensures came { (came : List ℕ)
-            × Consumes (R.remaining input.old) (R.remaining input.new) came
+            × Advances (R.tape input.old) (R.tape input.new) came
             × ReadsIn result self.old.items self.new.items came }
-        ensures end { result ≡ Ok 0 → 0 < self.old.spare → IsAtEnd (R.remaining input.new) }
+        ensures end { result ≡ Ok 0 → 0 < self.old.spare → IsAtEnd (R.tape input.new).left }
         ensures counted { CountsFailure result (R.failures input.old) (R.failures input.new) }
         ensures kind { FailsByTransport result }
         ensures fewer { TakesTurn result (R.turns input.old) (R.turns input.new) }

@@ -28,7 +28,7 @@ pub trait Connect {
     /// The system's.
     fn connect(&mut self, port: u16) -> io::Result<(Self::Reader, Self::Writer)>
         ensures made { IfOk result (λ ends. connects self.old port
-            (Some (ends_of (Self.Reader.remaining ends.0) (Self.Writer.contents ends.1))) self.new) }
+            (Some (ends_of (Self.Reader.tape ends.0) (Self.Writer.contents ends.1))) self.new) }
         ensures refused { IfErr result (λ _. connects self.old port None self.new) }
         ensures reads { IfOk result (λ ends. Self.Reader.failures ends.0 ≡ 0) }
         ensures writes { IfOk result (λ ends. Self.Writer.failures ends.1 ≡ 0) };
@@ -108,19 +108,19 @@ pub trait Listen {
         requires announced { announced.now ≡ port_of self.old }
         requires at_rest { at_rest self.old }
         ensures taken { IfOk result (λ ends. accepts self.old
-            (Some (ends_of (Self.Reader.remaining ends.0) (Self.Writer.contents ends.1))) self.new) }
+            (Some (ends_of (Self.Reader.tape ends.0) (Self.Writer.contents ends.1))) self.new) }
         ensures failed { IfErr result (λ _. accepts self.old None self.new) }
         ensures reads { IfOk result (λ ends. Self.Reader.failures ends.0 ≡ 0) }
         ensures writes { IfOk result (λ ends. Self.Writer.failures ends.1 ≡ 0) }
         ensures holds { IfOk result (λ ends. holds self.new
-            (ends_of (Self.Reader.remaining ends.0) (Self.Writer.contents ends.1))) }
+            (ends_of (Self.Reader.tape ends.0) (Self.Writer.contents ends.1))) }
         ensures at_rest { IfErr result (λ _. at_rest self.new) }
         ensures port { port_of self.new ≡ port_of self.old };
 
     /// Closes the connection that is open, and was served as it is owed.
     fn done(&mut self, reader: Self::Reader, writer: Self::Writer)
         requires served { (made : Ends) × holds self.old made
-            × owed made (ends_of (Self.Reader.remaining reader) (Self.Writer.contents writer)) }
+            × owed made (ends_of (Self.Reader.tape reader) (Self.Writer.contents writer)) }
         ensures closed { closes self.old self.new }
         ensures at_rest { at_rest self.new }
         ensures port { port_of self.new ≡ port_of self.old };

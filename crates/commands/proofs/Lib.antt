@@ -4,3 +4,4 @@ pub mod Crews
 pub mod Seated
 pub mod Telling
 pub mod Together
+pub mod New

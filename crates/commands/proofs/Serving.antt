@@ -3,6 +3,7 @@ use native.Mathlib.Omega.{arith}
 use Rattle.std.proofs.Common.{◌≡◌, ◌<◌, ℕ, zero, suc, ◌+◌, ◌-◌, List, [], ◌∷◌, Option, Result, Ok, Err, ap, refl, subst}
 use Rattle.scan_base.specs.declared.fault.Fault.{Fault}
 use Rattle.scan_base.specs.declared.fault.Fault.TheVariants.{Transport}
+use Rattle.grpc_frame.specs.Ends.{Tape}
 use Rattle.flight_calls.specs.declared.setting.Options.{Options}
 use Rattle.flight_calls.specs.Seats.{Moves, Seat}
 use Rattle.flight_calls.specs.Owed.{Connection, Serves, connection_of}
@@ -61,7 +62,7 @@ counted_all : (served : ℕ) → served + 0 ≡ served
 counted_all served = omega arith
 
 -- one connection more
-pub one_more : {L : Type 0} (accepts : L → Option Ends → L → Type 0) (closes : L → L → Type 0) (moves : Moves) (options : Options) (served : ℕ) (start : Worker L) (old middle new : L) (seat : Seat) (input output : Option (List ℕ)) (reads writes : ℕ) (result : Result (Unit {0}) Fault) (last : Connection)
+pub one_more : {L : Type 0} (accepts : L → Option Ends → L → Type 0) (closes : L → L → Type 0) (moves : Moves) (options : Options) (served : ℕ) (start : Worker L) (old middle new : L) (seat : Seat) (input : Tape) (output : Option (List ℕ)) (reads writes : ℕ) (result : Result (Unit {0}) Fault) (last : Connection)
     → ServedSo (AcceptsThenCloses accepts closes) moves options served start (worker_of old seat)
     → TakesNext accepts (ends_of input output) old middle → closes middle new → reads ≡ 0 → writes ≡ 0
     → Serves moves options result (connection_of input output reads writes seat) last

@@ -1,3 +1,4 @@
+pub mod New
 pub mod Pipe
 pub mod Port
 pub mod Serve

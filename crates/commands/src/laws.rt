@@ -1,5 +1,6 @@
 //! Laws of servers. Each function here does nothing: its contract is a law.
 
+ghost use Rattle.commands.specs.New.{TakenAreWhole};
 ghost use Rattle.commands.specs.Serve.{AcceptsThenCloses};
 ghost use Rattle.commands.specs.Together.{ServerMeetsHeadline};
 ghost use Rattle.commands.specs.Told.{HistoryIsTold, PutsAreTold, WorkersMakeWhatIsTold};
@@ -15,6 +16,12 @@ pub fn server_meets_headline<L: Listen>()
 {
     joined();
 }
+
+/// Where accepts give new connections, as those of sockets do: of each one that a worker took, all bytes that its reads gave are its whole
+/// calls and a rest, and all bytes that it holds are a beginning of what is owed for them.
+pub fn taken_connections_are_whole<L: Listen>()
+    ensures { TakenAreWhole L.accepts L.closes }
+{}
 
 /// Where all versions are kept, the seat of a worker made the entries that the calls of its connections tell of, in order, and no
 /// other.

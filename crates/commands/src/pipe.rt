@@ -29,9 +29,9 @@ pub fn pipe<R: Input, W: Output, E: Output, X: Executor>(
 
     // The whole input is served, from the empty log, and nothing is printed; or a fault of this end is, in a line.
     ensures { (seat : Seat) × Pipes setting.now.options result
-        (connection_of (R.remaining reader.old) (W.contents writer.old)
+        (connection_of (R.tape reader.old) (W.contents writer.old)
         (R.failures reader.old) (W.failures writer.old) (seat_of [] 0))
-        (connection_of (R.remaining reader.new) (W.contents writer.new)
+        (connection_of (R.tape reader.new) (W.contents writer.new)
         (R.failures reader.new) (W.failures writer.new) seat)
         (said_of E.Output faults.old) (said_of E.Output faults.new) }
 {

@@ -82,12 +82,12 @@ fn accept_next<L: Listen>(
     requires at_rest { L.at_rest network.old }
     requires announced { announced.now ≡ L.port_of network.old }
     ensures taken { IfOk result (λ ends. TakesNext L.accepts
-        (ends_of (L.Reader.remaining ends.0) (L.Writer.contents ends.1)) network.old network.new) }
+        (ends_of (L.Reader.tape ends.0) (L.Writer.contents ends.1)) network.old network.new) }
     ensures none { IfErr result (λ _. TakesNone L.accepts network.old network.new) }
     ensures reads { IfOk result (λ ends. L.Reader.failures ends.0 ≡ 0) }
     ensures writes { IfOk result (λ ends. L.Writer.failures ends.1 ≡ 0) }
     ensures holds { IfOk result (λ ends. L.holds network.new
-        (ends_of (L.Reader.remaining ends.0) (L.Writer.contents ends.1))) }
+        (ends_of (L.Reader.tape ends.0) (L.Writer.contents ends.1))) }
     ensures port { L.port_of network.new ≡ L.port_of network.old }
     ensures kind { FailsByTransport result }
 {

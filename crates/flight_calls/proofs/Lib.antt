@@ -9,6 +9,7 @@ pub mod Looking
 pub mod Flushing
 pub mod Serving
 pub mod Telling
+pub mod New
 pub mod Running
 pub mod Making
 pub mod Joining

@@ -1,8 +1,8 @@
 -- How far a server is: what came, and what it wrote for it.
 use Rattle.std.proofs.Common.{◌≡◌, ◌≢◌, ℕ, ◌+◌, List, [], ◌∷◌, ◌++◌, map, All, Option, Some, None, Result, Ok, Err, refl, sym, ap, subst, ◌∙◌, append_assoc, append-nil, inl, inr, arith}
 use Rattle.std.specs.List.{flat_map}
-use Rattle.std.specs.Io.KnownBytes.{Appends, Consumes, IsAtEnd}
-use Rattle.std.proofs.KnownBytes.{Consumes-nil, Consumes-trans, Appends-nil, Appends-trans}
+use Rattle.std.specs.Io.KnownBytes.{Appends, IsAtEnd}
+use Rattle.std.proofs.KnownBytes.{Appends-nil, Appends-trans}
 use Rattle.std.proofs.lemmas.Grind.{flat_map-append}
 use Rattle.std.proofs.lemmas.List.{map-append}
 use Rattle.std.proofs.lemmas.List.Elements.{All-append, All-cons, All-nil}
@@ -12,8 +12,9 @@ use Rattle.grpc_frame.specs.declared.place.Place.{Place}
 use Rattle.grpc_frame.specs.declared.place.Place.TheVariants.{BetweenCalls}
 use Rattle.grpc_frame.specs.Records.{spelling, IsRecord, Received, with_more, broken, Flaw, fault_of, wrong_kind, long_path, wrong_flag, long_message, bad_text}
 use Rattle.grpc_frame.specs.Arrivals.{IsSound}
-use Rattle.grpc_frame.specs.Ends.{AppendsBeginning}
+use Rattle.grpc_frame.specs.Ends.{Advances, AppendsBeginning}
 use Rattle.grpc_frame.proofs.Coming.{none_sound}
+use Rattle.grpc_frame.proofs.Tapes.{Advances-nil, Advances-trans}
 use Rattle.flight_info.specs.Replies.{ReplyAt}
 use Rattle.flight_info.specs.Payloads.{FitMessages}
 use Rattle.flight_calls.specs.declared.call.Arrival.TheVariants as arrival
@@ -31,7 +32,7 @@ use Rattle.flight_calls.proofs.Taking.{passed_none}
 abbrev FitsMessages : ReplyAt → Type 0
 FitsMessages reply = FitMessages reply.payloads
 
-abbrev joined : List (List ℕ) → List ℕ
+abbrev pub joined : List (List ℕ) → List ℕ
 joined items = flat_map (λ item. item) items
 
 -- what came is whole calls and then this rest, and the replies answer the calls, one each, from one seat to the other
@@ -44,7 +45,7 @@ pub record Served (moves : Moves) (options : Options) (seat : Seat) (came rest :
 
 pub record Progress (moves : Moves) (options : Options) (old now : Connection) (left : Received) : Type 0 where
   pub came : List ℕ
-  pub consumed : Consumes old.input now.input came
+  pub consumed : Advances old.input now.input came
   pub replies : List ReplyAt
   pub served : Served moves options old.seat came left.bytes replies now.seat
   pub wrote : Appends old.output now.output (joined (map answer_bytes replies))
@@ -53,7 +54,7 @@ pub record Progress (moves : Moves) (options : Options) (old now : Connection) (
 pub started : (moves : Moves) (options : Options) (old : Connection) (left : Received) → left ≡ behind_calls [] → Progress moves options old old left
 started moves options old left e = rw e (record {
   came = [];
-  consumed = Consumes-nil old.input;
+  consumed = Advances-nil old.input;
   replies = [];
   served = record { calls = []; whole = refl; fits = All-nil IsRecord; answers = refl; sent = All-nil FitsMessages };
   wrote = Appends-nil old.output;
@@ -98,7 +99,7 @@ served_more moves options log mid new came rest rest' replies call reply s whole
     bytes = ap (flat_map spelling) records ∙ flat_map-append spelling (flat_map call_records s.calls) (call_records call)
 
 -- one answer more
-joined_more : (done : List (List ℕ)) (item : List ℕ) → joined (done ++ item ∷ []) ≡ joined done ++ item
+pub joined_more : (done : List (List ℕ)) (item : List ℕ) → joined (done ++ item ∷ []) ≡ joined done ++ item
 joined_more done item = flat_map-append (λ (i : List ℕ). i) done (item ∷ []) ∙ ap (λ l. joined done ++ l) (append-nil item)
 
 items_more : (replies : List ReplyAt) (reply : ReplyAt) → map answer_bytes (replies ++ reply ∷ []) ≡ map answer_bytes replies ++ answer_bytes reply ∷ []
@@ -115,20 +116,20 @@ module _ (moves : Moves) (options : Options) (old mid : Connection) (left : Rece
       received bytes place = record { bytes = bytes; place = place }
 
   -- a call came, and a reply to it is due
-  call_replied : (new : Connection) (left' : Received) (request : Request) (reply : ReplyAt) (q : (more : List ℕ) × Consumes mid.input new.input more × CallArrives (Ok (arrival.Whole request)) left left' more)
+  call_replied : (new : Connection) (left' : Received) (request : Request) (reply : ReplyAt) (q : (more : List ℕ) × Advances mid.input new.input more × CallArrives (Ok (arrival.Whole request)) left left' more)
       → Responds moves options.keep (asked_by options q.2.0) mid.seat reply new.seat → FitsMessages reply
       → Served moves options old.seat (p.came ++ q.0) left'.bytes (p.replies ++ reply ∷ []) new.seat
   call_replied new left' request reply q replied sent =
       served_more moves options old.seat mid.seat new.seat (p.came ++ q.0) (left.bytes ++ q.0) left'.bytes p.replies q.2.0 reply (served_then moves options old.seat mid.seat p.came left.bytes q.0 p.replies p.served) q.2.2.whole q.2.2.fits replied sent
 
   -- the record of a connection, by its parts
-  served_so : (result : Result (Unit {0}) Fault) (new : Connection) (came rest : List ℕ) (replies : List ReplyAt) (last : Option Fault) (done begun : List (List ℕ)) → Consumes old.input new.input came
+  served_so : (result : Result (Unit {0}) Fault) (new : Connection) (came rest : List ℕ) (replies : List ReplyAt) (last : Option Fault) (done begun : List (List ℕ)) → Advances old.input new.input came
       → Served moves options old.seat came rest replies new.seat → items_owed replies last ≡ done ++ begun → Wrote old.output new.output done begun → Why result old new rest last begun → Serves moves options result old new
   served_so result new came rest replies last done begun consumed s owes wrote why = record {
     calls = s.calls;
     rest = rest;
     fits = s.fits;
-    consumed = subst (λ (bytes : List ℕ). Consumes old.input new.input bytes) s.whole consumed;
+    consumed = subst (λ (bytes : List ℕ). Advances old.input new.input bytes) s.whole consumed;
     replies = replies;
     answers = s.answers;
     sent = s.sent;
@@ -141,11 +142,11 @@ module _ (moves : Moves) (options : Options) (old mid : Connection) (left : Rece
   }
 
   -- it was written
-  pub call_served : (new : Connection) (left' : Received) (request : Request) (reply : ReplyAt) → (q : (more : List ℕ) × Consumes mid.input new.input more × CallArrives (Ok (arrival.Whole request)) left left' more)
+  pub call_served : (new : Connection) (left' : Received) (request : Request) (reply : ReplyAt) → (q : (more : List ℕ) × Advances mid.input new.input more × CallArrives (Ok (arrival.Whole request)) left left' more)
       → Responds moves options.keep (asked_by options q.2.0) mid.seat reply new.seat → FitsMessages reply → Appends mid.output new.output (answer_bytes reply) → Progress moves options old new left'
   call_served new left' request reply q replied sent wrote = record {
     came = p.came ++ q.0;
-    consumed = Consumes-trans old.input mid.input new.input p.came q.0 p.consumed q.1;
+    consumed = Advances-trans old.input mid.input new.input p.came q.0 p.consumed q.1;
     replies = p.replies ++ reply ∷ [];
     served = call_replied new left' request reply q replied sent;
     wrote = rw (items_more p.replies reply, joined_more (map answer_bytes p.replies) (answer_bytes reply))
@@ -154,33 +155,33 @@ module _ (moves : Moves) (options : Options) (old mid : Connection) (left : Rece
   }
 
   -- or begun
-  pub answer_failed : (new : Connection) (left' : Received) (request : Request) (reply : ReplyAt) → (q : (more : List ℕ) × Consumes mid.input new.input more × CallArrives (Ok (arrival.Whole request)) left left' more)
+  pub answer_failed : (new : Connection) (left' : Received) (request : Request) (reply : ReplyAt) → (q : (more : List ℕ) × Advances mid.input new.input more × CallArrives (Ok (arrival.Whole request)) left left' more)
       → Responds moves options.keep (asked_by options q.2.0) mid.seat reply new.seat → FitsMessages reply → AppendsBeginning mid.output new.output (answer_bytes reply) → Fails 0 1 old new
       → Serves moves options (Err Transport) old new
   answer_failed new left' request reply q replied sent begun counted = served_so (Err Transport) new (p.came ++ q.0) left'.bytes (p.replies ++ reply ∷ []) None
-      (map answer_bytes p.replies) (answer_bytes reply ∷ []) (Consumes-trans old.input mid.input new.input p.came q.0 p.consumed q.1)
+      (map answer_bytes p.replies) (answer_bytes reply ∷ []) (Advances-trans old.input mid.input new.input p.came q.0 p.consumed q.1)
       (call_replied new left' request reply q replied sent) (items_more p.replies reply) (mid.output, p.wrote, begun) counted
 
   -- nothing is done for what came behind the calls
-  pub ends : (result : Result (Unit {0}) Fault) (new : Connection) (more : List ℕ) (last : Option Fault) (done begun : List (List ℕ)) → Consumes mid.input new.input more → new.seat ≡ mid.seat
+  pub ends : (result : Result (Unit {0}) Fault) (new : Connection) (more : List ℕ) (last : Option Fault) (done begun : List (List ℕ)) → Advances mid.input new.input more → new.seat ≡ mid.seat
       → items_owed p.replies last ≡ done ++ begun → Wrote old.output new.output done begun → Why result old new (left.bytes ++ more) last begun → Serves moves options result old new
   ends result new more last done begun consumed log owes wrote why =
-      served_so result new (p.came ++ more) (left.bytes ++ more) p.replies last done begun (Consumes-trans old.input mid.input new.input p.came more p.consumed consumed)
+      served_so result new (p.came ++ more) (left.bytes ++ more) p.replies last done begun (Advances-trans old.input mid.input new.input p.came more p.consumed consumed)
       (rw log (served_then moves options old.seat mid.seat p.came left.bytes more p.replies p.served)) owes wrote why
 
   -- each reply was written, and no more
-  all_written : (result : Result (Unit {0}) Fault) (new : Connection) (more : List ℕ) → Consumes mid.input new.input more → new.seat ≡ mid.seat → new.output ≡ mid.output
+  all_written : (result : Result (Unit {0}) Fault) (new : Connection) (more : List ℕ) → Advances mid.input new.input more → new.seat ≡ mid.seat → new.output ≡ mid.output
       → Why result old new (left.bytes ++ more) None [] → Serves moves options result old new
   all_written result new more consumed log output why =
       ends result new more None (map answer_bytes p.replies) [] consumed log (sym (append-nil (map answer_bytes p.replies))) (rw output p.wrote) why
 
   -- the input ended
-  pub input_ended : (new : Connection) (left' : Received) → (more : List ℕ) × Consumes mid.input new.input more × CallArrives (Ok arrival.Nothing) left left' more → IsAtEnd new.input
+  pub input_ended : (new : Connection) (left' : Received) → (more : List ℕ) × Advances mid.input new.input more × CallArrives (Ok arrival.Nothing) left left' more → IsAtEnd new.input.left
       → new.output ≡ mid.output → new.seat ≡ mid.seat → Fails 0 0 old new → Serves moves options (Ok tt) old new
   input_ended new left' q at_end output log quiet = all_written (Ok tt) new q.0 q.1 log output (ap (λ (r : Received). r.bytes) q.2, at_end, quiet)
 
   -- the input ended inside a call
-  pub call_cut_short : (new : Connection) (left' : Received) → (more : List ℕ) × Consumes mid.input new.input more × CallArrives (Ok arrival.CutShort) left left' more → IsAtEnd new.input
+  pub call_cut_short : (new : Connection) (left' : Received) → (more : List ℕ) × Advances mid.input new.input more × CallArrives (Ok arrival.CutShort) left left' more → IsAtEnd new.input.left
       → new.output ≡ mid.output → new.seat ≡ mid.seat → Fails 0 0 old new → Serves moves options (Err Transport) old new
   call_cut_short new left' q at_end output log quiet =
       all_written (Err Transport) new q.0 q.1 log output (rw (behind q.0) at q.2.1, inl (q.2.0, at_end, quiet))
@@ -192,7 +193,7 @@ module _ (moves : Moves) (options : Options) (old mid : Connection) (left : Rece
   cause fault more left' other (inr (inr ends)) = inr (rw (behind more) at ends)
 
   -- its status was written
-  pub connection_refused : (new : Connection) (left' : Received) (fault : Fault) → (more : List ℕ) × Consumes mid.input new.input more × CallArrives (Err fault) left left' more → fault ≢ Transport
+  pub connection_refused : (new : Connection) (left' : Received) (fault : Fault) → (more : List ℕ) × Advances mid.input new.input more × CallArrives (Err fault) left left' more → fault ≢ Transport
       → Appends mid.output new.output (last_status fault) → new.seat ≡ mid.seat → Fails 0 0 old new → Serves moves options (Err fault) old new
   connection_refused new left' fault q other wrote log quiet =
       let owed = map answer_bytes p.replies in
@@ -205,7 +206,7 @@ module _ (moves : Moves) (options : Options) (old mid : Connection) (left : Rece
       by_fault fault rest other is = (refl, other, is, quiet)
 
   -- or begun
-  pub status_failed : (new : Connection) (left' : Received) (fault : Fault) → (more : List ℕ) × Consumes mid.input new.input more × CallArrives (Err fault) left left' more → fault ≢ Transport
+  pub status_failed : (new : Connection) (left' : Received) (fault : Fault) → (more : List ℕ) × Advances mid.input new.input more × CallArrives (Err fault) left left' more → fault ≢ Transport
       → AppendsBeginning mid.output new.output (last_status fault) → new.seat ≡ mid.seat → Fails 0 1 old new → Serves moves options (Err Transport) old new
   status_failed new left' fault q other begun log counted =
       ends (Err Transport) new q.0 (Some fault) (map answer_bytes p.replies) (last_status fault ∷ []) q.1 log refl (mid.output, p.wrote, begun) (cause fault q.0 left' other q.2, counted)
@@ -227,12 +228,12 @@ module _ (moves : Moves) (options : Options) (old mid : Connection) (left : Rece
           not_flaw (bad_text code text) e = absurd cc
 
   -- a read failed
-  pub read_failed : (new : Connection) (left' : Received) (fault : Fault) → (more : List ℕ) × Consumes mid.input new.input more × CallArrives (Err fault) left left' more → fault ≡ Transport
+  pub read_failed : (new : Connection) (left' : Received) (fault : Fault) → (more : List ℕ) × Advances mid.input new.input more × CallArrives (Err fault) left left' more → fault ≡ Transport
       → new.output ≡ mid.output → new.seat ≡ mid.seat → Fails 1 0 old new → Serves moves options (Err Transport) old new
   read_failed new left' fault q is output log counted = all_written (Err Transport) new q.0 q.1 log output (waits fault q.0 left' is q.2, inr counted)
 
   -- by a fault while a call was read
-  pub ended_by : (new : Connection) (left' : Received) (fault : Fault) (result : Result (Unit {0}) Fault) (reads writes reads' writes' : ℕ) → (more : List ℕ) × Consumes mid.input new.input more × CallArrives (Err fault) left left' more
+  pub ended_by : (new : Connection) (left' : Received) (fault : Fault) (result : Result (Unit {0}) Fault) (reads writes reads' writes' : ℕ) → (more : List ℕ) × Advances mid.input new.input more × CallArrives (Err fault) left left' more
       → (fault ≡ Transport → reads' ≡ reads + 1) × (fault ≢ Transport → reads' ≡ reads) → RefusesBy fault result mid.output new.output writes writes' → new.seat ≡ mid.seat
       → reads ≡ old.failed_reads → writes ≡ old.failed_writes → new.failed_reads ≡ reads' → new.failed_writes ≡ writes' → Serves moves options result old new
   ended_by new left' fault result reads writes reads' writes' q counted (inl stays) log before before' after after' =
@@ -253,4 +254,4 @@ pub refused_first : (moves : Moves) (options : Options) (old new : Connection) (
     → RefusesBy fault result old.output new.output writes writes' → reads ≡ old.failed_reads → writes ≡ old.failed_writes → new.failed_reads ≡ reads → new.failed_writes ≡ writes' → Serves moves options result old new
 refused_first moves options old new fault result reads writes writes' same input memory refuses before before' after after' =
     ended_by moves options old old (behind_calls []) (started moves options old (behind_calls []) refl) new (behind_calls []) fault result reads writes reads writes'
-    ([], rw input (Consumes-nil old.input), inr (inl (memory, (none_sound (behind_calls []) refl, ([], passed_none (behind_calls []), none_sound (behind_calls []) refl))))) ((λ e. let both : OutOfMemory ≡ Transport = sym memory ∙ e in absurd cc), λ _. refl) refuses same before before' after after'
+    ([], rw input (Advances-nil old.input), inr (inl (memory, (none_sound (behind_calls []) refl, ([], passed_none (behind_calls []), none_sound (behind_calls []) refl))))) ((λ e. let both : OutOfMemory ≡ Transport = sym memory ∙ e in absurd cc), λ _. refl) refuses same before before' after after'

@@ -5,8 +5,6 @@ use Rattle.std.specs.Option.{option_and_then}
 use Rattle.std.proofs.lemmas.Grind.{flat_map-append}
 use Rattle.std.proofs.lemmas.List.{map-append}
 use Rattle.std.proofs.lemmas.List.Elements.{All-append, All-cons, All-nil}
-use Rattle.std.specs.Io.KnownBytes.{Consumes}
-use Rattle.std.proofs.KnownBytes.{Consumes-nil, Consumes-trans}
 use Rattle.scan_base.specs.declared.fault.Fault.{Fault}
 use Rattle.grpc_frame.specs.declared.place.Place.{Place}
 use Rattle.grpc_frame.specs.declared.place.Place.TheVariants.{BetweenCalls, InsideCall, InAnswer}
@@ -14,8 +12,10 @@ use Rattle.grpc_frame.specs.declared.record.Record.{Record}
 use Rattle.grpc_frame.specs.declared.record.Record.TheVariants.{Open, Message, End, Status}
 use Rattle.grpc_frame.specs.Records.{spelling, IsRecord, place_after, Received, with_more, Leads, IsCut, Ending, nothing_more, cut, broken, Ends}
 use Rattle.grpc_frame.specs.Arrivals.{Arrives, IsReason, IsSound}
+use Rattle.grpc_frame.specs.Ends.{Advances, Tape}
 use Rattle.grpc_frame.proofs.Coming.{led_sound}
 use Rattle.grpc_frame.proofs.Splitting.{place_after_all-append}
+use Rattle.grpc_frame.proofs.Tapes.{Advances-nil, Advances-trans}
 use Rattle.flight_info.specs.Payloads.{Payload}
 use Rattle.flight_calls.specs.Owed.{EndsIn, EndsInside}
 use Rattle.flight_calls.specs.Requests.{Holds}
@@ -110,31 +110,31 @@ twice old came more = ap (λ (b : List ℕ). with_place old.place b) (append_ass
     with_place place bytes = record { bytes = bytes; place = place }
 
 -- the messages so far
-pub record Collected (source source' : Option (List ℕ)) (old left : Received) (messages : List Payload) : Type 0 where
+pub record Collected (source source' : Tape) (old left : Received) (messages : List Payload) : Type 0 where
   pub came : List ℕ
-  pub consumed : Consumes source source' came
+  pub consumed : Advances source source' came
   pub passed : Passed (with_more old came) (map Message messages) left
   pub inside : left.place ≡ InsideCall
 
-pub collected_none : (source : Option (List ℕ)) (old : Received) → old.place ≡ InsideCall → Collected source source old old []
+pub collected_none : (source : Tape) (old : Received) → old.place ≡ InsideCall → Collected source source old old []
 collected_none source old inside = record {
   came = [];
-  consumed = Consumes-nil source;
+  consumed = Advances-nil source;
   passed = record { whole = append-nil old.bytes; fits = All-nil IsRecord; places = refl; no_end = All-nil (λ found. found ≢ End) };
   inside = inside;
 }
 
 -- and of what came since, what arrived
-pub record Since (source source' : Option (List ℕ)) (old new : Received) (arrived : Result (Option Record) Fault) : Type 0 where
+pub record Since (source source' : Tape) (old new : Received) (arrived : Result (Option Record) Fault) : Type 0 where
   pub came : List ℕ
-  pub consumed : Consumes source source' came
+  pub consumed : Advances source source' came
   pub arrives : Arrives arrived old new came
 
-pub since : (source source' : Option (List ℕ)) (old new : Received) (arrived : Result (Option Record) Fault) → (came : List ℕ) × Consumes source source' came × Arrives arrived old new came
+pub since : (source source' : Tape) (old new : Received) (arrived : Result (Option Record) Fault) → (came : List ℕ) × Advances source source' came × Arrives arrived old new came
     → Since source source' old new arrived
 since source source' old new arrived p = record { came = p.0; consumed = p.1; arrives = p.2 }
 
-module _ (a b c : Option (List ℕ)) (old mid new : Received) (messages : List Payload) (p : Collected a b old mid messages) where
+module _ (a b c : Tape) (old mid new : Received) (messages : List Payload) (p : Collected a b old mid messages) where
   abbrev all_came : List ℕ → List ℕ
   all_came more = p.came ++ more
 
@@ -142,8 +142,8 @@ module _ (a b c : Option (List ℕ)) (old mid new : Received) (messages : List P
   stand : (more : List ℕ) → Passed (with_more old (all_came more)) (map Message messages) (with_more mid more)
   stand more = subst (λ (from : Received). Passed from (map Message messages) (with_more mid more)) (twice old p.came more) (passed_then (with_more old p.came) mid (map Message messages) more p.passed)
 
-  all_consumed : (more : List ℕ) → Consumes b c more → Consumes a c (all_came more)
-  all_consumed more q = Consumes-trans a b c p.came more p.consumed q
+  all_consumed : (more : List ℕ) → Advances b c more → Advances a c (all_came more)
+  all_consumed more q = Advances-trans a b c p.came more p.consumed q
 
   pub collected_more : (message : Payload) → Since b c mid new (Ok (Some (Message message))) → Collected a c old new (messages ++ message ∷ [])
   collected_more message q = record {
@@ -157,7 +157,7 @@ module _ (a b c : Option (List ℕ)) (old mid new : Received) (messages : List P
       stays next e = cc
 
   pub collected_end : (path : List ℕ) (request : Request) → Holds request (record { path = path; messages = messages }) → (found : Record) → ((message : Payload) → found ≢ Message message)
-      → Since b c mid new (Ok (Some found)) → (came : List ℕ) × Consumes a c came × RequestArrives (Ok (Some request)) path old new came
+      → Since b c mid new (Ok (Some found)) → (came : List ℕ) × Advances a c came × RequestArrives (Ok (Some request)) path old new came
   collected_end path request holds found other q = (all_came q.came, all_consumed q.came q.consumed, (messages, holds, by found other q.arrives))
     where
       by : (found : Record) → ((message : Payload) → found ≢ Message message) → Leads found (with_more mid q.came) new → Fronts (map Message messages ++ End ∷ []) (with_more old (all_came q.came)) new
@@ -166,14 +166,14 @@ module _ (a b c : Option (List ℕ)) (old mid new : Received) (messages : List P
       by End other leads = passed_end (with_more old (all_came q.came)) (with_more mid q.came) new (map Message messages) (stand q.came) leads
       by (Status code text) other leads = let moves = rw p.inside at leads.moves in absurd cc
 
-  pub collected_cut : (path : List ℕ) → Since b c mid new (Ok None) → (came : List ℕ) × Consumes a c came × RequestArrives (Ok None) path old new came
+  pub collected_cut : (path : List ℕ) → Since b c mid new (Ok None) → (came : List ℕ) × Advances a c came × RequestArrives (Ok None) path old new came
   collected_cut path q = (
     all_came q.came,
     all_consumed q.came q.consumed,
     passed_cut (with_more old (all_came q.came)) (with_more mid q.came) (map Message messages) (stand q.came) (rw q.arrives.0 at q.arrives.1),
   )
 
-  pub collected_stop : (path : List ℕ) (fault : Fault) → Since b c mid new (Err fault) → (came : List ℕ) × Consumes a c came × RequestArrives (Err fault) path old new came
+  pub collected_stop : (path : List ℕ) (fault : Fault) → Since b c mid new (Err fault) → (came : List ℕ) × Advances a c came × RequestArrives (Err fault) path old new came
   collected_stop path fault q = (all_came q.came, all_consumed q.came q.consumed, by (subst (IsReason fault) q.arrives.0 q.arrives.1))
     where
       by : IsReason fault (with_more mid q.came) → Stops fault (with_more old (all_came q.came)) (IsSoundAt (with_more old (all_came q.came)) new)
@@ -200,7 +200,7 @@ ends_after from left records ending p q = record {
 }
 
 -- a fault before the first record
-pub first_stops : (a b : Option (List ℕ)) (old new : Received) (fault : Fault) → Since a b old new (Err fault) → (came : List ℕ) × Consumes a b came × CallArrives (Err fault) old new came
+pub first_stops : (a b : Tape) (old new : Received) (fault : Fault) → Since a b old new (Err fault) → (came : List ℕ) × Advances a b came × CallArrives (Err fault) old new came
 first_stops a b old new fault q = (q.came, q.consumed, by (subst (IsReason fault) q.arrives.0 q.arrives.1))
   where
     by : IsReason fault (with_more old q.came) → Stops fault (with_more old q.came) (IsSound (with_more old q.came) × IsSoundAt (with_more old q.came) new)
@@ -209,8 +209,8 @@ first_stops a b old new fault q = (q.came, q.consumed, by (subst (IsReason fault
     by (inr (inr breaks)) = inr (inr (passed_ends (with_more old q.came) (with_more old q.came) [] (broken fault) (passed_none (with_more old q.came)) breaks))
 
 -- the input ended before the first record was whole
-pub first_cut : (a b : Option (List ℕ)) (old new : Received) → old.place ≡ BetweenCalls → ¬ (new ≡ record { bytes = []; place = BetweenCalls }) → Since a b old new (Ok None)
-    → (came : List ℕ) × Consumes a b came × CallArrives (Ok arrival.CutShort) old new came
+pub first_cut : (a b : Tape) (old new : Received) → old.place ≡ BetweenCalls → ¬ (new ≡ record { bytes = []; place = BetweenCalls }) → Since a b old new (Ok None)
+    → (came : List ℕ) × Advances a b came × CallArrives (Ok arrival.CutShort) old new came
 first_cut a b old new between some q = (
   q.came,
   q.consumed,
@@ -226,7 +226,7 @@ first_cut a b old new between some q = (
         received : List ℕ → Place → Received
         received bytes place = record { bytes = bytes; place = place }
 
-module _ (a b c : Option (List ℕ)) (old mid new : Received) (path : List ℕ) (between : old.place ≡ BetweenCalls) (p : Since a b old mid (Ok (Some (Open path)))) where
+module _ (a b c : Tape) (old mid new : Received) (path : List ℕ) (between : old.place ≡ BetweenCalls) (p : Since a b old mid (Ok (Some (Open path)))) where
   pub call_is_open : mid.place ≡ InsideCall
   call_is_open = by mid.place (rw between at p.arrives.moves)
     where
@@ -248,11 +248,11 @@ module _ (a b c : Option (List ℕ)) (old mid new : Received) (path : List ℕ) 
     moves = p.arrives.moves;
   }
 
-  both_consumed : (more : List ℕ) → Consumes b c more → Consumes a c (together more)
-  both_consumed more q = Consumes-trans a b c p.came more p.consumed q
+  both_consumed : (more : List ℕ) → Advances b c more → Advances a c (together more)
+  both_consumed more q = Advances-trans a b c p.came more p.consumed q
 
-  pub call_whole : (request : Request) → (more : List ℕ) × Consumes b c more × RequestArrives (Ok (Some request)) path mid new more
-      → (came : List ℕ) × Consumes a c came × CallArrives (Ok (arrival.Whole request)) old new came
+  pub call_whole : (request : Request) → (more : List ℕ) × Advances b c more × RequestArrives (Ok (Some request)) path mid new more
+      → (came : List ℕ) × Advances a c came × CallArrives (Ok (arrival.Whole request)) old new came
   call_whole request q = (
     together q.0,
     both_consumed q.0 q.1,
@@ -274,13 +274,13 @@ module _ (a b c : Option (List ℕ)) (old mid new : Received) (path : List ℕ) 
   still_inside more (inl ends) = inl (ends_after (with_more old (together more)) (with_more mid more) (Open path ∷ []) cut (opened more) ends)
   still_inside more (inr ends) = inr (ends_after (with_more old (together more)) (with_more mid more) (Open path ∷ []) nothing_more (opened more) ends)
 
-  pub call_cut : (more : List ℕ) × Consumes b c more × RequestArrives (Ok None) path mid new more → (came : List ℕ) × Consumes a c came × CallArrives (Ok arrival.CutShort) old new came
+  pub call_cut : (more : List ℕ) × Advances b c more × RequestArrives (Ok None) path mid new more → (came : List ℕ) × Advances a c came × CallArrives (Ok arrival.CutShort) old new came
   call_cut q = (together q.0, both_consumed q.0 q.1, ((λ none. some (sym none ∙ (opened q.0).whole)), still_inside q.0 q.2))
     where
       some : ¬ ([] ≡ flat_map spelling (Open path ∷ []) ++ (with_more mid q.0).bytes)
       some e = cc
 
-  pub call_stops : (fault : Fault) → (more : List ℕ) × Consumes b c more × RequestArrives (Err fault) path mid new more → (came : List ℕ) × Consumes a c came × CallArrives (Err fault) old new came
+  pub call_stops : (fault : Fault) → (more : List ℕ) × Advances b c more × RequestArrives (Err fault) path mid new more → (came : List ℕ) × Advances a c came × CallArrives (Err fault) old new came
   call_stops fault q = (together q.0, both_consumed q.0 q.1, by q.2)
     where
       behind_open : IsSoundAt (with_more mid q.0) new → IsSoundAt (with_more old (together q.0)) new

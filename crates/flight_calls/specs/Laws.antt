@@ -16,7 +16,7 @@ use Rattle.flight_calls.specs.Calls.{Call}
 use Rattle.flight_calls.specs.Exchanges.{Exchange, exchanges_of, WithOwn, asked_in, replies_in}
 use Rattle.flight_calls.specs.Seats.{Seat, Moves, alone}
 use Rattle.flight_calls.specs.Reacts.{Answers}
-use Rattle.flight_calls.specs.Owed.{Connection, Serves, EndsInside, behind_calls, answer_bytes, Wrote, Fails}
+use Rattle.flight_calls.specs.Owed.{Connection, Serves, EndsInside, behind_calls, answer_bytes, calls_bytes, items_owed, Wrote, Fails}
 
 -- A read failed: each of these answers was written whole, and behind the calls stand no more than a beginning of one.
 pub record ReadFailed (result : Result (Unit {0}) Fault) (old new : Connection) (rest : List ℕ) (answers : List (List ℕ)) : Type 0 where
@@ -30,6 +30,26 @@ abbrev pub FailedReadsAnswerAll : Moves → Type 0
 FailedReadsAnswerAll moves =
     (options : Options) (result : Result (Unit {0}) Fault) (old new : Connection) (serves : Serves moves options result old new)
     → new.failed_reads ≡ old.failed_reads + 1 → ReadFailed result old new serves.rest (map answer_bytes serves.replies)
+
+-- nothing was read from a connection yet, and nothing was written to it
+abbrev pub IsNew : Connection → Type 0
+IsNew connection = (connection.input.given ≡ []) × (connection.output ≡ Some [])
+
+-- All bytes that reads gave are those of these calls, and then this rest. All bytes that it holds are a beginning of what is owed
+-- for them, and the whole of it where the server ended well.
+pub record IsWhole (result : Result (Unit {0}) Fault) (new : Connection) (calls : List Call) (rest : List ℕ) (owed : List (List ℕ)) : Type 0 where
+  pub read : new.input.given ≡ calls_bytes calls ++ rest
+  pub written : List ℕ
+  pub holds : new.output ≡ Some written
+  pub more : List ℕ
+  pub begins : flat_map (λ item. item) owed ≡ written ++ more
+  pub all : result ≡ Ok tt → more ≡ []
+
+-- So it is of each connection that was new: nothing is read or written beside what its calls are owed.
+abbrev pub NewConnectionsAreWhole : Moves → Type 0
+NewConnectionsAreWhole moves =
+    (options : Options) (result : Result (Unit {0}) Fault) (old new : Connection) (serves : Serves moves options result old new)
+    → IsNew old → IsWhole result new serves.calls serves.rest (items_owed serves.replies serves.last)
 
 -- the entry of the put that a reply accepts, if it accepts one
 abbrev pub accepted_by : Option Fault → Result Put Fault → Log

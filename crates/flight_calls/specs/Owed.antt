@@ -1,7 +1,7 @@
 -- What a server owes for the bytes that came, and what it did with a connection.
 use Rattle.std.specs.Prelude.{◌≡◌, ◌≢◌, ◌⊎◌, ℕ, ◌+◌, List, [], ◌∷◌, ◌++◌, map, All, Option, Some, None, Result, Ok, Err}
 use Rattle.std.specs.List.{flat_map}
-use Rattle.std.specs.Io.KnownBytes.{Appends, Consumes, IsAtEnd}
+use Rattle.std.specs.Io.KnownBytes.{Appends, IsAtEnd}
 use Rattle.scan_base.specs.declared.fault.Fault.{Fault}
 use Rattle.scan_base.specs.declared.fault.Fault.TheVariants.{OutOfMemory, Transport}
 use Rattle.grpc_frame.specs.declared.place.Place.TheVariants.{BetweenCalls}
@@ -10,7 +10,7 @@ use Rattle.grpc_frame.specs.declared.record.Record.TheVariants.{Message, End}
 use Rattle.grpc_frame.specs.Records.{spelling, IsRecord, Received, Ending, nothing_more, cut, broken, Splits}
 use Rattle.grpc_frame.specs.Arrivals.{IsSound}
 use Rattle.grpc_frame.specs.Calls.{status_of}
-use Rattle.grpc_frame.specs.Ends.{AppendsBeginning}
+use Rattle.grpc_frame.specs.Ends.{Advances, AppendsBeginning, Tape}
 use Rattle.flight_info.specs.Replies.{ReplyAt}
 use Rattle.flight_info.specs.Payloads.{FitMessages}
 use Rattle.flight_calls.specs.declared.setting.Options.{Options}
@@ -68,17 +68,17 @@ Wrote old new done _ = ⊥
 
 -- ---- what became of a connection
 
--- A connection: what its input has left and what its output holds, where they are known, how many reads and
--- writes have failed, and the seat of its backend.
+-- A connection: the tape of its input, what its output holds, where that is known, how many reads and writes have failed,
+-- and the seat of its backend.
 pub record Connection : Type 0 where
-  pub input : Option (List ℕ)
+  pub input : Tape
   pub output : Option (List ℕ)
   pub failed_reads : ℕ
   pub failed_writes : ℕ
   pub seat : Seat
 
 -- the connection with these, in that order
-abbrev pub connection_of : Option (List ℕ) → Option (List ℕ) → ℕ → ℕ → Seat → Connection
+abbrev pub connection_of : Tape → Option (List ℕ) → ℕ → ℕ → Seat → Connection
 connection_of input output reads writes seat =
     record { input = input; output = output; failed_reads = reads; failed_writes = writes; seat = seat }
 
@@ -90,22 +90,22 @@ Fails reads writes old new =
 -- Why a server ends behind the whole calls: by its result, what stands there, the fault that it says last, and the item
 -- that it only began.
 abbrev pub Why : Result (Unit {0}) Fault → Connection → Connection → List ℕ → Option Fault → List (List ℕ) → Type 0
-Why (Ok done) old new rest None [] = (rest ≡ []) × IsAtEnd new.input × Fails 0 0 old new
+Why (Ok done) old new rest None [] = (rest ≡ []) × IsAtEnd new.input.left × Fails 0 0 old new
 Why (Err Transport) old new rest None [] = EndsInside (behind_calls rest)
-    × (((rest ≢ []) × IsAtEnd new.input × Fails 0 0 old new) ⊎ Fails 1 0 old new)
+    × (((rest ≢ []) × IsAtEnd new.input.left × Fails 0 0 old new) ⊎ Fails 1 0 old new)
 Why (Err Transport) old new rest None (item ∷ []) = Fails 0 1 old new
 Why (Err Transport) old new rest (Some fault) (item ∷ []) = IsCause fault rest × Fails 0 1 old new
 Why (Err fault) old new rest (Some last) [] = (last ≡ fault) × (fault ≢ Transport) × IsCause fault rest × Fails 0 0 old new
 Why _ old new rest last begun = ⊥
 
--- What became of a connection, where the server is set so. What came is whole calls and then a rest; they have one reply
+-- What became of a connection, where the server is set so. What reads gave is whole calls and then a rest; they have one reply
 -- each, from the seat before to the seat now; what is owed for them was written in order, all but an item that was only
 -- begun.
 pub record Serves (moves : Moves) (options : Options) (result : Result (Unit {0}) Fault) (old new : Connection) : Type 0 where
   pub calls : List Call
   pub rest : List ℕ
   pub fits : All IsRecord (flat_map call_records calls)
-  pub consumed : Consumes old.input new.input (calls_bytes calls ++ rest)
+  pub consumed : Advances old.input new.input (calls_bytes calls ++ rest)
   pub replies : List ReplyAt
   pub answers : Answers moves options old.seat calls replies new.seat
   pub sent : All (λ reply. FitMessages reply.payloads) replies

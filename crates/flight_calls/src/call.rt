@@ -1,8 +1,8 @@
 //! Reading the calls of a connection.
 
 ghost use Rattle.std.specs.Prelude.{◌≡◌, ◌≢◌, ◌<◌, ℕ, List, Ok, None, IfOk, OnSome, MatchOption};
-ghost use Rattle.std.specs.Io.KnownBytes.{Consumes, IsAtEnd};
-ghost use Rattle.grpc_frame.specs.Ends.{CanFail};
+ghost use Rattle.std.specs.Io.KnownBytes.{IsAtEnd};
+ghost use Rattle.grpc_frame.specs.Ends.{Advances, CanFail};
 ghost use Rattle.grpc_frame.specs.declared.place.Place.TheVariants.{BetweenCalls, InsideCall};
 ghost use Rattle.grpc_frame.specs.declared.record.Record.TheVariants.{Open, Message};
 ghost use Rattle.grpc_frame.specs.Arrivals.{CountsTransport, work_left};
@@ -40,10 +40,10 @@ pub fn read_call<R: Input>(
     requires failures { CanFail (R.failures input.old) }
     requires between { inbox.old.place ≡ BetweenCalls }
     ensures arrives { (came : List ℕ)
-        × Consumes (R.remaining input.old) (R.remaining input.new) came
+        × Advances (R.tape input.old) (R.tape input.new) came
         × CallArrives result inbox.old inbox.new came }
-    ensures ended { result ≡ Ok arrival.Nothing → IsAtEnd (R.remaining input.new) }
-    ensures cut { result ≡ Ok arrival.CutShort → IsAtEnd (R.remaining input.new) }
+    ensures ended { result ≡ Ok arrival.Nothing → IsAtEnd (R.tape input.new).left }
+    ensures cut { result ≡ Ok arrival.CutShort → IsAtEnd (R.tape input.new).left }
     ensures counted { CountsTransport result (R.failures input.old) (R.failures input.new) }
     ensures fewer { IfOk result (λ found. FallsForCall found
         (work_left (R.turns input.new) inbox.new < work_left (R.turns input.old) inbox.old)) }
@@ -73,9 +73,9 @@ fn read_request<R: Input>(
     requires failures { CanFail (R.failures input.old) }
     requires inside { inbox.old.place ≡ InsideCall }
     ensures arrives { (came : List ℕ)
-        × Consumes (R.remaining input.old) (R.remaining input.new) came
+        × Advances (R.tape input.old) (R.tape input.new) came
         × RequestArrives result path.now inbox.old inbox.new came }
-    ensures ended { result ≡ Ok None → IsAtEnd (R.remaining input.new) }
+    ensures ended { result ≡ Ok None → IsAtEnd (R.tape input.new).left }
     ensures counted { CountsTransport result (R.failures input.old) (R.failures input.new) }
     ensures fewer { IfOk result (λ found. OnSome found
         (work_left (R.turns input.new) inbox.new < work_left (R.turns input.old) inbox.old)) }

@@ -1,7 +1,8 @@
 //! Laws of connections. Each function here does nothing: its contract is a law.
 
 ghost use Rattle.flight_calls.specs.Joining.{LaterCallsSee, SeatsMeetJoined};
-ghost use Rattle.flight_calls.specs.Laws.{FailedReadsAnswerAll, PutsAreMade, AnswersAreARun, ServedMeetsHeadline, AllKeptAsksNothing};
+ghost use Rattle.flight_calls.specs.Laws.{FailedReadsAnswerAll, NewConnectionsAreWhole, PutsAreMade, AnswersAreARun};
+ghost use Rattle.flight_calls.specs.Laws.{ServedMeetsHeadline, AllKeptAsksNothing};
 
 use crate::backend::Backend;
 pub use flight_core::laws::joined;
@@ -10,6 +11,12 @@ use flight_core::laws::runs_meet_headline;
 /// Where a read failed, a server has answered each whole call that came before, over any backend.
 pub fn failed_reads_answer_all<B: Backend>()
     ensures { FailedReadsAnswerAll B.moves }
+{}
+
+/// Of a connection that was new, all bytes that its reads gave are those of its whole calls and of a rest, and all bytes that
+/// it holds are a beginning of what is owed for them, over any backend.
+pub fn new_connections_are_whole<B: Backend>()
+    ensures { NewConnectionsAreWhole B.moves }
 {}
 
 /// A connection makes the accepted puts and the marks of its whole calls, in order, and no other entry but the marks of expiries

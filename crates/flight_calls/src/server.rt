@@ -39,9 +39,9 @@ pub fn serve<R: Input, W: Output, B: Backend, X: Executor>(
     requires reads { CanFail (R.failures reader.old) }
     requires writes { CanFail (W.failures writer.old) }
     ensures { Serves B.moves setting.now.options result
-        (connection_of (R.remaining reader.old) (W.contents writer.old)
+        (connection_of (R.tape reader.old) (W.contents writer.old)
         (R.failures reader.old) (W.failures writer.old) (B.seat backend.old))
-        (connection_of (R.remaining reader.new) (W.contents writer.new)
+        (connection_of (R.tape reader.new) (W.contents writer.new)
         (R.failures reader.new) (W.failures writer.new) (B.seat backend.new)) }
 {
     let alloc = setting.alloc;
@@ -75,9 +75,9 @@ pub fn serve_alone<R: Input, W: Output, X: Executor>(
     requires reads { CanFail (R.failures reader.old) }
     requires writes { CanFail (W.failures writer.old) }
     ensures { (seat : Seat) × Serves alone setting.now.options result
-        (connection_of (R.remaining reader.old) (W.contents writer.old)
+        (connection_of (R.tape reader.old) (W.contents writer.old)
         (R.failures reader.old) (W.failures writer.old) (seat_of [] 0))
-        (connection_of (R.remaining reader.new) (W.contents writer.new)
+        (connection_of (R.tape reader.new) (W.contents writer.new)
         (R.failures reader.new) (W.failures writer.new) seat) }
 {
     match Plain::new(setting.alloc, seed) {

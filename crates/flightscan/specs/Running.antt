@@ -49,7 +49,7 @@ desk_in standard = desk_of standard.out standard.faults
 
 -- the input and the output as a connection, with the seat of its backend
 abbrev pub connection_in : Standard → Seat → Connection
-connection_in standard seat = connection_of standard.input.left standard.out.bytes standard.input.failed standard.out.failures seat
+connection_in standard seat = connection_of standard.input.tape standard.out.bytes standard.input.failed standard.out.failures seat
 
 -- ---- requests of clients
 

@@ -1,5 +1,5 @@
 -- Groups of parts of the batches, and what merging those of the next part gives.
-use Rattle.std.proofs.Common.{◌≡◌, ◌≤◌, ◌+◌, ◌-◌, ℕ, List, ◌++◌, length, take, Result, Ok, Err, sym, ap, ◌∙◌, subst, arith}
+use Rattle.std.proofs.Common.{◌≡◌, ◌≤◌, ◌+◌, ◌-◌, ℕ, List, [], ◌∷◌, ◌++◌, length, take, Result, Ok, Err, refl, sym, ap, ◌∙◌, subst, arith}
 use Rattle.std.specs.List.{flat_map}
 use Rattle.std.specs.Result.{IfOk}
 use Rattle.std.proofs.Math.Seq.{take-add, take-length}
@@ -10,7 +10,7 @@ use Rattle.arrays.specs.Batch.{BatchAt, rows_of}
 use Rattle.scan_base.specs.Limits.{most_rows}
 use Rattle.scan_base.specs.declared.fault.Fault.{Fault}
 use Rattle.table_versions.specs.Table.{Row}
-use Rattle.grouping.specs.Fed.{GroupsAt, HasMerged, Holds, IsAlike}
+use Rattle.grouping.specs.Fed.{GroupsAt, HasMerged, Holds, IsAlike, IsNew}
 use Rattle.row_sources.specs.Picking.{PickAt, holds}
 use Rattle.group_workers.specs.Merging.{IsPartAt}
 use Rattle.group_workers.specs.Parts.{batches_before}
@@ -93,6 +93,23 @@ pub all_are : (work : GroupWorkAt) (parts given : ℕ) (groups : GroupsAt) → g
 all_are work parts given groups end all is =
     subst (λ (some : List BatchAt). AreGroupsOf work (passing work.pick (flat_map rows_of some)) groups)
     (ap (λ (n : ℕ). take (batches_before (length work.batches) parts n) work.batches) end ∙ ap (λ (n : ℕ). take n work.batches) all ∙ take-length work.batches) is
+
+no_batches : (batches : List BatchAt) → length batches ≡ 0 → [] ≡ batches
+no_batches [] none = refl
+no_batches (batch ∷ batches) none = absurd (omega (arith, none))
+
+-- where there is no part, new groups are those of all rows
+pub new_are : (work : GroupWorkAt) (parts : ℕ) (groups : GroupsAt) → parts ≡ 0 → batches_before (length work.batches) parts parts ≡ length work.batches →
+    IsNew work.batches work.types work.keys work.items groups → AreGroupsOf work (passing work.pick (flat_map rows_of work.batches)) groups
+new_are work parts groups none all new = record {
+  batches_are = new.batches_are;
+  types_are = new.types_are;
+  keys_are = new.keys_are;
+  items_are = new.items_are;
+  refused = new.refused;
+  held = subst (λ (some : List BatchAt). Holds groups (passing work.pick (flat_map rows_of some)))
+      (no_batches work.batches (sym all ∙ ap (batches_before (length work.batches) parts) none ∙ none_before (length work.batches) parts)) new.held;
+}
 
 -- a part that is begun is that of its number
 pub begun_at : (work : GroupWorkAt) (parts number from to : ℕ) (result : Result PartAt Fault) → from ≡ batches_before (length work.batches) parts number →

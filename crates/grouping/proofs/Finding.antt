@@ -12,13 +12,13 @@ use Rattle.arrays.specs.Batch.{row_of}
 use Rattle.arrays.specs.Column.{ColumnAt}
 use Rattle.table_versions.specs.Table.{Row}
 use Rattle.typed_plan.specs.Grouped.{same_key}
-use Rattle.grouping.specs.declared.key.RowKey.{RowKey}
+use Rattle.first_rows.specs.declared.key.RowKey.{RowKey}
 use Rattle.grouping.specs.declared.table.Chosen.{Chosen}
 use Rattle.grouping.specs.Fed.{batch_at}
 use Rattle.grouping.specs.Found.{key_in, place_in, found_then}
-use Rattle.grouping.specs.Keys.{key_self}
+use Rattle.first_rows.specs.Keys.{key_self}
 use Rattle.grouping.specs.inside.Placing.{ArePlaced, IsFinding, IsFirst, found_by}
-use Rattle.grouping.specs.RowKeys.{key_of, same_first}
+use Rattle.first_rows.specs.RowKeys.{key_of, same_first}
 
 pub any_map : {A B : Type 0} (f : A → B) (p : B → Bool) (xs : List A) → list_any p (map f xs) ≡ list_any (λ x. p (f x)) xs
 any_map f p [] = refl

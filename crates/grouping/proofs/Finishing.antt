@@ -46,7 +46,7 @@ use Rattle.grouping.specs.inside.Answering.{first_cell}
 use Rattle.grouping.specs.inside.Finishing.{groups_in, CanAnswer, item_cells, AllFit, IsItemColumn, IsBatchOf, IsNextOf}
 use Rattle.grouping.proofs.Batching.{ranged_any, rows_of_cells}
 use Rattle.grouping.proofs.Feeding.{has_each}
-use Rattle.grouping.proofs.KeyCells.{key_there}
+use Rattle.first_rows.proofs.KeyCells.{key_there}
 
 pub if_ok_three : {T E : Type 0} (P Q R S : T → Type 0) → ((x : T) → P x → Q x → R x → S x) → (r : Result T E) → IfOk r P → IfOk r Q → IfOk r R → IfOk r S
 if_ok_three P Q R S f (Ok x) p q r = f x p q r

@@ -8,13 +8,13 @@ use Rattle.scan_base.specs.declared.value.Value.{Value}
 use Rattle.scan_base.specs.Predicate.{cell_in}
 use Rattle.arrays.specs.Batch.{BatchAt, row_of}
 use Rattle.grouping.specs.declared.key.Place.{Place}
-use Rattle.grouping.specs.declared.key.RowKey.{RowKey}
+use Rattle.first_rows.specs.declared.key.RowKey.{RowKey}
 use Rattle.grouping.specs.Answered.{answer_rows, row_at}
 use Rattle.array_select.specs.Room.{most_batch_rows}
 use Rattle.grouping.specs.Answers.{AnswersAt, Finishes, GivesGroups, IsOver, IsThere, answers_ahead, groups_at, keys_at, row_in}
 use Rattle.grouping.specs.Fed.{GroupsAt, AreTyped}
 use Rattle.grouping.specs.Found.{key_in}
-use Rattle.grouping.specs.RowKeys.{key_of}
+use Rattle.first_rows.specs.RowKeys.{key_of}
 use Rattle.grouping.specs.inside.Finishing.{IsNextOf, group_count}
 use Rattle.grouping.specs.inside.Placing.{IsFirst, found_by, place_of}
 use Rattle.grouping.proofs.Finishing.{next_given}

@@ -8,11 +8,16 @@ use Rattle.std.proofs.lemmas.List.Sums.{fold-append}
 use Rattle.indexmap.specs.IndexSet.{insert_all, insert_key}
 use Rattle.scan_base.specs.declared.value.Value.{Value}
 use Rattle.table_versions.specs.Table.{Row}
+use Rattle.std.specs.Prelude.{Option}
+use Rattle.arrays.specs.Batch.{BatchAt}
+use Rattle.coded_keys.specs.declared.numbers.SeenNumber.{SeenNumber}
+use Rattle.coded_keys.specs.Numbers.{AreNumbers}
+use Rattle.grouping.specs.Fed.{batch_at}
 use Rattle.typed_plan.specs.Grouped.{same_key}
-use Rattle.grouping.specs.declared.key.RowKey.{RowKey}
+use Rattle.first_rows.specs.declared.key.RowKey.{RowKey}
 use Rattle.grouping.specs.Found.{key_in, place_in, found_in, found_then, first_found}
-use Rattle.grouping.specs.Keys.{key_sound}
-use Rattle.grouping.specs.RowKeys.{key_of, same_first}
+use Rattle.first_rows.specs.Keys.{key_sound}
+use Rattle.first_rows.specs.RowKeys.{key_of, same_first}
 use Rattle.grouping.specs.inside.Merging.{AreJoined, FirstsJoin}
 use Rattle.grouping.specs.inside.Placing.{IsFirst, found_by}
 use Rattle.grouping.proofs.Finding.{all_inserted, insert_map, more_there, place_inserted, place_new, place_stays, place_there}
@@ -173,3 +178,18 @@ pub alone_joined : (columns : List ℕ) (firsts others : List RowKey) → nat_eq
 alone_joined [] firsts others empty = (refl, record { long = refl; each = one_place; there = one_there })
 alone_joined (column ∷ columns) firsts others empty =
     let no_key : nat_eq (length (column ∷ columns)) 0 ≡ false = ne_eqb _ _ (λ (h : length (column ∷ columns) ≡ 0). omega arith) in cc
+
+-- ---- numbers of texts that were seen
+
+-- what was seen in the batch of a first row
+pub seen_of : (numbers : Value → Option ℕ) (batches : List BatchAt) (keys : List ℕ) (first : RowKey) (places : List (Option SeenNumber)) → IsFirst batches keys first →
+    AreNumbers numbers (batch_at batches first.number) keys places → AreNumbers numbers first.batch.now first.columns.now places
+seen_of numbers batches keys first places at seen =
+    subst (λ (columns : List ℕ). AreNumbers numbers first.batch.now columns places) (sym at.keyed)
+    (subst (λ (batch : BatchAt). AreNumbers numbers batch keys places) (sym at.stands.same) seen)
+
+pub seen_in : (numbers : Value → Option ℕ) (batches : List BatchAt) (keys : List ℕ) (first : RowKey) (places : List (Option SeenNumber)) → IsFirst batches keys first →
+    AreNumbers numbers first.batch.now first.columns.now places → AreNumbers numbers (batch_at batches first.number) keys places
+seen_in numbers batches keys first places at seen =
+    subst (λ (batch : BatchAt). AreNumbers numbers batch keys places) at.stands.same
+    (subst (λ (columns : List ℕ). AreNumbers numbers first.batch.now columns places) at.keyed seen)

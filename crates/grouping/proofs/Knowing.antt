@@ -10,11 +10,11 @@ use Rattle.std.proofs.lemmas.List.Elements.{All-set}
 use Rattle.indexmap.specs.IndexSet.{insert_key}
 use Rattle.scan_base.specs.declared.value.Value.{Value}
 use Rattle.typed_plan.specs.Grouped.{same_key}
-use Rattle.grouping.specs.declared.key.RowKey.{RowKey}
+use Rattle.first_rows.specs.declared.key.RowKey.{RowKey}
 use Rattle.grouping.specs.declared.known.Known.{Known}
 use Rattle.table_versions.specs.Table.{Row}
 use Rattle.grouping.specs.Found.{found_then, key_in, place_in}
-use Rattle.grouping.specs.RowKeys.{key_of, same_first}
+use Rattle.first_rows.specs.RowKeys.{key_of, same_first}
 use Rattle.grouping.specs.inside.Knowing.{AreKnown, AreNothing, IsKnown, nothing}
 use Rattle.grouping.proofs.Finding.{any_map, insert_map, more_there, place_inserted, place_new, place_stays}
 

@@ -1,4 +1,3 @@
-pub mod KeyCells
 pub mod Finding
 pub mod Sharing
 pub mod Feeding

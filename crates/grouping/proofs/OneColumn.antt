@@ -16,7 +16,7 @@ use Rattle.group_slots.specs.Slots.{HaveRoom, entry_cell, slot_cell}
 use Rattle.group_slots.proofs.Slotted.{cell_slot}
 use Rattle.grouping.specs.Found.{key_in}
 use Rattle.grouping.specs.inside.Knowing.{AreEntryKeys, AreKeys, AreTagged}
-use Rattle.grouping.proofs.KeyCells.{key_there}
+use Rattle.first_rows.proofs.KeyCells.{key_there}
 
 -- a column of the batch is the one key
 pub record IsOnly (keys : List ℕ) (batch : BatchAt) (found : ColumnAt) : Type 0 where

@@ -2,6 +2,4 @@ pub mod Answered
 pub mod Answers
 pub mod Fed
 pub mod Found
-pub mod Keys
-pub mod RowKeys
 pub mod inside

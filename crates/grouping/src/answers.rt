@@ -11,11 +11,12 @@ ghost use Rattle.grouping.specs.inside.Placing.{found_by, place_of};
 use crate::batches::Answer;
 use crate::groups::Grouping;
 use crate::kept::Kept;
-use crate::key::{Place, RowKey};
+use crate::key::Place;
 use array_select::MOST_BATCH_ROWS;
 use arrays::Batch;
 use arrow_schema::DataType;
 use batch_room::{next_most, tried_rows};
+use first_rows::FirstRows;
 use group_slots::ItemTallies;
 use std::alloc::{AllocError, Global};
 use std::marker::Model;
@@ -87,7 +88,7 @@ impl Answers {
             types: copied(alloc, shape.types)?,
             keys: copied(alloc, shape.keys)?,
             items: copied(alloc, shape.items)?,
-            firsts: places(alloc, firsts.as_slice())?,
+            firsts: places(alloc, &firsts)?,
             tallies,
             given: 0,
             most: MOST_BATCH_ROWS,
@@ -146,11 +147,12 @@ fn copied<T: Copy>(alloc: Global, elements: &[T]) -> Result<Vec<T>, AllocError>
 }
 
 // Where first rows stand.
-fn places(alloc: Global, firsts: &[RowKey<'_>]) -> Result<Vec<Place>, AllocError>
-    ensures { IfOk result (λ places. places.items ≡ map place_of firsts.now) }
+fn places(alloc: Global, firsts: &FirstRows<'_>) -> Result<Vec<Place>, AllocError>
+    ensures { IfOk result (λ places. places.items ≡ map place_of firsts.now.keys) }
 {
     let mut places = Vec::with_capacity(alloc, firsts.len())?;
-    for first in firsts {
+    for place in 0..firsts.len() {
+        let first = firsts.get(place);
         places.push(Place {
             batch: first.number,
             row: first.row,

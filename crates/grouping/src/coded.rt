@@ -1,19 +1,18 @@
 //! Groups of rows by the codes of their keys.
 
-ghost use Rattle.std.specs.Prelude.{◌≡◌, ◌<◌, All, IfOk, IsTrue, OnOk, get_or, length, map, nat_lt};
+ghost use Rattle.std.specs.Prelude.{◌≡◌, ◌<◌, All, IfOk, IfSome, IsTrue, OnOk, get_or, length, map, nat_lt};
 ghost use Rattle.std.specs.List.{list_all};
 ghost use Rattle.indexmap.specs.IndexSet.{insert_key};
 ghost use Rattle.arrays.specs.Batch.{row_of};
+ghost use Rattle.first_rows.specs.Firsts.{FitSeen};
 ghost use Rattle.grouping.specs.Found.{found_then, place_in};
 ghost use Rattle.grouping.specs.inside.Placing.{ArePlaced, FirstsStay};
-ghost use Rattle.grouping.specs.RowKeys.{key_of, same_first};
+ghost use Rattle.first_rows.specs.RowKeys.{key_of, same_first};
 
-use crate::key::RowKey;
-use crate::known::short_group;
+use crate::known::short;
 use crate::table::{Chosen, groups_one_by_one};
-use coded_keys::{KeyRows, SeenRows};
-use hash_seed::HashSeed;
-use indexmap::IndexSet;
+use coded_keys::{KeyRows, SeenNumbers, SeenRows};
+use first_rows::{FirstRows, RowKey};
 use std::alloc::{AllocError, Global};
 
 /// The group of each of these rows, by the first rows. Where a column of the key has indices into a dictionary, a row with the
@@ -24,7 +23,7 @@ use std::alloc::{AllocError, Global};
 /// `AllocError` where memory is refused.
 pub(crate) fn groups_by_codes<'t>(
     alloc: Global,
-    firsts: &mut IndexSet<RowKey<'t>, HashSeed>,
+    firsts: &mut FirstRows<'t>,
     chosen: &Chosen<'t, '_>,
 ) -> Result<Vec<u32>, AllocError>
     requires there { IsTrue (list_all (λ column. nat_lt column (length chosen.now.batch.now.columns)) chosen.now.columns.now) }
@@ -43,7 +42,8 @@ pub(crate) fn groups_by_codes<'t>(
     if !keys.has_codes() {
         return groups_one_by_one(alloc, firsts, chosen);
     }
-    let mut seen = SeenRows::new(alloc, *firsts.hasher(), chosen.rows.len())?;
+    let mut seen = SeenRows::new(alloc, firsts.seed(), chosen.rows.len())?;
+    let mut numbers = SeenNumbers::new(alloc, firsts.seed(), chosen.columns.len());
     let mut groups = Vec::with_capacity(alloc, chosen.rows.len())?;
     for place in 0..chosen.rows.len() {
         let first = RowKey {
@@ -53,26 +53,38 @@ pub(crate) fn groups_by_codes<'t>(
             row: chosen.rows[place],
         };
         let earlier = seen.earlier(&keys, place);
-        let group = coded_group(firsts, groups.as_slice(), earlier, first)?;
-        groups.push(group)?;
+        let known = told(groups.as_slice(), earlier);
+        groups.push(coded_group(firsts, &mut numbers, known, first)?)?;
     }
     Ok(groups)
 }
 
-// The group of a row: that of an earlier one, which has its key, or else by the first rows.
-fn coded_group<'t>(
-    firsts: &mut IndexSet<RowKey<'t>, HashSeed>,
-    groups: &[u32],
-    earlier: usize,
-    first: RowKey<'t>,
-) -> Result<u32, AllocError>
-    requires { earlier < length groups.now → (get_or groups.now earlier 0 ≡ place_in (map key_of firsts.old.keys) (key_of first))
-        × (get_or groups.now earlier 0 < length (map key_of firsts.old.keys)) }
-    ensures inserted { OnOk result (firsts.new.keys ≡ insert_key same_first firsts.old.keys first.entry) }
-    ensures place { IfOk result (λ group. group ≡ place_in (map key_of firsts.old.keys) (key_of first.entry)) }
+// The group of an earlier row, where it is known.
+fn told(groups: &[u32], earlier: usize) -> Option<u32>
+    ensures { IfSome result (λ group. (earlier < length groups.now) × (group ≡ get_or groups.now earlier 0)) }
 {
     if earlier < groups.len() {
-        return Ok(groups[earlier]);
+        Some(groups[earlier])
+    } else {
+        None
     }
-    short_group(firsts, first)
+}
+
+// The group of a row: that of an earlier one, which has its key, or else by the first rows.
+fn coded_group<'t>(
+    firsts: &mut FirstRows<'t>,
+    seen: &mut SeenNumbers,
+    told: Option<u32>,
+    first: RowKey<'t>,
+) -> Result<u32, AllocError>
+    requires told { IfSome told (λ group. (group ≡ place_in (map key_of firsts.old.keys) (key_of first)) × (group < length (map key_of firsts.old.keys))) }
+    requires seen { FitSeen firsts.old.texts first seen.old }
+    ensures inserted { OnOk result (firsts.new.keys ≡ insert_key same_first firsts.old.keys first.entry) }
+    ensures place { IfOk result (λ group. group ≡ place_in (map key_of firsts.old.keys) (key_of first.entry)) }
+    ensures seen { FitSeen firsts.new.texts first.entry seen.new }
+{
+    if let Some(group) = told {
+        return Ok(group);
+    }
+    short(firsts.insert_seen(seen, first)?)
 }

@@ -9,12 +9,13 @@ ghost use Rattle.grouping.specs.Fed.{AreTyped, HasItems, IsAlike, IsNew, Feeds, 
 
 use crate::answers::Answers;
 use crate::kept::{Kept, add, blank, found_count, join};
+use crate::known::SPREAD;
 use crate::table::Chosen;
 use array_select::Selection;
 use arrays::Batch;
 use arrow_schema::DataType;
+use first_rows::FirstRows;
 use hash_seed::HashSeed;
-use indexmap::IndexSet;
 use scan_base::Fault;
 use std::alloc::{AllocError, Global};
 use std::marker::Model;
@@ -50,6 +51,19 @@ impl Drop for Groups<'_> {
     }
 }
 
+// Whether the texts of keys have numbers: where one of several columns is of a dictionary.
+fn have_numbers(shape: &Grouping<'_>) -> bool {
+    if shape.keys.len() < 2 {
+        return false;
+    }
+    for key in shape.keys {
+        if let Some(DataType::Dictionary(_)) = shape.types.get(*key) {
+            return true;
+        }
+    }
+    false
+}
+
 impl<'t> Model for Groups<'t> {
     ghost use Rattle.group_slots.specs.Adding.{lists_of};
     ghost use Rattle.grouping.specs.Fed.{GroupsAt};
@@ -83,7 +97,7 @@ impl<'t> Groups<'t> {
         requires has { HasItems shape.types.now shape.keys.now shape.items.now }
         ensures { IfOk result (IsNew (shape.entry).batches.now (shape.entry).types.now (shape.entry).keys.now (shape.entry).items.now) }
     {
-        let firsts = IndexSet::with_hasher(alloc, seed);
+        let firsts = FirstRows::new(alloc, seed, have_numbers(&shape));
         let groups = found_count(shape.keys, &firsts);
         let tallies = blank(alloc, shape.items.len(), groups)?;
         Ok(Groups {
@@ -117,6 +131,7 @@ impl<'t> Groups<'t> {
             batch: &self.shape.batches[number],
             columns: self.shape.keys,
             rows: selection.places(),
+            spread: SPREAD,
         };
         match add(alloc, self.shape.items, &mut self.kept, &chosen) {
             Ok(()) => Ok(()),

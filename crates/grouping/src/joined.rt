@@ -7,15 +7,14 @@ ghost use Rattle.typed_plan.specs.Grouped.{same_key};
 ghost use Rattle.group_slots.specs.Adding.{IsKept, lists_of};
 ghost use Rattle.group_slots.specs.Counting.{AreWithin, counted_in};
 ghost use Rattle.group_slots.specs.Held.{count_tallies, tallies_in};
-ghost use Rattle.grouping.specs.RowKeys.{key_of};
+ghost use Rattle.first_rows.specs.RowKeys.{key_of};
 ghost use Rattle.grouping.specs.inside.Merging.{AllJoined, AreJoined, FirstsJoin, IsJoined, joined};
-ghost use Rattle.grouping.specs.inside.Placing.{found_by};
+ghost use Rattle.grouping.specs.inside.Placing.{found_by, IsFirst};
 
-use crate::key::RowKey;
-use crate::table::group_of;
+use crate::groups::Grouping;
+use crate::seen::SeenBatch;
+use first_rows::FirstRows;
 use group_slots::{ItemTallies, Tally, widened};
-use hash_seed::HashSeed;
-use indexmap::IndexSet;
 use std::alloc::{AllocError, Global};
 use typed_plan::Aggregate;
 
@@ -35,37 +34,43 @@ pub(crate) struct Others<'p> {
 /// `AllocError` where memory is refused.
 pub(crate) fn join_firsts<'t>(
     alloc: Global,
-    columns: &[usize],
-    firsts: &mut IndexSet<RowKey<'t>, HashSeed>,
-    others: &IndexSet<RowKey<'t>, HashSeed>,
+    shape: &Grouping<'t>,
+    firsts: &mut FirstRows<'t>,
+    others: &FirstRows<'t>,
 ) -> Result<Vec<usize>, AllocError>
-    ensures found { OnOk result (found_by columns.now firsts.new.keys
-        ≡ insert_all same_key (found_by columns.now firsts.old.keys) (found_by columns.now others.now.keys)) }
-    ensures joined { IfOk result (λ groups. AreJoined (found_by columns.now firsts.new.keys) (found_by columns.now others.now.keys) groups.items
-        (length (found_by columns.now others.now.keys))) }
+    requires others { All (IsFirst shape.now.batches.now shape.now.keys.now) others.now.keys }
+    ensures found { OnOk result (found_by shape.now.keys.now firsts.new.keys
+        ≡ insert_all same_key (found_by shape.now.keys.now firsts.old.keys) (found_by shape.now.keys.now others.now.keys)) }
+    ensures joined { IfOk result (λ groups. AreJoined (found_by shape.now.keys.now firsts.new.keys) (found_by shape.now.keys.now others.now.keys) groups.items
+        (length (found_by shape.now.keys.now others.now.keys))) }
     ensures firsts { OnOk result (FirstsJoin firsts.old.keys others.now.keys firsts.new.keys) }
 {
-    if columns.is_empty() {
+    if shape.keys.is_empty() {
         let mut groups = Vec::with_capacity(alloc, 1)?;
         groups.push(0)?;
         return Ok(groups);
     }
-    join_each(alloc, firsts, others.as_slice())
+    join_each(alloc, shape, firsts, others)
 }
 
-// The group that each of these first rows joins, or opens behind all others.
+// The group that each of these first rows joins, or opens behind all others. A text is looked at once for its code in a batch.
 fn join_each<'t>(
     alloc: Global,
-    firsts: &mut IndexSet<RowKey<'t>, HashSeed>,
-    others: &[RowKey<'t>],
+    shape: &Grouping<'t>,
+    firsts: &mut FirstRows<'t>,
+    others: &FirstRows<'t>,
 ) -> Result<Vec<usize>, AllocError>
-    ensures found { OnOk result (map key_of firsts.new.keys ≡ insert_all same_key (map key_of firsts.old.keys) (map key_of others.now)) }
-    ensures joined { IfOk result (λ groups. AreJoined (map key_of firsts.new.keys) (map key_of others.now) groups.items (length (map key_of others.now))) }
-    ensures firsts { OnOk result (FirstsJoin firsts.old.keys others.now firsts.new.keys) }
+    requires others { All (IsFirst shape.now.batches.now shape.now.keys.now) others.now.keys }
+    ensures found { OnOk result (map key_of firsts.new.keys ≡ insert_all same_key (map key_of firsts.old.keys) (map key_of others.now.keys)) }
+    ensures joined { IfOk result (λ groups. AreJoined (map key_of firsts.new.keys) (map key_of others.now.keys) groups.items (length (map key_of others.now.keys))) }
+    ensures firsts { OnOk result (FirstsJoin firsts.old.keys others.now.keys firsts.new.keys) }
 {
+    let mut seen = SeenBatch::new(alloc, firsts.seed(), shape.keys.len());
     let mut groups = Vec::with_capacity(alloc, others.len())?;
-    for other in others {
-        groups.push(group_of(firsts, *other)?)?;
+    for place in 0..others.len() {
+        let other = others.get(place);
+        seen.turn_to(other.number);
+        groups.push(firsts.insert_seen(&mut seen.numbers, other)?)?;
     }
     Ok(groups)
 }

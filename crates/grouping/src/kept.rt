@@ -9,20 +9,18 @@ ghost use Rattle.group_slots.specs.Adding.{CanCountAll, IsKept, lists_of};
 ghost use Rattle.group_slots.specs.Held.{tallies_in, AreBlank};
 ghost use Rattle.group_slots.specs.Tagged.{value_tagged};
 ghost use Rattle.grouping.specs.Found.{found_then};
-ghost use Rattle.grouping.specs.RowKeys.{key_of};
+ghost use Rattle.first_rows.specs.RowKeys.{key_of};
 ghost use Rattle.grouping.specs.inside.Adding.{IsGrown};
 ghost use Rattle.grouping.specs.inside.Knowing.{AreKnown};
 ghost use Rattle.grouping.specs.inside.Merging.{FirstsJoin, IsMerged};
-ghost use Rattle.grouping.specs.inside.Placing.{found_by, ArePlaced, FirstsStay};
+ghost use Rattle.grouping.specs.inside.Placing.{found_by, ArePlaced, FirstsStay, IsFirst};
 
 use crate::groups::Grouping;
 use crate::joined::{Others, join_all, join_firsts};
-use crate::key::RowKey;
 use crate::known::{Known, know_nothing, known_count};
 use crate::table::{Chosen, place_rows};
+use first_rows::FirstRows;
 use group_slots::{ItemTallies, Part, add_all};
-use hash_seed::HashSeed;
-use indexmap::IndexSet;
 use std::alloc::{AllocError, Global};
 use typed_plan::Aggregate;
 
@@ -36,7 +34,7 @@ const LEAST_GROUPS: usize = 256;
 /// a number.
 #[derive(Drop)]
 pub(crate) struct Kept<'t> {
-    pub(crate) firsts: IndexSet<RowKey<'t>, HashSeed>,
+    pub(crate) firsts: FirstRows<'t>,
     pub(crate) tallies: Vec<ItemTallies>,
     pub(crate) count: usize,
     pub(crate) known: Vec<Known>,
@@ -129,11 +127,12 @@ fn make_known(known: &mut Vec<Known>, found: usize, rows: usize) -> Result<(), A
 /// `AllocError` where memory is refused.
 pub(crate) fn join<'t>(
     alloc: Global,
-    shape: &Grouping<'_>,
+    shape: &Grouping<'t>,
     kept: &mut Kept<'t>,
     other: &Kept<'t>,
 ) -> Result<(), AllocError>
     requires few { kept.old.count + other.now.count ≤ most_rows }
+    requires firsts { All (IsFirst shape.now.batches.now shape.now.keys.now) other.now.firsts.keys }
     requires kept { IsKept shape.now.items.now (length (found_by shape.now.keys.now kept.old.firsts.keys)) kept.old.count (lists_of kept.old.tallies.items) }
     requires other { IsKept shape.now.items.now (length (found_by shape.now.keys.now other.now.firsts.keys)) other.now.count (lists_of other.now.tallies.items) }
     ensures merged { OnOk result (IsMerged (found_by shape.now.keys.now kept.old.firsts.keys) (found_by shape.now.keys.now other.now.firsts.keys)
@@ -145,7 +144,7 @@ pub(crate) fn join<'t>(
     ensures known { OnOk result (AreKnown value_tagged (map key_of kept.new.firsts.keys) kept.new.known.items) }
 {
     know_nothing(&mut kept.known, 0)?;
-    let groups = join_firsts(alloc, shape.keys, &mut kept.firsts, &other.firsts)?;
+    let groups = join_firsts(alloc, shape, &mut kept.firsts, &other.firsts)?;
     let found = found_count(shape.keys, &kept.firsts);
     let others = Others {
         tallies: other.tallies.as_slice(),
@@ -159,7 +158,7 @@ pub(crate) fn join<'t>(
 }
 
 /// How many groups there are.
-pub(crate) fn found_count(columns: &[usize], firsts: &IndexSet<RowKey<'_>, HashSeed>) -> usize
+pub(crate) fn found_count(columns: &[usize], firsts: &FirstRows<'_>) -> usize
     ensures { result ≡ length (found_by columns.now firsts.now.keys) }
 {
     if columns.is_empty() {

@@ -4,15 +4,15 @@ ghost use Rattle.std.specs.Prelude.{◌≡◌, ◌≤◌, ◌<◌, ◌==◌, ◌
 ghost use Rattle.std.specs.List.{list_all};
 ghost use Rattle.indexmap.specs.IndexSet.{insert_key};
 ghost use Rattle.grouping.specs.Found.{place_in};
-ghost use Rattle.grouping.specs.RowKeys.{key_of, same_first};
+ghost use Rattle.first_rows.specs.RowKeys.{key_of, same_first};
 ghost use Rattle.grouping.specs.inside.Knowing.{AreKnown, AreNothing, AreTagged, GoOn, IsTold};
 
-use crate::key::RowKey;
 use crate::table::{Chosen, group_of};
+use first_rows::{FirstRows, RowKey};
 use group_slots::{NOTHING, Tag, Tags};
 use hash_seed::HashSeed;
-use indexmap::IndexSet;
 use std::alloc::AllocError;
+use std::hash::{BuildHasher, Hasher};
 
 /// The tag of a key, and the place of its group; none where the kind is `NOTHING`.
 #[derive(Clone, Copy, Drop)]
@@ -76,8 +76,21 @@ pub(crate) fn known_count(found: usize, rows: usize) -> usize
     }
 }
 
-/// How many indices may be known of so many rows, where a dictionary has so many entries. Indices that follow each other have
-/// places apart.
+/// By which number keys are spread: those that follow each other have places apart.
+pub(crate) const SPREAD: u64 = 0x9E37_79B9_7F4A_7C15;
+
+/// By which number the indices of so many entries of a dictionary are spread over so many places, a power of two. Each has a place
+/// of its own where there are enough. Else a secret spreads them, so that no client can choose two that share a place: the text
+/// of each would be looked at for each of their rows.
+pub(crate) fn index_spread(entries: usize, places: usize, seed: HashSeed) -> u64 {
+    if entries <= places {
+        let mask = places.saturating_sub(1) as u64;
+        return 1_u64.wrapping_shl(mask.leading_zeros());
+    }
+    seed.build_hasher().finish() | 1
+}
+
+/// How many indices may be known of so many rows, where a dictionary has so many entries.
 pub(crate) fn index_count(entries: usize, rows: usize) -> usize
     ensures { 0 < result }
 {
@@ -94,13 +107,13 @@ pub(crate) fn index_count(entries: usize, rows: usize) -> usize
 }
 
 // The place of a tag among so many entries, a power of two of them or any other number. No contract rests on it.
-fn place_of(tag: Tag, entries: usize) -> usize
+fn place_of(tag: Tag, entries: usize, spread: u64) -> usize
     requires { 0 < entries }
     ensures { result < entries }
 {
     let mask = entries - 1;
-    let spread = (tag.key ^ tag.kind as u64).wrapping_mul(0x9E37_79B9_7F4A_7C15);
-    spread.wrapping_shr((mask as u64).leading_zeros()) as usize & mask
+    let product = (tag.key ^ tag.kind as u64).wrapping_mul(spread);
+    product.wrapping_shr((mask as u64).leading_zeros()) as usize & mask
 }
 
 /// The group of a row, whose key has this tag: by what is known, or else by the first rows. It is opened where the row's
@@ -110,10 +123,11 @@ fn place_of(tag: Tag, entries: usize) -> usize
 ///
 /// `AllocError` where memory is refused.
 pub(crate) fn known_group<'t, T: Tags>(
-    firsts: &mut IndexSet<RowKey<'t>, HashSeed>,
+    firsts: &mut FirstRows<'t>,
     known: &mut [Known],
     tags: &T,
     first: RowKey<'t>,
+    spread: u64,
 ) -> Result<u32, AllocError>
     requires some { 0 < length known.old }
     requires there { first.row < T.count tags.now }
@@ -125,7 +139,7 @@ pub(crate) fn known_group<'t, T: Tags>(
     ensures long { OnOk result (length known.new ≡ length known.old) }
 {
     let tag = tags.tag(first.row as usize);
-    let at = place_of(tag, known.len());
+    let at = place_of(tag, known.len(), spread);
     let entry = known[at];
     if entry.is_of(tag) {
         return Ok(entry.group);
@@ -140,14 +154,14 @@ pub(crate) fn known_group<'t, T: Tags>(
 }
 
 // The group of a row, whose key has this tag, where it is known.
-fn told_group<T: Tags>(known: &[Known], tags: &T, first: RowKey<'_>) -> Option<u32>
+fn told_group<T: Tags>(known: &[Known], tags: &T, first: RowKey<'_>, spread: u64) -> Option<u32>
     requires some { 0 < length known.now }
     requires there { first.row < T.count tags.now }
     requires tagged { key_of first ≡ T.value tags.now first.row ∷ [] }
     ensures { IfSome result (IsTold (T.meaning tags.now) known.now first.entry) }
 {
     let tag = tags.tag(first.row as usize);
-    let at = place_of(tag, known.len());
+    let at = place_of(tag, known.len(), spread);
     let entry = known[at];
     if entry.is_of(tag) {
         Some(entry.group)
@@ -183,7 +197,7 @@ pub(crate) fn push_known<T: Tags>(
             columns: chosen.columns,
             row: chosen.rows[k],
         };
-        match told_group(known, tags, first) {
+        match told_group(known, tags, first, chosen.spread) {
             Some(group) => groups.push(group)?,
             None => return Ok(()),
         }
@@ -198,13 +212,24 @@ pub(crate) fn push_known<T: Tags>(
 /// `AllocError` where memory is refused, or 32 bits do not name the group.
 #[inline(never)]
 pub(crate) fn short_group<'t>(
-    firsts: &mut IndexSet<RowKey<'t>, HashSeed>,
+    firsts: &mut FirstRows<'t>,
     first: RowKey<'t>,
 ) -> Result<u32, AllocError>
     ensures inserted { OnOk result (firsts.new.keys ≡ insert_key same_first firsts.old.keys first.entry) }
     ensures place { IfOk result (λ group. group ≡ place_in (map key_of firsts.old.keys) (key_of first.entry)) }
 {
     let group = group_of(firsts, first)?;
+    short(group)
+}
+
+/// A group as a number of 32 bits.
+///
+/// # Errors
+///
+/// `AllocError` where 32 bits do not name it.
+pub(crate) fn short(group: usize) -> Result<u32, AllocError>
+    ensures { IfOk result (λ number. number ≡ group) }
+{
     match u32::try_from(group) {
         Ok(group) => Ok(group),
         Err(_) => Err(AllocError),

@@ -4,7 +4,6 @@
 mod answer;
 pub mod answers;
 mod batches;
-mod cell;
 mod coded;
 pub mod groups;
 mod joined;
@@ -12,6 +11,7 @@ mod kept;
 mod key;
 mod known;
 pub mod laws;
+mod seen;
 mod table;
 
 pub use crate::answers::Answers;

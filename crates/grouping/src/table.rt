@@ -8,34 +8,36 @@ ghost use Rattle.group_slots.specs.Tagged.{entry_tagged, value_tagged};
 ghost use Rattle.grouping.specs.Found.{found_then, place_in};
 ghost use Rattle.grouping.specs.inside.Knowing.{AreEntryKeys, AreKeys, AreKnown, AreTagged, StayKnown};
 ghost use Rattle.grouping.specs.inside.Placing.{found_by, ArePlaced, FirstsStay};
-ghost use Rattle.grouping.specs.RowKeys.{key_of, same_first};
+ghost use Rattle.first_rows.specs.RowKeys.{key_of, same_first};
 
 use crate::coded::groups_by_codes;
-use crate::key::RowKey;
-use crate::known::{Known, index_count, know_nothing, known_group, push_known, short_group};
+use crate::known::{
+    Known, index_count, index_spread, know_nothing, known_group, push_known, short_group,
+};
 use arrays::{Batch, Layout};
 use arrow_schema::IntegerType;
+use first_rows::{FirstRows, RowKey};
 use group_slots::{
     Entries, IndexTags, Number, NumberTags, Slots, Tags, entry_slots, integer_slots, text_tags,
 };
-use hash_seed::HashSeed;
-use indexmap::IndexSet;
 use std::alloc::{AllocError, Global};
 use std::marker::PhantomData;
 
-/// Rows of a batch, its number, and the columns whose values are their keys.
+/// Rows of a batch, its number, the columns whose values are their keys, and by which number keys are spread over the places of
+/// those that are known. No contract rests on that one.
 #[derive(Clone, Copy, Drop)]
 pub(crate) struct Chosen<'t, 'r> {
     pub(crate) number: usize,
     pub(crate) batch: &'t Batch,
     pub(crate) columns: &'t [usize],
     pub(crate) rows: &'r [u32],
+    pub(crate) spread: u64,
 }
 
 // The group of each of these rows, by the first rows of the groups. A row whose key is new opens a group behind all others.
 fn groups_of<'t>(
     alloc: Global,
-    firsts: &mut IndexSet<RowKey<'t>, HashSeed>,
+    firsts: &mut FirstRows<'t>,
     known: &mut [Known],
     chosen: &Chosen<'t, '_>,
 ) -> Result<Vec<u32>, AllocError>
@@ -75,7 +77,7 @@ fn groups_of<'t>(
 // The group of each of these rows, where these numbers are their keys.
 fn groups_of_numbers<'t>(
     alloc: Global,
-    firsts: &mut IndexSet<RowKey<'t>, HashSeed>,
+    firsts: &mut FirstRows<'t>,
     known: &mut [Known],
     slots: &Slots<'_>,
     chosen: &Chosen<'t, '_>,
@@ -110,7 +112,7 @@ fn groups_of_numbers<'t>(
 // The group of each of these rows, where these numbers of a type are their keys.
 fn groups_of_kind<'t, N: Number>(
     alloc: Global,
-    firsts: &mut IndexSet<RowKey<'t>, HashSeed>,
+    firsts: &mut FirstRows<'t>,
     known: &mut [Known],
     slots: &Slots<'_>,
     chosen: &Chosen<'t, '_>,
@@ -140,7 +142,7 @@ fn groups_of_kind<'t, N: Number>(
 // this batch alone, since another may have another dictionary.
 fn groups_of_entries<'t>(
     alloc: Global,
-    firsts: &mut IndexSet<RowKey<'t>, HashSeed>,
+    firsts: &mut FirstRows<'t>,
     entries: &Entries<'_>,
     chosen: &Chosen<'t, '_>,
 ) -> Result<Vec<u32>, AllocError>
@@ -158,6 +160,14 @@ fn groups_of_entries<'t>(
         &mut fresh,
         index_count(entries.dictionary.len(), chosen.rows.len()),
     )?;
+    let spread = index_spread(entries.dictionary.len(), fresh.len(), firsts.seed());
+    let chosen = &Chosen {
+        number: chosen.number,
+        batch: chosen.batch,
+        columns: chosen.columns,
+        rows: chosen.rows,
+        spread,
+    };
     let known = fresh.as_mut_slice();
     match entries.slots.kind {
         IntegerType::Int8 => groups_of_indices::<i8>(alloc, firsts, known, entries, chosen),
@@ -174,7 +184,7 @@ fn groups_of_entries<'t>(
 // The group of each of these rows, where these indices of a type lead to their keys.
 fn groups_of_indices<'t, N: Number>(
     alloc: Global,
-    firsts: &mut IndexSet<RowKey<'t>, HashSeed>,
+    firsts: &mut FirstRows<'t>,
     known: &mut [Known],
     entries: &Entries<'_>,
     chosen: &Chosen<'t, '_>,
@@ -202,7 +212,7 @@ fn groups_of_indices<'t, N: Number>(
 // The group of each of these rows, whose keys have tags.
 fn groups_by<'t, T: Tags>(
     alloc: Global,
-    firsts: &mut IndexSet<RowKey<'t>, HashSeed>,
+    firsts: &mut FirstRows<'t>,
     known: &mut [Known],
     tags: &T,
     chosen: &Chosen<'t, '_>,
@@ -227,7 +237,7 @@ fn groups_by<'t, T: Tags>(
             columns: chosen.columns,
             row: chosen.rows[groups.len()],
         };
-        groups.push(known_group(firsts, known, tags, first)?)?;
+        groups.push(known_group(firsts, known, tags, first, chosen.spread)?)?;
         push_known(known, tags, chosen, &mut groups)?;
     }
     Ok(groups)
@@ -240,7 +250,7 @@ fn groups_by<'t, T: Tags>(
 /// `AllocError` where memory is refused.
 pub(crate) fn groups_one_by_one<'t>(
     alloc: Global,
-    firsts: &mut IndexSet<RowKey<'t>, HashSeed>,
+    firsts: &mut FirstRows<'t>,
     chosen: &Chosen<'t, '_>,
 ) -> Result<Vec<u32>, AllocError>
     requires there { IsTrue (list_all (λ column. nat_lt column (length chosen.now.batch.now.columns)) chosen.now.columns.now) }
@@ -271,7 +281,7 @@ pub(crate) fn groups_one_by_one<'t>(
 /// `AllocError` where memory is refused.
 pub(crate) fn place_rows<'t>(
     alloc: Global,
-    firsts: &mut IndexSet<RowKey<'t>, HashSeed>,
+    firsts: &mut FirstRows<'t>,
     known: &mut [Known],
     chosen: &Chosen<'t, '_>,
 ) -> Result<Vec<u32>, AllocError>
@@ -300,14 +310,11 @@ pub(crate) fn place_rows<'t>(
 ///
 /// `AllocError` where memory is refused.
 pub(crate) fn group_of<'t>(
-    firsts: &mut IndexSet<RowKey<'t>, HashSeed>,
+    firsts: &mut FirstRows<'t>,
     first: RowKey<'t>,
 ) -> Result<usize, AllocError>
     ensures inserted { OnOk result (firsts.new.keys ≡ insert_key same_first firsts.old.keys first.entry) }
     ensures place { IfOk result (λ group. group ≡ place_in (map key_of firsts.old.keys) (key_of first.entry)) }
 {
-    match firsts.insert_full(first) {
-        Ok((group, _)) => Ok(group),
-        Err(_) => Err(AllocError),
-    }
+    firsts.insert(first)
 }

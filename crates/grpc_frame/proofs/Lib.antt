@@ -1,5 +1,6 @@
 mod Texts
 pub mod Growing
+pub mod Tapes
 pub mod Sending
 mod Found
 mod Again

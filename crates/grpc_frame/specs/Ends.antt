@@ -1,6 +1,6 @@
 -- What the calls of an end of a connection do.
-use Rattle.std.specs.Prelude.{◌≡◌, ℕ, ◌+◌, ◌<◌, List, ◌++◌, Option, Result, MatchResult}
-use Rattle.std.specs.Io.KnownBytes.{Appends}
+use Rattle.std.specs.Prelude.{◌≡◌, ℕ, ◌+◌, ◌<◌, List, [], ◌++◌, length, take, Option, Result, MatchResult}
+use Rattle.std.specs.Io.KnownBytes.{Appends, Consumes, IsAtEnd}
 use Rattle.scan_base.specs.declared.fault.Fault.{Fault}
 use Rattle.scan_base.specs.declared.fault.Fault.TheVariants.{Transport}
 
@@ -19,6 +19,31 @@ FailsByTransport result = MatchResult result (λ _. Unit {0}) (λ fault. fault �
 -- a read that gave bytes leaves fewer turns
 abbrev pub TakesTurn : {E : Type 0} → Result ℕ E → ℕ → ℕ → Type 0
 TakesTurn result old new = MatchResult result (λ count. 0 < count → new < old) (λ _. Unit {0})
+
+-- ---- what is read
+
+-- The tape of a reader: the bytes that its reads gave so far, in order, and those that they will give from here on, where
+-- these are known.
+pub record Tape : Type 0 where
+  pub given : List ℕ
+  pub left : Option (List ℕ)
+
+-- the tape with these, in that order
+abbrev pub tape_of : List ℕ → Option (List ℕ) → Tape
+tape_of given left = record { given = given; left = left }
+
+-- reads gave these bytes, and no others: where it was known what they will give, these stood in front of it
+pub record Advances (old new : Tape) (bytes : List ℕ) : Type 0 where
+  pub gave : new.given ≡ old.given ++ bytes
+  pub took : Consumes old.left new.left bytes
+
+-- One read gave so many bytes, to the front of the piece: none only at the end or with no room. One that failed gave none.
+abbrev pub ReadAdvances : {E : Type 0} → Result ℕ E → Tape → Tape → List ℕ → Type 0
+ReadAdvances result old new piece = MatchResult result
+    (λ count. Advances old new (take count piece) × (count ≡ 0 → 0 < length piece → IsAtEnd new.left))
+    (λ _. Advances old new [])
+
+-- ---- what is written
 
 -- known bytes grow by a beginning of these
 pub record AppendsBeginning (old new : Option (List ℕ)) (bytes : List ℕ) : Type 0 where

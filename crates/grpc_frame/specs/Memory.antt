@@ -1,9 +1,10 @@
 -- What ends in memory are.
 use Rattle.std.specs.Prelude.{ℕ, zero, suc, Bool, true, false, List, Option, Some, None}
 
--- A reader: the bytes that are left, the most bytes of a read, how many calls go well before one fails
+-- A reader: the bytes that it gave, those that are left, the most bytes of a read, how many calls go well before one fails
 -- (None: no call fails) and how many have failed.
 pub record Source : Type 0 where
+  pub given : List ℕ
   pub bytes : List ℕ
   pub most : ℕ
   pub plan : Option ℕ

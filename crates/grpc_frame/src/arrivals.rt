@@ -1,8 +1,8 @@
 //! Records of an input that comes in pieces.
 
 ghost use Rattle.std.specs.Prelude.{◌≡◌, ◌<◌, ℕ, List, Ok, None, IfOk, OnSome};
-ghost use Rattle.std.specs.Io.KnownBytes.{Consumes, IsAtEnd};
-ghost use Rattle.grpc_frame.specs.Ends.{CanFail};
+ghost use Rattle.std.specs.Io.KnownBytes.{IsAtEnd};
+ghost use Rattle.grpc_frame.specs.Ends.{Advances, CanFail};
 ghost use Rattle.grpc_frame.specs.Arrivals.{Arrives, CountsTransport, work_left};
 
 use crate::ends::Input;
@@ -22,9 +22,9 @@ impl Inbox {
     pub fn next_from<R: Input>(&mut self, input: &mut R) -> Result<Option<Record>, Fault>
         requires { CanFail (R.failures input.old) }
         ensures arrives { (came : List ℕ)
-            × Consumes (R.remaining input.old) (R.remaining input.new) came
+            × Advances (R.tape input.old) (R.tape input.new) came
             × Arrives result self.old self.new came }
-        ensures end { result ≡ Ok None → IsAtEnd (R.remaining input.new) }
+        ensures end { result ≡ Ok None → IsAtEnd (R.tape input.new).left }
         ensures counted { CountsTransport result (R.failures input.old) (R.failures input.new) }
         ensures fewer { IfOk result (λ found. OnSome found
             (work_left (R.turns input.new) self.new < work_left (R.turns input.old) self.old)) }

@@ -1,8 +1,8 @@
 //! The block of memory that what comes is read into.
 
 ghost use Rattle.std.specs.Prelude.{◌≡◌, ◌<◌, ◌≤◌, ◌++◌, [], ℕ, List, Ok, drop, take, length, IfOk, OnOk, OnErr};
-ghost use Rattle.std.specs.Io.KnownBytes.{Consumes, IsAtEnd};
-ghost use Rattle.grpc_frame.specs.Ends.{CanFail, CountsFailure, FailsByTransport, TakesTurn};
+ghost use Rattle.std.specs.Io.KnownBytes.{IsAtEnd};
+ghost use Rattle.grpc_frame.specs.Ends.{Advances, CanFail, CountsFailure, FailsByTransport, TakesTurn};
 ghost use Rattle.grpc_frame.specs.inside.Reads.{ReadsIn};
 
 use crate::ends::Input;
@@ -174,10 +174,10 @@ impl Block {
     pub fn read_from<R: Input>(&mut self, input: &mut R, most: usize) -> Result<usize, Fault>
         requires { CanFail (R.failures input.old) }
         ensures came { (came : List ℕ)
-            × Consumes (R.remaining input.old) (R.remaining input.new) came
+            × Advances (R.tape input.old) (R.tape input.new) came
             × ReadsIn result self.old.items self.new.items came }
         ensures most { IfOk result (λ count. count ≤ most) }
-        ensures end { result ≡ Ok 0 → 0 < most → 0 < self.old.spare → IsAtEnd (R.remaining input.new) }
+        ensures end { result ≡ Ok 0 → 0 < most → 0 < self.old.spare → IsAtEnd (R.tape input.new).left }
         ensures counted { CountsFailure result (R.failures input.old) (R.failures input.new) }
         ensures kind { FailsByTransport result }
         ensures fewer { TakesTurn result (R.turns input.old) (R.turns input.new) }

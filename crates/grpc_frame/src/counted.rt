@@ -2,10 +2,10 @@
 
 ghost use Rattle.std.specs.Prelude.{◌≡◌, ◌<◌, ◌≤◌, ◌^◌, ◌+◌, ◌-◌, [], Some, true, false};
 ghost use Rattle.std.specs.Io.KnownBytes.{Appends};
-ghost use Rattle.grpc_frame.specs.Ends.{AppendsBeginning, CanFail, CountsFailure, FailsByTransport, GrowsAlike, Writes};
+ghost use Rattle.grpc_frame.specs.Ends.{AppendsBeginning, CanFail, CountsFailure, FailsByTransport, GrowsAlike, Writes, tape_of};
 
 use crate::ends::{Input, Output};
-use crate::transcript::{Transcript, write_noted};
+use crate::transcript::{Transcript, read_noted, write_noted};
 use scan_base::Fault;
 use std::io::{ErrorKind, Read, Write};
 
@@ -15,21 +15,25 @@ use std::io::{ErrorKind, Read, Write};
 #[derive(Drop)]
 pub struct Counted<T> {
     end: T,
+    // What its reads gave, and what its writes took.
+    given: Transcript,
     taken: Transcript,
     failures: u64,
     turns: u64,
 }
 
 impl<T> Counted<T> {
-    /// No failure is counted yet, and no byte is written.
+    /// No failure is counted yet, and no byte is read or written.
     pub fn new(end: T) -> Counted<T>
         ensures end { result.end ≡ end }
+        ensures given { result.given.bytes ≡ [] }
         ensures taken { result.taken.bytes ≡ [] }
         ensures failures { result.failures ≡ 0 }
         ensures turns { result.turns ≡ 2 ^ 64 - 1 }
     {
         Counted {
             end,
+            given: Transcript::new(),
             taken: Transcript::new(),
             failures: 0,
             turns: u64::MAX,
@@ -53,7 +57,8 @@ impl<T> Counted<T> {
 }
 
 impl<R: Read> Input for Counted<R> {
-    ghost remaining = { λ s. R.remaining s.end };
+    // All that the reader gave: `R.remaining` is not known of a socket or a standard stream.
+    ghost tape = { λ s. tape_of s.given.bytes (R.remaining s.end) };
 
     ghost failures = { λ s. s.failures };
 
@@ -62,7 +67,7 @@ impl<R: Read> Input for Counted<R> {
     fn read(&mut self, piece: &mut [u8]) -> Result<usize, Fault> {
         while self.turns > 0 {
             self.turns -= 1;
-            match self.end.read(piece) {
+            match read_noted(&mut self.end, &mut self.given, piece) {
                 Ok(count) => return Ok(count),
                 Err(error) => {
                     if error.kind() != ErrorKind::Interrupted {

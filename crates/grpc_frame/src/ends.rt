@@ -2,15 +2,14 @@
 
 ghost use Rattle.std.specs.Prelude.{◌≡◌, ℕ, List, None, Option};
 ghost use Rattle.std.specs.Io.{ReadsAtMost};
-ghost use Rattle.std.specs.Io.KnownBytes.{ReadConsumes};
-ghost use Rattle.grpc_frame.specs.Ends.{CanFail, CountsFailure, FailsByTransport, TakesTurn, Writes};
+ghost use Rattle.grpc_frame.specs.Ends.{CanFail, CountsFailure, FailsByTransport, ReadAdvances, TakesTurn, Tape, Writes};
 
 use scan_base::Fault;
 
 /// A reader that counts its failures, and gives bytes a bounded number of times.
 pub trait Input {
-    // The bytes that reads will give from here on, where they are known.
-    ghost remaining: { Self → Option (List ℕ) } = { λ _. None };
+    // The bytes that reads gave so far, and those that they will give from here on, where these are known.
+    ghost tape: { Self → Tape };
 
     // How many reads have failed.
     ghost failures: { Self → ℕ };
@@ -26,7 +25,7 @@ pub trait Input {
     fn read(&mut self, piece: &mut [u8]) -> Result<usize, Fault>
         requires { CanFail (failures self.old) }
         ensures bound { ReadsAtMost result piece.new }
-        ensures bytes { ReadConsumes (remaining self.old) (remaining self.new) result piece.new }
+        ensures bytes { ReadAdvances result (tape self.old) (tape self.new) piece.new }
         ensures counted { CountsFailure result (failures self.old) (failures self.new) }
         ensures kind { FailsByTransport result }
         ensures fewer { TakesTurn result (turns self.old) (turns self.new) };

@@ -1,8 +1,8 @@
 //! What has come, cut into records.
 
 ghost use Rattle.std.specs.Prelude.{◌≡◌, ◌++◌, ◌↔◌, ◌<◌, [], ℕ, List, Ok, OnOk, OnErr, IfOk, IfErr, IsTrue, MatchOption, length};
-ghost use Rattle.std.specs.Io.KnownBytes.{Consumes, IsAtEnd};
-ghost use Rattle.grpc_frame.specs.Ends.{CanFail};
+ghost use Rattle.std.specs.Io.KnownBytes.{IsAtEnd};
+ghost use Rattle.grpc_frame.specs.Ends.{Advances, CanFail};
 ghost use Rattle.scan_base.specs.declared.fault.Fault.TheVariants.{OutOfMemory};
 ghost use Rattle.grpc_frame.specs.declared.place.Place.TheVariants.{BetweenCalls, InAnswer};
 ghost use Rattle.grpc_frame.specs.Head.{AreBytes};
@@ -142,9 +142,9 @@ impl Inbox {
     pub(crate) fn take_in<R: Input>(&mut self, input: &mut R) -> Result<usize, Fault>
         requires { CanFail (R.failures input.old) }
         ensures came { (came : List ℕ)
-            × Consumes (R.remaining input.old) (R.remaining input.new) came
+            × Advances (R.tape input.old) (R.tape input.new) came
             × TakesIn result self.old self.new came }
-        ensures end { result ≡ Ok 0 → IsAtEnd (R.remaining input.new) }
+        ensures end { result ≡ Ok 0 → IsAtEnd (R.tape input.new).left }
         ensures counted { CountsTransport result (R.failures input.old) (R.failures input.new) }
         ensures fewer { IfOk result (λ count. 0 < count
             → work_left (R.turns input.new) self.new < work_left (R.turns input.old) self.old) }

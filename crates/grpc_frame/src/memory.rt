@@ -2,8 +2,7 @@
 
 ghost use Rattle.std.specs.Prelude.{◌≡◌, ◌<◌, ◌≤◌, [], None, Some, true, false, OnOk, IfOk, OnErr};
 ghost use Rattle.std.specs.Io.{ReadsAtMost};
-ghost use Rattle.std.specs.Io.KnownBytes.{ReadConsumes};
-ghost use Rattle.grpc_frame.specs.Ends.{CanFail, CountsFailure, FailsByTransport, TakesTurn};
+ghost use Rattle.grpc_frame.specs.Ends.{CanFail, CountsFailure, FailsByTransport, ReadAdvances, TakesTurn, tape_of};
 ghost use Rattle.grpc_frame.specs.Ends.{AppendsBeginning, Writes};
 ghost use Rattle.grpc_frame.specs.Memory.{fails_now, plan_after};
 
@@ -30,36 +29,44 @@ fn take_call(plan: &mut Option<u64>) -> bool
     }
 }
 
-/// A reader over bytes in memory. A contract sees the bytes that are left, the most bytes of a
-/// read, how many calls go well before one fails, and the number of failures.
+/// A reader over bytes in memory. A contract sees the bytes that it gave, those that are left, the
+/// most bytes of a read, how many calls go well before one fails, and the number of failures.
 #[derive(Debug, Drop)]
 pub struct MemoryInput<'a> {
     bytes: &'a [u8],
+    // So many of them were given.
+    place: usize,
     most: usize,
     plan: Option<u64>,
     failures: u64,
 }
 
 impl<'a> Model for MemoryInput<'a> {
-    ghost use Rattle.std.specs.Prelude.{◌<◌};
+    ghost use Rattle.std.specs.Prelude.{◌<◌, ◌≤◌, drop, length, take};
     ghost use Rattle.grpc_frame.specs.Memory.{Source};
 
     ghost Value = { Source };
 
-    ghost view = { λ s. record
-        { bytes = s.bytes.now; most = s.most; plan = s.plan; failures = s.failures } };
+    ghost view = { λ s. record {
+      given = take s.place s.bytes.now;
+      bytes = drop s.place s.bytes.now;
+      most = s.most;
+      plan = s.plan;
+      failures = s.failures;
+    } };
 
-    ghost invariant = { λ s. 0 < s.most };
+    ghost invariant = { λ s. (s.place ≤ length s.bytes.now) × (0 < s.most) };
 }
 
 impl<'a> MemoryInput<'a> {
     /// Reads give these bytes, as many at once as are asked for, and no call fails.
     pub fn new(bytes: &'a [u8]) -> MemoryInput<'a>
         ensures { result ≡ record
-            { bytes = bytes.now; most = 18446744073709551615; plan = None; failures = 0 } }
+            { given = []; bytes = bytes.now; most = 18446744073709551615; plan = None; failures = 0 } }
     {
         MemoryInput {
             bytes,
+            place: 0,
             most: usize::MAX,
             plan: None,
             failures: 0,
@@ -86,7 +93,7 @@ impl<'a> MemoryInput<'a> {
 impl Input for MemoryInput<'_> {
     ghost use Rattle.std.specs.Prelude.{Some, length};
 
-    ghost remaining = { λ s. Some s.bytes };
+    ghost tape = { λ s. tape_of s.given (Some s.bytes) };
 
     ghost failures = { λ s. s.failures };
 
@@ -95,7 +102,8 @@ impl Input for MemoryInput<'_> {
     fn read(&mut self, piece: &mut [u8]) -> Result<usize, Fault>
         requires { CanFail (self.old.failures) }
         ensures bound { ReadsAtMost result piece.new }
-        ensures bytes { ReadConsumes (Some self.old.bytes) (Some self.new.bytes) result piece.new }
+        ensures bytes { ReadAdvances result (tape_of self.old.given (Some self.old.bytes))
+            (tape_of self.new.given (Some self.new.bytes)) piece.new }
         ensures counted { CountsFailure result self.old.failures self.new.failures }
         ensures kind { FailsByTransport result }
         ensures fewer { TakesTurn result (length self.old.bytes) (length self.new.bytes) }
@@ -108,10 +116,10 @@ impl Input for MemoryInput<'_> {
             self.failures += 1;
             return Err(Fault::Transport);
         }
-        let count = piece.len().min(self.bytes.len()).min(self.most);
-        let (front, rest) = self.bytes.split_at(count);
-        piece[..count].copy_from_slice(front);
-        self.bytes = rest;
+        let left = &self.bytes[self.place..];
+        let count = piece.len().min(left.len()).min(self.most);
+        piece[..count].copy_from_slice(&left[..count]);
+        self.place += count;
         Ok(count)
     }
 

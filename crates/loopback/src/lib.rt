@@ -73,14 +73,15 @@ impl<'a, R> Loopback<'a, R> {
 }
 
 impl<R: Net<Listener = TcpListener, Stream = TcpStream>> Connect for Loopback<'_, R> {
-    ghost use Rattle.std.specs.Prelude.{◌≡◌, [], IfSome, Some};
+    ghost use Rattle.std.specs.Prelude.{IfSome};
+    ghost use Rattle.command_ends.specs.Network.{AreNew};
 
     type Reader = Counted<TcpStream>;
 
     type Writer = SocketWriter;
 
-    // Nothing was written to it yet.
-    ghost connects = { λ _ _ made _. IfSome made (λ ends. ends.output ≡ Some []) };
+    // Nothing was read or written yet.
+    ghost connects = { λ _ _ made _. IfSome made (λ ends. AreNew ends) };
 
     ghost shares = { λ _ _ _. Unit {0} };
 
@@ -125,7 +126,8 @@ fn patience_of(idle: u16) -> Option<Duration> {
 }
 
 impl<R: Net<Listener = TcpListener, Stream = TcpStream>> Listen for Port<'_, R> {
-    ghost use Rattle.std.specs.Prelude.{◌≡◌, [], IfSome, Some};
+    ghost use Rattle.std.specs.Prelude.{IfSome};
+    ghost use Rattle.command_ends.specs.Network.{AreNew};
 
     type Reader = Counted<TcpStream>;
 
@@ -135,8 +137,8 @@ impl<R: Net<Listener = TcpListener, Stream = TcpStream>> Listen for Port<'_, R> 
 
     ghost shares = { λ _ _. Unit {0} };
 
-    // Nothing was written to it yet.
-    ghost accepts = { λ _ made _. IfSome made (λ ends. ends.output ≡ Some []) };
+    // Nothing was read or written yet.
+    ghost accepts = { λ _ made _. IfSome made (λ ends. AreNew ends) };
 
     ghost closes = { λ _ _. Unit {0} };
 
@@ -187,7 +189,8 @@ impl<R: Net<Listener = TcpListener, Stream = TcpStream>> Listen for Port<'_, R> 
 fn ends_of(stream: TcpStream) -> io::Result<(Counted<TcpStream>, SocketWriter)>
     ensures reads { IfOk result (λ ends. ends.0.failures ≡ 0) }
     ensures writes { IfOk result (λ ends. ends.1.counted.failures ≡ 0) }
-    ensures quiet { IfOk result (λ ends. ends.1.counted.taken.bytes ≡ []) }
+    ensures unread { IfOk result (λ ends. ends.0.given.bytes ≡ []) }
+    ensures unwritten { IfOk result (λ ends. ends.1.counted.taken.bytes ≡ []) }
 {
     stream.set_nodelay(true)?;
     let counted = Counted::new(stream.try_clone()?);

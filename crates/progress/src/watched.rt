@@ -21,7 +21,7 @@ pub struct WatchedReader<'a, R, K, E> {
 }
 
 impl<R: Input, K: Clock, E: Write + Copy> Input for WatchedReader<'_, R, K, E> {
-    ghost remaining = { λ s. R.remaining s.end };
+    ghost tape = { λ s. R.tape s.end };
 
     ghost failures = { λ s. R.failures s.end };
 

@@ -70,6 +70,13 @@ impl StreamWriter {
         Ok(StreamWriter { dresser, outbox })
     }
 
+    /// The schema that was written.
+    pub fn schema(&self) -> &Schema
+        ensures { result.now ≡ self.now.schema }
+    {
+        &self.dresser.schema
+    }
+
     /// Writes a batch with a column for each field of the schema, of its type: the messages of its dictionaries, each of the
     /// texts that the batch holds, and then that of its rows. It is cut where their bodies would have more than 8,388,608 bytes,
     /// and behind 65,536 rows. Each cut has its own dictionaries.

@@ -45,7 +45,11 @@ pub(crate) static STOPPING: [Stopping; 4] = [
 ];
 
 // Adds how many messages bytes are a stream of, or the fault of bytes that are none; and of no bytes, that they are none.
-fn push_stream(alloc: Global, told: &mut String, written: &[u8]) -> Result<(), AllocError> {
+pub(crate) fn push_stream(
+    alloc: Global,
+    told: &mut String,
+    written: &[u8],
+) -> Result<(), AllocError> {
     if written.is_empty() {
         return told.push_str(" nothing");
     }

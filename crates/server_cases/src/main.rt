@@ -16,7 +16,7 @@ mod texts;
 use crate::breaking::{STOPPING, told_stream};
 use crate::clients::{PUTS, told_port, told_put};
 use crate::serving::{Client, beside};
-use crate::side_by_side::told_order;
+use crate::side_by_side::{told_ahead, told_order};
 use std::io;
 
 // Each piece is written whole.
@@ -32,8 +32,10 @@ fn main(rt: HostRuntime) -> io::Result<()> {
     println!(rt; "cut connection: {cut}")?;
     let commands = beside(&rt, 6, Client::Commands)?;
     println!(rt; "five commands: {commands}")?;
-    let formats = beside(&rt, 7, Client::Formats)?;
+    let formats = beside(&rt, 8, Client::Formats)?;
     println!(rt; "formats: {formats}")?;
+    let streamed = beside(&rt, 7, Client::StreamsInTurn)?;
+    println!(rt; "stream over three connections: {streamed}")?;
     let expired = beside(&rt, 4, Client::Expires)?;
     println!(rt; "expired versions: {expired}")?;
     let kept = beside(&rt, 2, Client::PutsBeyondKept)?;
@@ -49,5 +51,7 @@ fn main(rt: HostRuntime) -> io::Result<()> {
         println!(rt; "{}: {stream}", case.name)?;
     }
     let order = told_order(&rt, alloc)?;
-    println!(rt; "second ends first: {order}")
+    println!(rt; "second ends first: {order}")?;
+    let ahead = told_ahead(&rt, alloc)?;
+    println!(rt; "second is begun ahead: {ahead}")
 }

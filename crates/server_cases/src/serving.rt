@@ -6,7 +6,7 @@ use crate::asking::connected;
 use crate::at_once::{stay_open, stay_whole};
 use crate::clients::run_commands;
 use crate::expiring::{expire_old, put_beyond_kept};
-use crate::formats::run_formats;
+use crate::formats::{run_formats, stream_in_turn};
 use crate::texts::push_text;
 use client_calls::Failure;
 use command_ends::{Announced, Listen};
@@ -35,6 +35,8 @@ pub(crate) enum Client {
     Commands,
     // The formats of `query`.
     Formats,
+    // An Arrow IPC stream over several connections.
+    StreamsInTurn,
     // Old versions that are expired.
     Expires,
     // Versions of which the server keeps the newest two.
@@ -47,6 +49,14 @@ impl Client {
         match self {
             Client::PutsBeyondKept => 2,
             _ => 0,
+        }
+    }
+
+    // In how many parts its server cuts the rows of a query.
+    fn parts(self) -> u32 {
+        match self {
+            Client::StreamsInTurn => 3,
+            _ => 2,
         }
     }
 }
@@ -62,6 +72,7 @@ where
         Client::StaysWhole => stay_whole(rt, port, told),
         Client::Commands => run_commands(rt, port, told),
         Client::Formats => run_formats(rt, port, told),
+        Client::StreamsInTurn => stream_in_turn(rt, port, told),
         Client::Expires => expire_old(rt, port, told),
         Client::PutsBeyondKept => put_beyond_kept(rt, port, told),
     }
@@ -132,8 +143,8 @@ struct Served {
     faults: MemoryOutput,
 }
 
-// Serves so many connections, two at once, and keeps so many versions.
-fn serve_bound<R>(host: Host<'_, R>, mut bound: Bound<'_, R>, accept: u16, keep: u32) -> Served
+// Serves so many connections of this client, two at once.
+fn serve_bound<R>(host: Host<'_, R>, mut bound: Bound<'_, R>, accept: u16, client: Client) -> Served
 where
     R: Net<Listener = TcpListener, Stream = TcpStream> + Threads + Wait + Clock + Sync,
 {
@@ -145,8 +156,8 @@ where
         seats: 2,
         accept,
         idle: 0,
-        keep,
-        parts: 2,
+        keep: client.keep(),
+        parts: client.parts(),
         workers: 1,
     };
     let status = serve(host, &mut bound, &mut output, &mut faults, serving).number();
@@ -195,7 +206,7 @@ where
     let bound = Bound { port, number };
     let (served, told) = thread::join(
         rt,
-        move || serve_bound(host, bound, accept, client.keep()),
+        move || serve_bound(host, bound, accept, client),
         || called(rt, client, number, accept),
     );
     let mut line = format!(in alloc; "server {} {}", served.status, served.names_port)?;

@@ -1,7 +1,8 @@
-//! A query over two connections, over answers in memory of which the second ends first.
+//! Queries over two connections, over answers in memory: those of the first one wait for the second one.
 
 ghost use Rattle.std.specs.Prelude.{◌<◌, ◌≡◌};
 
+use crate::breaking::push_stream;
 use crate::clients::STREAM;
 use crate::texts::push_text;
 use client_commands::query::{Querying, query};
@@ -22,13 +23,15 @@ use std::{io, thread};
 pub(crate) const INFO: &[u8] =
     b"\x02\x00\x00\x00\x00\x0e\x1a\x05\x0a\x03\x0a\x01A\x1a\x05\x0a\x03\x0a\x01B\x04\x00\x00\x00";
 
-// An input whose reads behind the first one wait until another connection was closed, or for 10,000 turns.
+// An input of which the reads behind so many free ones wait until a counter is above a number, for 10,000 turns at most. It counts
+// that it was closed.
 struct Gated<'a, R> {
     rt: &'a R,
     input: MemoryInput<'a>,
     closed: &'a AtomicU64,
-    is_first: bool,
-    waits: bool,
+    counter: &'a AtomicU64,
+    above: u64,
+    free: u32,
 }
 
 impl<R> Drop for Gated<'_, R> {
@@ -37,41 +40,43 @@ impl<R> Drop for Gated<'_, R> {
             rt: _,
             input: _,
             closed,
-            is_first: _,
-            waits: _,
+            counter: _,
+            above: _,
+            free: _,
         } = self;
         closed.fetch_add(1, Ordering::SeqCst);
     }
 }
 
-// What is added to the number of connections that were closed where none was in time.
+// What is added to a counter that was not above the number in time.
 const LATE: u64 = 1_000;
 
-// Waits until a connection was closed, or for 10,000 turns.
-fn wait_for<R: Clock>(rt: &R, closed: &AtomicU64) {
+// Waits until a counter is above a number, or for 10,000 turns.
+fn wait_for<R: Clock>(rt: &R, counter: &AtomicU64, above: u64) {
     for _ in 0..10_000 {
-        if closed.load(Ordering::SeqCst) > 0 {
+        if counter.load(Ordering::SeqCst) > above {
             return;
         }
         thread::sleep(rt, Duration::from_millis(1));
     }
-    closed.fetch_add(LATE, Ordering::SeqCst);
+    counter.fetch_add(LATE, Ordering::SeqCst);
 }
 
 impl<R: Clock> Input for Gated<'_, R> {
     ghost use Rattle.std.specs.Prelude.{Some, length};
+    ghost use Rattle.grpc_frame.specs.Ends.{tape_of};
 
-    ghost remaining = { λ g. Some g.input.bytes };
+    ghost tape = { λ g. tape_of g.input.given (Some g.input.bytes) };
 
     ghost failures = { λ g. g.input.failures };
 
     ghost turns = { λ g. length g.input.bytes };
 
     fn read(&mut self, piece: &mut [u8]) -> Result<usize, Fault> {
-        if self.waits {
-            wait_for(self.rt, self.closed);
+        match self.free.checked_sub(1) {
+            Some(free) => self.free = free,
+            None => wait_for(self.rt, self.counter, self.above),
         }
-        self.waits = self.is_first;
         self.input.read(piece)
     }
 
@@ -80,7 +85,8 @@ impl<R: Clock> Input for Gated<'_, R> {
     }
 }
 
-// A network of two connections: the first one's answers are read behind the second one's end.
+// A network of two connections. The reads of the first one behind the info wait until the second one is closed. Or, where that is begun
+// ahead, those behind the schema of the first stream, which has come with the first 13 pieces, wait until it is made.
 #[derive(Drop)]
 struct Two<'a, R> {
     rt: &'a R,
@@ -89,6 +95,7 @@ struct Two<'a, R> {
     second: &'a [u8],
     closed: &'a AtomicU64,
     made: &'a AtomicU64,
+    ahead: bool,
 }
 
 impl<'a, R: Clock> Connect for Two<'a, R> {
@@ -108,22 +115,27 @@ impl<'a, R: Clock> Connect for Two<'a, R> {
             second: self.second,
             closed: self.closed,
             made: self.made,
+            ahead: self.ahead,
         }
     }
 
     fn connect(&mut self, _port: u16) -> io::Result<(Gated<'a, R>, MemoryOutput)> {
-        let (bytes, is_first) = match self.made.fetch_add(1, Ordering::SeqCst) {
-            0 => (self.first, true),
-            1 => (self.second, false),
+        let place = self.made.fetch_add(1, Ordering::SeqCst);
+        let (bytes, free) = match (place, self.ahead) {
+            (0, false) => (self.first, 1),
+            (0, true) => (self.first, 14),
+            (1, _) => (self.second, u32::MAX),
             _ => return Err(io::Error::from(ErrorKind::NotConnected)),
         };
+        let counter = if self.ahead { self.made } else { self.closed };
         let input = MemoryInput::new(bytes).in_pieces_of(INFO.len().max(1));
         let gated = Gated {
             rt: self.rt,
             input,
             closed: self.closed,
-            is_first,
-            waits: false,
+            counter,
+            above: u64::from(self.ahead),
+            free,
         };
         Ok((gated, MemoryOutput::new(self.alloc)))
     }
@@ -159,42 +171,74 @@ pub(crate) fn told_order<R>(rt: &R, alloc: Global) -> io::Result<String>
 where
     R: Clock + RandomSource + Threads + Sync,
 {
-    let mut first = Vec::new(alloc);
-    first.extend_from_slice(INFO)?;
-    add_stream(&mut first, b"baaab")?;
-    let mut second = Vec::new(alloc);
-    add_stream(&mut second, b"vwxyz")?;
-    told_rows(rt, alloc, &first, &second)
+    told_two(rt, alloc, Format::Lines)
 }
 
-// What the query comes to over these answers of two connections.
-fn told_rows<R>(rt: &R, alloc: Global, first: &[u8], second: &[u8]) -> io::Result<String>
+// What a query as an Arrow IPC stream comes to, of which the rows of the first stream come once the second connection is made: the
+// exit status, how many connections were made and closed, and how many messages were written.
+pub(crate) fn told_ahead<R>(rt: &R, alloc: Global) -> io::Result<String>
 where
     R: Clock + RandomSource + Threads + Sync,
 {
+    told_two(rt, alloc, Format::Arrow)
+}
+
+// What the answers of a connection end with: a stream of these letters of texts.
+fn with_stream(alloc: Global, front: &[u8], letters: &'static [u8]) -> Result<Vec<u8>, AllocError> {
+    let mut answer = Vec::new(alloc);
+    answer.extend_from_slice(front)?;
+    add_stream(&mut answer, letters)?;
+    Ok(answer)
+}
+
+// What a query of two endpoints comes to, in a format.
+fn told_two<R>(rt: &R, alloc: Global, format: Format) -> io::Result<String>
+where
+    R: Clock + RandomSource + Threads + Sync,
+{
+    let first = with_stream(alloc, INFO, b"baaab")?;
+    let second = with_stream(alloc, b"", b"vwxyz")?;
     let closed = AtomicU64::new(0);
     let made = AtomicU64::new(0);
     let mut network = Two {
         rt,
         alloc,
-        first,
-        second,
+        first: &first,
+        second: &second,
         closed: &closed,
         made: &made,
+        ahead: format == Format::Arrow,
     };
+    let mut told = told_query(rt, alloc, &mut network, format)?;
+    let (made, closed) = (made.load(Ordering::SeqCst), closed.load(Ordering::SeqCst));
+    write!(told, " {made} {closed}")?;
+    Ok(told)
+}
+
+// The exit status of the query, and what was printed.
+fn told_query<R>(
+    rt: &R,
+    alloc: Global,
+    network: &mut Two<'_, R>,
+    format: Format,
+) -> io::Result<String>
+where
+    R: Clock + RandomSource + Threads + Sync,
+{
     let mut output = MemoryOutput::new(alloc);
     let mut faults = MemoryOutput::new(alloc);
     let querying = Querying {
         port: 1,
         streams: 3,
         sql: "SELECT s FROM t",
-        format: Format::Lines,
+        format,
         seed: HashSeed::new(rt)?,
     };
-    let status = query(rt, alloc, &mut network, &mut output, &mut faults, querying).number();
-    let made = made.load(Ordering::SeqCst);
-    let closed = closed.load(Ordering::SeqCst);
-    let mut told = format!(in alloc; "{status} {made} {closed}")?;
-    push_text(&mut told, output.as_slice())?;
+    let status = query(rt, alloc, network, &mut output, &mut faults, querying).number();
+    let mut told = format!(in alloc; "{status}")?;
+    match format {
+        Format::Arrow => push_stream(alloc, &mut told, output.as_slice())?,
+        _ => push_text(&mut told, output.as_slice())?,
+    }
     Ok(told)
 }

@@ -1,8 +1,8 @@
 -- Inside: a connection by its parts.
 use Rattle.std.specs.Prelude.{◌≡◌, ◌⊎◌, ℕ, ◌+◌, List, Option, Result, Ok, Err}
-use Rattle.std.specs.Io.KnownBytes.{Consumes}
 use Rattle.scan_base.specs.declared.fault.Fault.{Fault}
 use Rattle.scan_base.specs.declared.fault.Fault.TheVariants.{MessageTooLarge, OutOfMemory, Transport}
+use Rattle.grpc_frame.specs.Ends.{Advances, Tape}
 use Rattle.grpc_frame.specs.Records.{Received, with_more}
 use Rattle.grpc_frame.specs.Sending.{Sent, NotSent}
 use Rattle.flight_info.specs.Payloads.{Payload}
@@ -14,14 +14,14 @@ use Rattle.client_calls.specs.Calls.{Fit}
 use Rattle.client_calls.specs.Outcome.{Outgoing, Line, IsWritten, IsBegun, WhyNot, left_of, stopped_by}
 
 -- the ends by their parts
-abbrev pub incoming_of : Option (List ℕ) → ℕ → Result Received Stop → Incoming
+abbrev pub incoming_of : Tape → ℕ → Result Received Stop → Incoming
 incoming_of input failed left = record { input = input; failed = failed; left = left }
 
 abbrev pub outgoing_of : Option (List ℕ) → ℕ → Outgoing
 outgoing_of output failed = record { output = output; failed = failed }
 
 -- a connection by its parts
-abbrev pub line_of : Option (List ℕ) → ℕ → Option Fault → Received → Outgoing → Line
+abbrev pub line_of : Tape → ℕ → Option Fault → Received → Outgoing → Line
 line_of input failed stopped left outgoing = record { incoming = incoming_of input failed (left_of stopped left); outgoing = outgoing }
 
 -- no call stopped
@@ -81,5 +81,5 @@ given (Err fault) = Err (Found fault)
 abbrev pub Receives : (Incoming → Incoming → Received → Type 0) → Line → Line → Type 0
 Receives Answers old new =
     (left : Received) × (old.incoming.left ≡ Ok left)
-    × ((came : List ℕ) × Consumes old.incoming.input new.incoming.input came × Answers old.incoming new.incoming (with_more left came))
+    × ((came : List ℕ) × Advances old.incoming.input new.incoming.input came × Answers old.incoming new.incoming (with_more left came))
     × (new.outgoing ≡ old.outgoing)

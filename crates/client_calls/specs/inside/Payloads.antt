@@ -1,10 +1,10 @@
 -- Inside: what one payload of a fetch gives, and what a turn of taking does.
 use Rattle.std.specs.Prelude.{◌≡◌, ◌≢◌, ◌⊎◌, ℕ, List, Option, Some, None, Result, Ok, Err}
-use Rattle.std.specs.Io.KnownBytes.{Consumes}
 use Rattle.scan_base.specs.declared.fault.Fault.{Fault}
 use Rattle.scan_base.specs.declared.fault.Fault.TheVariants.{OutOfMemory}
 use Rattle.scan_base.specs.Reading.{RefusesFirst}
 use Rattle.arrays.specs.Batch.{BatchAt}
+use Rattle.grpc_frame.specs.Ends.{Advances, Tape}
 use Rattle.grpc_frame.specs.Records.{Received, with_more}
 use Rattle.ipc_batch.specs.State.{State}
 use Rattle.flight_info.specs.Payloads.{Payload}
@@ -45,16 +45,16 @@ TakesAs (Err fault) before after old new all left =
     ArrivesAs (Err fault) old new all left ⊎ RefusesPayload before fault old new all left
 
 -- what came since the answer began, behind `old`, is an answer that gives this
-abbrev pub EndsAs : Result (Result StreamAt Failure) Fault → Option (List ℕ) → Option (List ℕ) → ℕ → ℕ → Received → Received → Type 0
+abbrev pub EndsAs : Result (Result StreamAt Failure) Fault → Tape → Tape → ℕ → ℕ → Received → Received → Type 0
 EndsAs result a c x z old new =
-    (came : List ℕ) × Consumes a c came × AnswersStream (given result) (incoming_of a x (Ok old)) (incoming_of c z (left_behind result new)) (with_more old came)
+    (came : List ℕ) × Advances a c came × AnswersStream (given result) (incoming_of a x (Ok old)) (incoming_of c z (left_behind result new)) (with_more old came)
 
 -- the payloads that were taken came to a stream
-abbrev pub HasTaken : StreamAt → Option (List ℕ) → Option (List ℕ) → Received → Received → Type 0
+abbrev pub HasTaken : StreamAt → Tape → Tape → Received → Received → Type 0
 HasTaken stream a b old left = (payloads : List Payload) × Taken a b old left payloads × Came payloads stream
 
 -- what is taken next of a stream: the next batch, or its end, or a failure
-abbrev pub BatchOrEnd : Result (Result (Option BatchAt) Failure) Fault → StreamAt → State → Option (List ℕ) → Option (List ℕ) → ℕ → ℕ → Received → Received → Type 0
+abbrev pub BatchOrEnd : Result (Result (Option BatchAt) Failure) Fault → StreamAt → State → Tape → Tape → ℕ → ℕ → Received → Received → Type 0
 BatchOrEnd (Ok (Ok (Some batch))) stream state a c x z old new = HasTaken (with_batch stream state (Some batch)) a c old new × (z ≡ x)
 BatchOrEnd (Ok (Ok None)) stream state a c x z old new = EndsAs (Ok (Ok (ended (with_batch stream state None)))) a c x z old new
 BatchOrEnd (Ok (Err failure)) stream state a c x z old new = EndsAs (Ok (Err failure)) a c x z old new

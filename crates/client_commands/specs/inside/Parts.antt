@@ -21,9 +21,9 @@ abbrev pub FetchesPart : {V : Type 0} → (V → List StreamAt) → List Endpoin
 FetchesPart items endpoints (Ok streams) line = (last : Line) × FetchesEach endpoints (items streams) line last
 FetchesPart items endpoints (Err failure) line = (last : Line) × FetchStops endpoints failure line last
 
--- the streams, or why there are none
+-- what was made, or why it was not
 abbrev pub Settles : {N V : Type 0} → Result (Result V Failure) (Refused N) → Result V Lost → Type 0
-Settles (Ok (Ok streams)) result = result ≡ Ok streams
+Settles (Ok (Ok value)) result = result ≡ Ok value
 Settles (Ok (Err failure)) result = result ≡ Err (Failed failure)
 Settles (Err refused) result = result ≡ Err (Unconnected refused.error)
 

@@ -1,13 +1,11 @@
--- Inside: streams that are written as they come.
-use Rattle.std.specs.Prelude.{◌≡◌, ◌⊎◌, ℕ, ◌+◌, true, List, [], ◌∷◌, ◌++◌, Option, Some, Result, Ok, Err}
+-- Inside: a stream that is written as it comes.
+use Rattle.std.specs.Prelude.{◌≡◌, ◌⊎◌, ℕ, ◌+◌, true, false, List, ◌++◌, Option, Some, Result, Ok, Err}
 use Rattle.scan_base.specs.declared.fault.Fault.{Fault}
 use Rattle.scan_base.specs.declared.fault.Fault.TheVariants.{LimitReached, OutOfMemory, Transport}
 use Rattle.arrow_schema.specs.declared.schema.Schema.{Schema}
 use Rattle.ipc_batch.specs.State.{Known, State}
 use Rattle.ipc_batch.specs.Said.{Rows}
 use Rattle.table_versions.specs.Table.{same_fields}
-use Rattle.flight_proto.specs.FlightInfo.{EndpointSaid}
-use Rattle.flight_client.specs.Join.{joined}
 use Rattle.flight_client.specs.Stream.{StreamAt}
 use Rattle.flight_info.specs.Payloads.{Payload}
 use Rattle.row_stream.specs.Stream.{numbered_schema, BreaksOff, WritesBeginning}
@@ -17,8 +15,7 @@ use Rattle.client_calls.specs.declared.failure.Failure.TheVariants.{Found}
 use Rattle.client_calls.specs.Outcome.{Line}
 use Rattle.client_calls.specs.Taking.{FetchAt, FetchGives, IsFetching}
 use Rattle.command_ends.specs.Printing.{Said}
-use Rattle.client_commands.specs.Fetching.{FetchesEach}
-use Rattle.client_commands.specs.Streaming.{HasLongRow, SaysFirst, SaysSchema, StopsAmong, rows_held}
+use Rattle.client_commands.specs.Streaming.{HasLongRow, SaysSchema}
 
 -- ---- one stream
 
@@ -36,6 +33,10 @@ pub record IsPassing (ticket : Payload) (schema own : Schema) (rows : Rows) (sta
 -- what comes of a stream has the columns of the schema that is written
 abbrev pub FitsSchema : State → Schema → Type 0
 FitsSchema state written = (known : Known) × (state ≡ Some known) × (same_fields written.fields known.schema.fields ≡ true)
+
+-- or it has other columns
+abbrev pub HasOther : State → Schema → Type 0
+HasOther state written = (known : Known) × (state ≡ Some known) × (same_fields written.fields known.schema.fields ≡ false)
 
 -- why what came of a stream is not written
 abbrev pub WhyUnwritten : Schema → StreamAt → Fault → Type 0
@@ -73,37 +74,17 @@ pub record StopsPassing (ticket : Payload) (schema own : Schema) (rows : Rows) (
       ⊎ ((fault : Fault) × (failure ≡ Found fault) × WhyUnwritten schema stream fault
       × EndsAt fault (numbered_schema schema) (rows ++ stream.rows) start out'.bytes out.failures out'.failures × (now ≡ some))
 
+-- what was sent so far breaks off
+abbrev pub Breaks : WriterAt → Said → Said → Type 0
+Breaks writer out out' =
+    (schema : Schema) (rows : Rows) (start : Option (List ℕ)) → SoFar schema rows start out.bytes writer.waiting
+    → BreaksOff schema rows start out'.bytes out.failures out'.failures
+
 -- a failure breaks off what is written, and else nothing more is written
 abbrev pub BreaksAtFailure : {A : Type 0} → Result A Failure → WriterAt → WriterAt → Said → Said → Type 0
 BreaksAtFailure (Ok x) old new out out' = (new ≡ old) × (out' ≡ out)
-BreaksAtFailure (Err failure) old new out out' =
-    (schema : Schema) (rows : Rows) (start : Option (List ℕ)) → SoFar schema rows start out.bytes old.waiting
-    → BreaksOff schema rows start out'.bytes out.failures out'.failures
+BreaksAtFailure (Err failure) old new out out' = Breaks old out out'
 
 abbrev pub PassesBatches : Result (Unit {0}) Failure → Payload → Schema → Schema → Rows → Option (List ℕ) → Line → FetchAt → Said → Said → WriterAt → Type 0
 PassesBatches (Ok done) ticket schema own rows start begun now out out' writer = HasPassed ticket schema own rows start begun now out out' writer
 PassesBatches (Err failure) ticket schema own rows start begun now out out' writer = StopsPassing ticket schema own rows start begun failure now.line out out'
-
--- ---- streams one behind the other
-
--- what goes on from one stream to the next: the connection, the schema of the first one, and who writes
-pub record PassingAt : Type 0 where
-  pub line : Line
-  pub schema : Schema
-  pub writer : WriterAt
-
--- the streams of these endpoints came whole and join, and their rows were sent
-pub record HavePassed (endpoints : List EndpointSaid) (first : Line) (begun : Said) (now : PassingAt) (out : Said) : Type 0 where
-  pub streams : List StreamAt
-  pub fetched : FetchesEach endpoints streams first now.line
-  pub says : SaysFirst streams now.schema
-  pub join : joined streams ≡ Ok (record { schema = now.schema; rows = rows_held streams })
-  pub written : (now.writer).schema ≡ numbered_schema now.schema
-  pub so : SoFar (numbered_schema now.schema) (rows_held streams) begun.bytes out.bytes (now.writer).waiting
-  pub quiet : out.failures ≡ begun.failures
-
--- the stream of one more endpoint behind these was passed on, or it stopped there, whatever endpoints come behind that
-abbrev pub Passes : {A : Type 0} → (A → PassingAt) → Result A Failure → List EndpointSaid → EndpointSaid → Line → Said → Said → Type 0
-Passes view (Ok passing) front endpoint first begun out = HavePassed (front ++ endpoint ∷ []) first begun (view passing) out
-Passes view (Err failure) front endpoint first begun out = (behind : List EndpointSaid) →
-    (last : Line) × StopsAmong (front ++ endpoint ∷ behind) failure first last begun out

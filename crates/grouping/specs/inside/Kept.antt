@@ -6,10 +6,10 @@ use Rattle.group_slots.specs.declared.tally.Tally.{Tally}
 use Rattle.group_slots.specs.Adding.{IsKept}
 use Rattle.group_slots.specs.Tagged.{value_tagged}
 use Rattle.grouping.specs.declared.groups.Grouping.{Grouping}
-use Rattle.grouping.specs.declared.key.RowKey.{RowKey}
+use Rattle.first_rows.specs.declared.key.RowKey.{RowKey}
 use Rattle.grouping.specs.declared.known.Known.{Known}
 use Rattle.grouping.specs.Fed.{AreTyped, HasItems}
-use Rattle.grouping.specs.RowKeys.{key_of}
+use Rattle.first_rows.specs.RowKeys.{key_of}
 use Rattle.grouping.specs.inside.Knowing.{AreKnown}
 use Rattle.grouping.specs.inside.Placing.{found_by, IsFirst}
 

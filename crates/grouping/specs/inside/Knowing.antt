@@ -6,12 +6,12 @@ use Rattle.group_slots.specs.declared.slots.Entries.{Entries}
 use Rattle.group_slots.specs.declared.slots.Slots.{Slots}
 use Rattle.group_slots.specs.Slots.{HaveRoom, entry_cell, slot_cell}
 use Rattle.group_slots.specs.Tagged.{value_tagged}
-use Rattle.grouping.specs.declared.key.RowKey.{RowKey}
+use Rattle.first_rows.specs.declared.key.RowKey.{RowKey}
 use Rattle.grouping.specs.declared.known.Known.{Known}
 use Rattle.grouping.specs.declared.table.Chosen.{Chosen}
 use Rattle.arrays.specs.Batch.{BatchAt, row_of}
 use Rattle.grouping.specs.Found.{key_in, place_in}
-use Rattle.grouping.specs.RowKeys.{key_of, same_first}
+use Rattle.first_rows.specs.RowKeys.{key_of, same_first}
 use Rattle.grouping.specs.inside.Placing.{IsFinding}
 
 -- the key of each row of the batch is one value

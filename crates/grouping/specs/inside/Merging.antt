@@ -7,7 +7,7 @@ use Rattle.typed_plan.specs.Grouped.{same_key}
 use Rattle.group_slots.specs.declared.tally.Tally.{Tally}
 use Rattle.group_slots.specs.Tallies.{no_rows, both}
 use Rattle.group_slots.specs.Counting.{AreWithin}
-use Rattle.grouping.specs.declared.key.RowKey.{RowKey}
+use Rattle.first_rows.specs.declared.key.RowKey.{RowKey}
 use Rattle.grouping.specs.Found.{place_in}
 use Rattle.grouping.specs.inside.Placing.{IsFirst}
 

@@ -4,11 +4,11 @@ use Rattle.scan_base.specs.declared.value.Value.{Value}
 use Rattle.arrays.specs.Batch.{BatchAt, row_of}
 use Rattle.arrays.specs.Column.{ColumnAt}
 use Rattle.grouping.specs.declared.key.Place.{Place}
-use Rattle.grouping.specs.declared.key.RowKey.{RowKey}
+use Rattle.first_rows.specs.declared.key.RowKey.{RowKey}
 use Rattle.grouping.specs.declared.table.Chosen.{Chosen}
 use Rattle.grouping.specs.Fed.{batch_at}
 use Rattle.grouping.specs.Found.{found_then, key_in, place_in}
-use Rattle.grouping.specs.RowKeys.{key_of}
+use Rattle.first_rows.specs.RowKeys.{key_of}
 
 -- the keys that were found, by the first rows; without columns there is one key
 abbrev pub found_by : List ℕ → List RowKey → List (List Value)

@@ -9,7 +9,7 @@ use Rattle.client_calls.proofs.answer.read_stream.Given as goal
 abbrev pub invariant-loop-stream : goal.invariant-loop-stream
 invariant-loop-stream g l = record {
   taken : (payloads : List Payload)
-      × Taken (g.R.Input.remaining l.fn.reader) (g.R.Input.remaining l.reader) l.fn.inbox l.inbox payloads
+      × Taken (g.R.Input.tape l.fn.reader) (g.R.Input.tape l.reader) l.fn.inbox l.inbox payloads
       × Came payloads l.stream;
   count : g.R.Input.failures l.reader ≡ g.R.Input.failures l.fn.reader;
 }

@@ -1,4 +1,4 @@
-use Rattle.std.proofs.Common.{List, Err, inl, inr, refl}
+use Rattle.std.proofs.Common.{Err, inl, inr, refl}
 use Rattle.command_ends.specs.Printing.{Said, said_of}
 use Rattle.command_ends.specs.Whole.{Source}
 use Rattle.command_ends.specs.declared.exit_status.ExitStatus.{ExitStatus}

@@ -1,4 +1,4 @@
-use Rattle.std.proofs.Common.{inr, refl, sym, subst}
+use Rattle.std.proofs.Common.{inr, refl}
 use Rattle.std.proofs.lemmas.Result.{err_from_is_err_and}
 use Rattle.client_commands.proofs.RowsSent.{few_reads, few_writes, rows_put}
 use Rattle.client_commands.proofs.rows_put.put_rows.Goals as goal

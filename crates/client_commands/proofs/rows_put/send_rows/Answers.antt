@@ -1,4 +1,4 @@
-use Rattle.std.proofs.Common.{[], Some, refl, sym, ap, subst, ◌∙◌}
+use Rattle.std.proofs.Common.{[], refl, sym, ap, subst, ◌∙◌}
 use Rattle.std.proofs.lemmas.Result.{err_from_is_err_and}
 use Rattle.arrow_schema.specs.declared.schema.Schema.{Schema}
 use Rattle.scan_base.specs.declared.fault.Fault.TheVariants.{OutOfMemory}

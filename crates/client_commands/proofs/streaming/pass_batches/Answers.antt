@@ -7,7 +7,7 @@ use Rattle.client_commands.proofs.Passing.{all_passed, batch_passed, batch_stopp
 use Rattle.client_commands.proofs.streaming.pass_batches.Goals as goal
 
 pub loop-batch-init : goal.loop-batch-init
-loop-batch-init g c = record { fits = c.requires.fits; passes = λ ticket schema own rows start begun stream none passing. (stream, passing); count = refl; reads = refl }
+loop-batch-init g c = record { fits = c.requires.fits; passes = λ ticket schema own rows start begun stream none passing. (stream, passing); count = refl; calls = (refl, refl) }
 
 pub write_batch-requires-clause-typed : goal.write_batch-requires-clause-typed
 write_batch-requires-clause-typed g c =
@@ -30,18 +30,18 @@ loop-batch-preserved g c =
           );
       fits = fits_next _ _ _ _ i.fits c.in_ok-batch.ensures.kept (c.in_ok-write_batch.ensures.kept ∙ ap (λ (w : WriterAt). w.schema) still.0);
       count = c.in_ok-write_batch.ensures.counted ∙ ap (λ (s : Said). s.failures) still.1 ∙ i.count;
-      reads = c.in_ok-batch.ensures.quiet ∙ i.reads;
+      calls = (c.in_ok-batch.ensures.quiet.0 ∙ i.calls.0, c.in_ok-batch.ensures.quiet.1 ∙ i.calls.1);
     }
 
-pub returns-in_err-batch : goal.returns-in_err-batch
-returns-in_err-batch g c ticket schema own rows start begun stream none passing =
+pub returns-in_err-batch-clause-passes : goal.returns-in_err-batch-clause-passes
+returns-in_err-batch-clause-passes g c ticket schema own rows start begun stream none passing =
     let i = c.loop-batch.invariant in
     let before = i.passes ticket schema own rows start begun stream none passing in
     let p = err_from_is_err_and c.from_residual.result c.from_residual.ensures.1 in
     rw (p.1, p.2) (fetch_failed ticket schema own rows start begun before.0 _ _ _ before.1 _ _ _ _ c.next_batch.new.writer (c.in_err-batch.ensures.next ticket before.0 begun before.1.state before.1.fetching) i.count c.in_err-batch.ensures.written)
 
-pub returns-in_err-write_batch : goal.returns-in_err-write_batch
-returns-in_err-write_batch g c ticket schema own rows start begun stream none passing =
+pub returns-in_err-write_batch-clause-passes : goal.returns-in_err-write_batch-clause-passes
+returns-in_err-write_batch-clause-passes g c ticket schema own rows start begun stream none passing =
     let i = c.loop-batch.invariant in
     let before = i.passes ticket schema own rows start begun stream none passing in
     let came = rw c.in-Some.is at c.in_ok-batch.ensures.next in
@@ -51,8 +51,8 @@ returns-in_err-write_batch g c ticket schema own rows start begun stream none pa
     rw (p.1, p.2)
     (batch_stopped ticket schema own rows start begun before.0 _ _ _ passing c.next_batch.new.fetching.state c.next_batch.new.fetching.line c.in-Some.batch (came ticket before.0 begun before.1.state before.1.fetching) c.in_ok-batch.ensures.kept _ _ _ _ c.write_batch.new.self.waiting refl (ap (λ (s : Said). s.failures) still.1 ∙ i.count) c.in_err-write_batch.ensures.bytes c.in_err-write_batch.ensures.cause c.in_err-write_batch.ensures.counted)
 
-pub returns : goal.returns
-returns g c ticket schema own rows start begun stream none passing =
+pub returns-clause-passes : goal.returns-clause-passes
+returns-clause-passes g c ticket schema own rows start begun stream none passing =
     let i = c.loop-batch.invariant in
     let before = i.passes ticket schema own rows start begun stream none passing in
     let came = rw c.in_default.is at c.in_ok-batch.ensures.next in

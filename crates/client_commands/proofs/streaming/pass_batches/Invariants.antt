@@ -5,6 +5,7 @@ use Rattle.flight_info.specs.Payloads.{Payload}
 use Rattle.flight_client.specs.Stream.{StreamAt}
 use Rattle.client_calls.specs.Outcome.{Line}
 use Rattle.command_ends.specs.Printing.{said_of}
+use Rattle.client_commands.specs.Lines.{SameCounts}
 use Rattle.client_commands.specs.inside.Passing.{FitsSchema, IsPassing}
 use Rattle.client_commands.proofs.streaming.pass_batches.Given as goal
 
@@ -16,7 +17,7 @@ invariant-loop-batch g l = record {
       (now : StreamAt) × IsPassing ticket schema own rows start begun now l.fetching (said_of g.O.Output l.output) l.writer;
   fits : FitsSchema l.fetching.state l.writer.schema;
   count : g.O.Output.failures l.output ≡ g.O.Output.failures l.initial.output;
-  reads : l.fetching.line.incoming.failed ≡ l.initial.fetching.line.incoming.failed;
+  calls : SameCounts l.initial.fetching.line l.fetching.line;
 }
 
 abbrev pub decreases-loop-batch : goal.decreases-loop-batch

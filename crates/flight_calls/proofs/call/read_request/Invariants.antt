@@ -8,7 +8,7 @@ use Rattle.flight_calls.proofs.call.read_request.Given as goal
 abbrev pub invariant-loop-request : goal.invariant-loop-request
 invariant-loop-request g l = record {
   gathered : (messages : List Payload)
-      × Collected (g.R.Input.remaining l.initial.input) (g.R.Input.remaining l.input) l.initial.inbox l.inbox messages
+      × Collected (g.R.Input.tape l.initial.input) (g.R.Input.tape l.input) l.initial.inbox l.inbox messages
       × Holds l.request (record { path = l.path; messages = messages });
   count : g.R.Input.failures l.input ≡ g.R.Input.failures l.initial.input;
   fewer : work_left (g.R.Input.turns l.input) l.inbox ≤ work_left (g.R.Input.turns l.initial.input) l.initial.inbox;

@@ -5,7 +5,7 @@ use Rattle.grouping.specs.Fed.{HasMerged}
 use Rattle.group_workers.specs.Merging.{GroupsOfPartAt}
 use Rattle.group_workers.specs.Parts.{batches_before}
 use Rattle.scan_exec.specs.GroupWork.{AreGroupsOf, passing, work_at}
-use Rattle.group_workers.proofs.Merged.{all_are, are_alike, first_are, merge_few, more_merged}
+use Rattle.group_workers.proofs.Merged.{all_are, are_alike, first_are, merge_few, more_merged, new_are}
 use Rattle.group_workers.proofs.merging.merge_parts.Goals as goal
 
 pub loop-groups-init : goal.loop-groups-init
@@ -54,6 +54,12 @@ loop-groups-preserved g c =
       c.in_ok-part.ensures.watch,
       g.met.L.Watches.again _ _ _ inv.5 c.next_groups-in-loop-groups.ensures.watched,
     )
+
+pub returns-in_default-clause-groups : goal.returns-in_default-clause-groups
+returns-in_default-clause-groups g c =
+    let parts = g.P.Answers.count c.args.answers.now in
+    let next = rw (c.in_ok-first.was, c.in_default.is) at c.next_groups.ensures.groups in
+    new_are (work_at c.args.work.now) parts c.in_ok-new.field-0 (omega (arith, next.0, c.requires.begin)) c.requires.can.all c.in_ok-new.ensures
 
 pub returns-clause-groups : goal.returns-clause-groups
 returns-clause-groups g c =

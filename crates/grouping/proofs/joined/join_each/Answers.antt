@@ -1,15 +1,37 @@
-use Rattle.std.proofs.Common.{arith}
-use Rattle.grouping.proofs.JoinedKeys.{step, done}
+use Rattle.std.proofs.Common.{sym, subst, ◌∙◌, arith}
+use Rattle.typed_plan.specs.Grouped.{same_key}
+use Rattle.first_rows.specs.RowKeys.{key_of}
+use Rattle.first_rows.specs.Numbers.{text_number}
+use Rattle.grouping.specs.inside.Placing.{IsFirst}
+use Rattle.grouping.proofs.Finding.{position_map}
+use Rattle.grouping.proofs.JoinedKeys.{done, seen_in, seen_of, step}
 use Rattle.grouping.proofs.joined.join_each.Goals as goal
 
-pub loop-other-preserved : goal.loop-other-preserved
-loop-other-preserved c =
-    let found = c.in_ok-group_of.ensures in
-    rw (c.in_ok-push.ensures.items, found.place, found.inserted)
-    (step _ _ _ _ _ c.other-item.result c.loop-other.invariant (omega arith) c.other-item.is)
+pub insert_seen-requires : goal.insert_seen-requires
+insert_seen-requires c =
+    let shape = c.args.shape.now in
+    let other = c.get-other.result in
+    let numbers = text_number c.loop-place.firsts.texts in
+    let first = subst (IsFirst shape.batches.now shape.keys.now) (sym c.get-other.ensures) (c.requires.others c.loop-place.place other (omega arith)) in
+    record {
+      seen = seen_of numbers shape.batches.now shape.keys.now other _ first
+          (c.turn_to.ensures.stays numbers shape.batches.now shape.keys.now c.loop-place.invariant.seen);
+    }
+
+pub loop-place-preserved : goal.loop-place-preserved
+loop-place-preserved c =
+    let shape = c.args.shape.now in
+    let other = c.get-other.result in
+    let found = c.in_ok-insert_seen.ensures in
+    let first = subst (IsFirst shape.batches.now shape.keys.now) (sym c.get-other.ensures) (c.requires.others c.loop-place.place other (omega arith)) in
+    record {
+      joining = rw (c.in_ok-push.ensures.items, found.place ∙ sym (position_map key_of (same_key (key_of other)) c.loop-place.firsts.keys), found.inserted)
+          (step _ _ _ _ _ other c.loop-place.invariant.joining (omega arith) c.get-other.ensures);
+      seen = rw c.turn_to.ensures.number (seen_in (text_number c.insert_seen.new.self.texts) shape.batches.now shape.keys.now other _ first found.seen);
+    }
 
 pub returns-clause-found : goal.returns-clause-found
-returns-clause-found c = (done _ _ _ _ _ c.loop-other.invariant (omega arith) (omega arith)).0
+returns-clause-found c = (done _ _ _ _ _ c.loop-place.invariant.joining (omega arith) (omega arith)).0
 
 pub returns-clause-joined : goal.returns-clause-joined
-returns-clause-joined c = (done _ _ _ _ _ c.loop-other.invariant (omega arith) (omega arith)).1
+returns-clause-joined c = (done _ _ _ _ _ c.loop-place.invariant.joining (omega arith) (omega arith)).1

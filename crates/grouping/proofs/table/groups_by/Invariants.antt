@@ -1,5 +1,5 @@
 use Rattle.std.proofs.Common.{◌≡◌, ◌≤◌, ◌-◌, length, map}
-use Rattle.grouping.specs.RowKeys.{key_of}
+use Rattle.first_rows.specs.RowKeys.{key_of}
 use Rattle.grouping.specs.inside.Knowing.{AreKnown}
 use Rattle.grouping.specs.inside.Placing.{IsFinding}
 use Rattle.grouping.proofs.table.groups_by.Given as goal

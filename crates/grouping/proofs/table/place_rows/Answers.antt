@@ -2,7 +2,7 @@ use Rattle.std.proofs.Common.{map, sym}
 use Rattle.std.proofs.lemmas.Result.{on_ok_weaker}
 use Rattle.arrays.specs.Batch.{row_of}
 use Rattle.group_slots.specs.Tagged.{value_tagged}
-use Rattle.grouping.specs.RowKeys.{key_of}
+use Rattle.first_rows.specs.RowKeys.{key_of}
 use Rattle.grouping.proofs.Finding.{found_alone}
 use Rattle.grouping.proofs.Knowing.{known_found}
 use Rattle.grouping.proofs.table.place_rows.Goals as goal

@@ -2,7 +2,6 @@ use Rattle.std.proofs.Common.{rules, ap, sym, refl, [], ◌∙◌, ◌++◌, ◌
 use Rattle.std.proofs.lemmas.List.{with_items_is, places, take-append-le}
 use Rattle.std.proofs.lemmas.Slice.{overwrites, between_is}
 use Rattle.std.proofs.lemmas.Result.{err_from_is_err_and}
-use Rattle.std.proofs.KnownBytes.{Consumes-kept, Consumes-nil}
 use borrow.Rule.Slice.PartMut.{put_mid, post_of}
 use Rattle.bytes.proofs.Ranges.{take-append_past}
 use Rattle.command_ends.proofs.held.Held.read_from.Goals as goal
@@ -36,4 +35,4 @@ returns-in_err-count-clause-came g c =
     let whole = with_items_is b.memory after (search (rules, places)) in
     let items : take b.len after ≡ take b.len b.memory.items = search (rules, between_is, overwrites) in
     let p = err_from_is_err_and c.from_residual.result c.from_residual.ensures.1 in
-    ([], Consumes-kept _ _ _ _ (Consumes-nil _) c.in_err-count.ensures.bytes, rw (p.1, whole, items) (ap (λ f. f.items) c.self.view_is, refl))
+    ([], c.in_err-count.ensures.bytes, rw (p.1, whole, items) (ap (λ f. f.items) c.self.view_is, refl))

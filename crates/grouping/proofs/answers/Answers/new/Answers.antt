@@ -1,6 +1,5 @@
-use Rattle.std.proofs.Common.{refl, map, ap, ◌∙◌, subst, arith}
+use Rattle.std.proofs.Common.{refl, subst, arith}
 use Rattle.group_slots.specs.Adding.{IsKept, lists_of}
-use Rattle.grouping.specs.inside.Placing.{place_of}
 use Rattle.grouping.proofs.Giving.{found_long}
 use Rattle.grouping.proofs.answers.Answers.new.Goals as goal
 
@@ -8,7 +7,7 @@ pub invariant_of-result : goal.invariant_of-result
 invariant_of-result c =
     let shape = c.args.shape.now in
     let kept = c.args.kept in
-    rw (c.in_ok-copied.ensures, c.in_ok-copied-2.ensures, c.in_ok-copied-3.ensures, c.in_ok-places.ensures ∙ ap (map place_of) c.as_slice.ensures.keys)
+    rw (c.in_ok-copied.ensures, c.in_ok-copied-2.ensures, c.in_ok-copied-3.ensures, c.in_ok-places.ensures)
     (record {
       has = c.requires.has;
       count = kept.count;
@@ -19,4 +18,4 @@ invariant_of-result c =
 
 pub returns : goal.returns
 returns c =
-    rw (c.in_ok-copied.ensures, c.in_ok-copied-2.ensures, c.in_ok-copied-3.ensures, c.in_ok-places.ensures ∙ ap (map place_of) c.as_slice.ensures.keys) refl
+    rw (c.in_ok-copied.ensures, c.in_ok-copied-2.ensures, c.in_ok-copied-3.ensures, c.in_ok-places.ensures) refl

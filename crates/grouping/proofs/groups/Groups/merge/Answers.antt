@@ -14,6 +14,15 @@ keys c = ap (λ (g : GroupsAt). g.keys) c.other.view_is ∙ c.requires.alike.key
 batches : (c : In-Ok) → c.other.inside.shape.batches.now ≡ c.self.inside.shape.batches.now
 batches c = ap (λ (g : GroupsAt). g.batches) c.other.view_is ∙ c.requires.alike.batches ∙ sym (ap (λ (g : GroupsAt). g.batches) c.self.view_is)
 
+pub join-requires-clause-firsts : goal.join-requires-clause-firsts
+join-requires-clause-firsts c =
+    let shape = c.self.inside.shape in
+    let firsts = c.other.inside.kept.firsts.keys in
+    let same_keys = ap (λ (g : GroupsAt). g.keys) c.other.view_is ∙ c.requires.alike.keys ∙ sym (ap (λ (g : GroupsAt). g.keys) c.self.view_is) in
+    let same_batches = ap (λ (g : GroupsAt). g.batches) c.other.view_is ∙ c.requires.alike.batches ∙ sym (ap (λ (g : GroupsAt). g.batches) c.self.view_is) in
+    subst (λ (batches : List BatchAt). All (IsFirst batches shape.keys.now) firsts) same_batches
+    (subst (λ keys. All (IsFirst c.other.inside.shape.batches.now keys) firsts) same_keys (c.other.invariant.first c.in_default-refused.is))
+
 pub invariant_of-self-in-Ok : goal.invariant_of-self-in-Ok
 invariant_of-self-in-Ok c =
     let at = (goal.at.invariant_of-self-in-Ok c).In-Ok in

@@ -1,7 +1,7 @@
 use Rattle.std.proofs.Common.{◌≡◌, [], length, refl, ap, ◌∙◌, sym, subst, All, List, arith}
 use Rattle.std.proofs.lemmas.List.Elements.{All-nil}
 use Rattle.group_slots.specs.Adding.{IsKept, lists_of}
-use Rattle.grouping.specs.declared.key.RowKey.{RowKey}
+use Rattle.first_rows.specs.declared.key.RowKey.{RowKey}
 use Rattle.grouping.specs.inside.Placing.{found_by, IsFirst}
 use Rattle.grouping.proofs.Blank.{kept_blank, found_first, holds_none}
 use Rattle.grouping.proofs.groups.Groups.new.Goals as goal
@@ -9,7 +9,7 @@ use Rattle.grouping.proofs.groups.Groups.new.Goals as goal
 pub invariant_of-result : goal.invariant_of-result
 invariant_of-result c =
     let shape = c.args.shape in
-    let none : c.with_hasher-firsts.result.keys ≡ [] = c.with_hasher-firsts.ensures.empty in
+    let none : c.new-firsts.result.keys ≡ [] = c.new-firsts.ensures in
     let many : length c.in_ok-tallies.tallies.items ≡ length shape.items.now = c.in_ok-tallies.ensures.many in
     record {
       shaped = record { typed = c.requires.typed; has = c.requires.has };
@@ -23,7 +23,7 @@ invariant_of-result c =
 pub returns : goal.returns
 returns c =
     let shape = c.args.shape in
-    let none : c.with_hasher-firsts.result.keys ≡ [] = c.with_hasher-firsts.ensures.empty in
+    let none : c.new-firsts.result.keys ≡ [] = c.new-firsts.ensures in
     let many : length c.in_ok-tallies.tallies.items ≡ length shape.items.now = c.in_ok-tallies.ensures.many in
     record {
       batches_are = refl;

@@ -1,0 +1,63 @@
+//! Beginning the first stream of a run over a connection of its own.
+
+ghost use Rattle.std.specs.Prelude.{IfOk};
+ghost use Rattle.flight_proto.specs.FlightInfo.{endpoint_said};
+ghost use Rattle.client_commands.specs.Lines.{CanCount};
+ghost use Rattle.client_commands.specs.inside.Relaying.{Ahead, BeginsAtLast};
+
+use crate::apart::{Refused, settle};
+use crate::connecting::open;
+use crate::lost::Lost;
+use client_calls::{Failure, Fetching};
+use command_ends::Connect;
+use flight_proto::FlightEndpoint;
+use std::alloc::Global;
+
+/// The stream of an endpoint, begun over a connection of this handle.
+///
+/// # Errors
+///
+/// The handle, where it gives no connection.
+pub(crate) fn begin_apart<C: Connect + Drop>(
+    alloc: Global,
+    mut handle: C,
+    port: u16,
+    endpoint: &FlightEndpoint,
+) -> Result<Result<Fetching<C::Reader, C::Writer>, Failure>, Refused<C>>
+    ensures { Ahead (λ old ends new. C.connects old port ends new) (λ fetching. fetching)
+        (endpoint_said endpoint.now).ticket handle result }
+{
+    match open(alloc, &mut handle, port) {
+        Ok(connection) => Ok(Fetching::begin(alloc, connection, &endpoint.ticket)),
+        Err(error) => Err(Refused { handle, error }),
+    }
+}
+
+/// The stream of an endpoint: what was begun, or where the handle gave no connection, over one for which it is asked once more.
+///
+/// # Errors
+///
+/// - `Lost::Failed` with the failure of the fetch.
+/// - `Lost::Unconnected` where it gives none again.
+pub(crate) fn begin_at_last<C: Connect + Drop>(
+    alloc: Global,
+    begun: Result<Result<Fetching<C::Reader, C::Writer>, Failure>, Refused<C>>,
+    port: u16,
+    endpoint: &FlightEndpoint,
+) -> Result<Fetching<C::Reader, C::Writer>, Lost>
+    requires { (handle : C) × Ahead (λ old ends new. C.connects old port ends new) (λ fetching. fetching)
+        (endpoint_said endpoint.now).ticket handle begun }
+    ensures begins { (handle : C) → Ahead (λ old ends new. C.connects old port ends new) (λ fetching. fetching)
+        (endpoint_said endpoint.now).ticket handle begun →
+        BeginsAtLast (λ old ends new. C.connects old port ends new) (λ fetching. fetching)
+        (endpoint_said endpoint.now).ticket handle result }
+    ensures counts { IfOk result (λ fetching. CanCount fetching.line) }
+{
+    match begun {
+        Ok(begun) => settle::<C, _>(Ok(begun)),
+        Err(refused) => {
+            let Refused { handle, error: _ } = refused;
+            settle(begin_apart(alloc, handle, port, endpoint))
+        }
+    }
+}

@@ -1,0 +1,5 @@
+pub mod Coded
+pub mod KeyCells
+pub mod Numbering
+pub mod Places
+pub mod Same

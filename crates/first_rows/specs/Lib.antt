@@ -1,0 +1,5 @@
+pub mod Firsts
+pub mod Keys
+pub mod Numbered
+pub mod Numbers
+pub mod RowKeys

@@ -1,0 +1,11 @@
+//! The first row of each key, in the order in which keys came. The texts of a key have numbers, by which keys are compared.
+#![tactic(auto)]
+
+mod cell;
+pub mod firsts;
+pub mod key;
+mod numbered;
+mod texts;
+
+pub use crate::firsts::FirstRows;
+pub use crate::key::RowKey;

@@ -1,9 +1,0 @@
-use Rattle.std.proofs.Common.{◌≡◌, ℕ, ◌<◌, true, get_or}
-use Rattle.scan_base.specs.declared.value.Value.TheVariants.{Null}
-use Rattle.typed_plan.specs.Grouped.{same_value}
-use Rattle.grouping.specs.RowKeys.{key_of}
-use Rattle.grouping.proofs.key.RowKeyPartialEq.eq.Given as goal
-
-abbrev pub invariant-loop-place : goal.invariant-loop-place
-invariant-loop-place l = (k : ℕ) → k < l.place →
-    same_value (get_or (key_of l.self) k Null) (get_or (key_of l.other) k Null) ≡ true
