@@ -1,7 +1,7 @@
 #!/usr/bin/env python3
 """What a few kilobytes of input may make the program hold: ten inputs that are small beside the answers that they ask for.
 
-    python3 bench/hostile.py [--program PATH] [--rows N] [CASE..]
+    python3 bench/hostile.py [--program PATH] [--rows N] [--given-back] [CASE..]
 
 Buffers of a put may lie over each other, so that many columns cost the bytes of one; a dictionary has a text once, however
 often it is named, while an answer has one for each of its batches; and a group is made of a bit. Each case puts such tables
@@ -9,6 +9,10 @@ and fetches one answer of them through `flightscan pipe`. The program is run on 
 the fetch. It may hold 64 MB beside what docs/ARCHITECTURE.md states for a fetch: that is a list for each group, of which
 the table says how much it is. Of two cases the seconds tell more: their one long text stands in a key beside another number in each
 row, and is not to be looked at for each. Every answer has to end with status 0. It ends with 1 where one does not, or more is held.
+
+With --given-back each case goes to a `serve` of one seat, which is asked for the answer three times. It tells what the server
+holds behind the puts, and behind the first and the last answer. At the end it may hold no more than 64 MB above the puts, and no
+more than 8 MB above what it held behind the first answer.
 
 `--rows N` makes each table of N rows or fewer, to try the script. Build the program first, as for `pipe.py`.
 """
@@ -29,11 +33,14 @@ sys.path[:0] = [str(ROOT / "scripts"), str(ROOT / "vectors/arrow")]
 
 from built import program  # noqa: E402
 from layout import written  # noqa: E402
+from loopback import Connection, Server  # noqa: E402
 from measured import Measured  # noqa: E402
 from trees import BOOL, UTF8, batch, dictionary, encoding, field, integer, placed, schema, texts  # noqa: E402
 from wire import call, chunk, descriptor, packed, query_handle, ticket  # noqa: E402
 
 HELD_MB = 64  # beside what is stated
+TIMES, GROWN_MB = 3, 8  # of an answer that is asked for again, and what the server may hold more behind the last than behind the first
+PIECE = 1_048_576  # so many bytes of an answer are read at once, and dropped
 LONG = b"x" * 65_536  # the longest text that a table may have
 INT64, INT32, UINT16 = integer(64, True), integer(32, True), integer(16, False)
 VALUES, PIECE_ROWS = 16_016, 1_024  # of a dictionary of many values, and of each batch whose rows name one of them
@@ -201,8 +208,7 @@ def tried(command, case):
     _, base, ends, status = run(command, puts)
     if (ends, status) != (STATUS_OK, 0):
         return f"| {case.name} | the puts end with {ends!r}, exit {status} |", False
-    fetch = call(b"DoGet", [ticket(query_handle(len(case.puts), 0, case.rows, case.query))])
-    seconds, held, ends, status = run(command, puts + fetch)
+    seconds, held, ends, status = run(command, puts + fetch_of(case))
     above, whole = (held - base - case.stated) / 1e6, (ends, status) == (STATUS_OK, 0)
     said = "whole" if whole else f"{ends!r}, exit {status}"
     line = (f"| {case.name} | {len(puts) / 1e3:,.0f} | {said} | {seconds:.1f} | {base / 1e6:,.0f} | {(held - base) / 1e6:,.0f} "
@@ -210,18 +216,57 @@ def tried(command, case):
     return line, whole and above <= HELD_MB
 
 
+# ---- what is given back
+
+
+def fetch_of(case):
+    return call(b"DoGet", [ticket(query_handle(len(case.puts), 0, case.rows, case.query))])
+
+
+def end_of_answer(connection):
+    """Reads an answer to its end, and keeps of it the code of its status alone."""
+    while (kind := connection.number(1)) == 2:
+        connection.take(1)
+        left = connection.number(4)
+        while left > 0:
+            left -= len(connection.take(min(left, PIECE)))
+    code = connection.number(1)
+    connection.take(connection.number(2))
+    return code if kind == 4 else None
+
+
+def given_back(path, case):
+    """A line on what a server holds behind the puts and behind its answers, and whether it gave back what they took."""
+    with Server(path, "--seats", "1") as server, Connection(server.port) as connection:
+        connection.send(b"".join(case.puts))
+        codes = [end_of_answer(connection) for _ in case.puts]
+        held = [server.held()]
+        for _ in range(TIMES):
+            connection.send(fetch_of(case))
+            codes.append(end_of_answer(connection))
+            held.append(server.held())
+    base, first, *_, last = (size / 1e6 for size in held)
+    good = set(codes) == {0} and last - base <= HELD_MB and last - first <= GROWN_MB
+    said = "whole" if set(codes) == {0} else f"codes {codes}"
+    return f"| {case.name} | {said} | {base:,.0f} | {first - base:,.0f} | {last - base:,.0f} | {'yes' if good else 'NO'} |", good
+
+
 def main():
     parser = argparse.ArgumentParser(description=__doc__, formatter_class=argparse.RawDescriptionHelpFormatter)
     parser.add_argument("--program", help="the built program (that of the repository)")
     parser.add_argument("--rows", type=int, default=2_000_000, help="how many rows a table has at most")
+    parser.add_argument("--given-back", action="store_true", help="look at what a server holds behind the answers")
     parser.add_argument("cases", nargs="*", metavar="CASE", help="words of the names of the cases that are tried (all)")
     words = parser.parse_args()
-    command, measured, right = [program(words.program), "pipe"], Measured(words.program), True
-    print("| | KB put | ends | seconds | MB of the puts | MB more | MB stated | within 64 MB |\n|---|---:|---|---:|---:|---:|---:|---|")
+    path, measured, right = program(words.program), Measured(words.program), True
+    if words.given_back:
+        print(f"| | ends | MB of the puts | MB more behind an answer | behind {TIMES} | given back |\n|---|---|---:|---:|---:|---|")
+    else:
+        print("| | KB put | ends | seconds | MB of the puts | MB more | MB stated | within 64 MB |\n|---|---:|---|---:|---:|---:|---:|---|")
     for case in cases(words.rows):
         if words.cases and not any(word in case.name for word in words.cases):
             continue
-        line, good = tried(command, case)
+        line, good = given_back(path, case) if words.given_back else tried([path, "pipe"], case)
         print(line, flush=True)
         right = right and good
     print(f"\n{measured.line()}")

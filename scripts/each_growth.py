@@ -5,11 +5,12 @@
 
 The session has puts of three tables, of which one has 140,000 rows in three batches, so two workers share its fetches;
 infos in two parts with puts between, one that extends a table and one that replaces it; fetches of the parts, the later one
-first; a join, groups, a filter, the list of tables, and a put that is refused. `serve` gets the calls in turn over two
-connections. Of N allocations the one of number 1, 2, .. N is refused, where N is how many the session takes.
+first; a join, groups, a filter, a schema, the list of tables, and a put that is refused; and an expiry, a fetch below its floor
+and an expiry of what was never reached. `serve` gets the calls in turn over two connections. Of N allocations the one of number 1, 2, .. N is refused, where N is how many the session takes.
 
 Each answer has to be whole, or F21, which a fetch may have behind a beginning of its rows. A put is in the history exactly
-where its status is 0: what the answers behind it have to be is worked out from the statuses so far, by a model on plain lists.
+where its status is 0, and so is the floor of an expiry: what the answers behind them have to be is worked out from the statuses so
+far, by a model on plain lists.
 The list of tables, asked for last, has the number of the puts that were made. One F21 is all there may be, and where it ends a
 connection, a new one goes on. If that client is still sending, its F21 may be lost on the way: then its call is not done. It ends with 1 at the first difference, and says the number. It needs a C compiler and the proved
 program, as each_allocation.py does.
@@ -40,13 +41,14 @@ from each_allocation import FAULT_LINE, REFUSED, compiled, counted_in  # noqa: E
 from loopback import Connection, Server  # noqa: E402
 from random_calls import large  # noqa: E402
 from random_calls import plain_model as model  # noqa: E402
-from random_calls.answers import Difference, FlightInfo, PutCount, Refusal, Rows, columns_of, same  # noqa: E402
+from random_calls.answers import Difference, FlightInfo, PutCount, Refusal, Rows, SchemaResult, columns_of, same  # noqa: E402
 from random_calls.batched import stream_in_batches  # noqa: E402
 from random_calls.joined import Count, Place, Query, Sum  # noqa: E402
 from random_calls.plain_model import Column, Comparison, Database, Literal, Name, Put, Refused, Row, Table  # noqa: E402
 from random_calls.puts import ingest, messages_of  # noqa: E402
 from random_calls.refused import QUERY, TABLES  # noqa: E402
 from reader import Fault, Reader  # noqa: E402
+from served.cases import expiry_of  # noqa: E402
 
 SECONDS = 60  # that one run may take
 OUT_OF_MEMORY = (8, "F21 OutOfMemory")
@@ -59,10 +61,11 @@ MANY, MANY_ENDS = 140_000, [5_000, 90_000, 140_000]
 
 @dataclass
 class State:
-    """The versions that were made so far, with the numbers of the calls that made the last one, and what was refused."""
+    """The versions that were made so far, with the numbers of the calls that made the last one, the floor, and what was refused."""
 
     versions: list[Database] = field(default_factory=lambda: [{}])
     made: tuple[int, ...] = ()
+    floor: int = 0
     refused: int = 0
 
 
@@ -154,6 +157,32 @@ def info(asked: Asked) -> Call:
     return Call(f"info of {asked.text}", wire.call(b"GetFlightInfo", [descriptor]), may_be_refused(look))
 
 
+def schema(asked: Asked) -> Call:
+    descriptor = wire.descriptor(wire.packed(QUERY, wire.chunk(1, asked.text.encode())))
+
+    def look(answer: wire.Answer, state: State) -> None:
+        if asked.binds(state.versions[-1]):
+            SchemaResult(asked.columns(state.versions[-1])).look(answer)
+        else:
+            same("whether a schema is refused", True, answer.code != 0)
+
+    return Call(f"schema of {asked.text}", wire.call(b"GetSchema", [descriptor]), may_be_refused(look))
+
+
+def expire(version: int) -> Call:
+    """The floor is raised only where it is answered."""
+
+    def look(answer: wire.Answer, state: State) -> None:
+        if version >= len(state.versions):
+            Refusal("F18").look(answer)
+            return
+        state.floor = max(state.floor, version)
+        same("the status of an expiry", (0, ""), (answer.code, answer.text))
+        same("the floor", [state.floor.to_bytes(8, "big")], [wire.one_field(message, 1) for message in answer.messages])
+
+    return Call(f"expiry below version {version}", expiry_of(version), may_be_refused(look))
+
+
 def look_at_beginning(answer: wire.Answer, columns: list[Column], rows: list[Row]) -> None:
     """Messages before F21 say a beginning of the rows."""
     reader = Reader()
@@ -169,7 +198,7 @@ def fetch(asked: Asked, version: int, first: int, end: int) -> Call:
     def look(answer: wire.Answer, state: State) -> None:
         is_refused = (answer.code, answer.text) == OUT_OF_MEMORY
         state.refused += is_refused
-        fault = "F18" if version >= len(state.versions) else "F17" if not fits(asked, state, version, first, end) else None
+        fault = fault_of(asked, state, version, first, end)
         if fault is None:
             columns = asked.columns(state.versions[version])
             rows = asked.rows(state, version, first, end)
@@ -182,6 +211,15 @@ def fetch(asked: Asked, version: int, first: int, end: int) -> Call:
 
     handle = wire.query_handle(version, first, end, asked.text.encode())
     return Call(f"rows {first} to {end} at version {version} of {asked.text}", wire.call(b"DoGet", [wire.ticket(handle)]), look)
+
+
+def fault_of(asked: Asked, state: State, version: int, first: int, end: int) -> str | None:
+    """Why a fetch is refused, if it is: its version was not reached, or is expired, or its query or range is not there."""
+    if version >= len(state.versions):
+        return "F18"
+    if version < state.floor:
+        return "F19"
+    return None if fits(asked, state, version, first, end) else "F17"
 
 
 def fits(asked: Asked, state: State, version: int, first: int, end: int) -> bool:
@@ -242,7 +280,8 @@ def session() -> list[Call]:
         fetch(of["sums"], 4, 0, MANY), fetch(of["groups"], 3, 0, 5), fetch(of["met"], 4, 0, MANY),
         put(random, 6, put_of("t", "REPLACE", A_AND_S, texts), [5]),
         fetch(of["plain"], 1, 0, 2), fetch(of["join"], 3, 0, 3), fetch(of["few"], 4, 100, 139_000),
-        put(random, 7, put_of("t", "REPLACE", A, [(7,)]), [1]), info(of["plain"]), fetch(of["plain"], 6, 0, 1), tables(),
+        put(random, 7, put_of("t", "REPLACE", A, [(7,)]), [1]), info(of["plain"]), schema(of["join"]),
+        expire(5), fetch(of["plain"], 1, 0, 2), fetch(of["plain"], 6, 0, 1), expire(9), tables(),
     ]
 
 

@@ -4,7 +4,7 @@
     python3 scripts/serving.py [--program PATH] [--seeds N] [CASE..]
 
 The client speaks records, Protocol Buffers, FlatBuffers by position and Arrow's columns by scripts/wire.py and
-vectors/arrow/reader.py, and knows from plain lists what has to be answered. The programs `put`, `query` and `tables` are
+vectors/arrow/reader.py, and knows from plain lists what has to be answered. The programs `put`, `query`, `tables` and `expire` are
 looked at by what they print and how they end. Each case has a server of its own and a line that says what holds; the last
 line counts them. It ends with 1 at a difference, and says which. With names, the cases whose names begin so are run.
 Build the program first, as for bench/pipe.py.

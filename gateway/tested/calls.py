@@ -20,7 +20,7 @@ from layout import written
 from random_calls.answers import NAMES, Difference, PutCount, Refusal, same
 from random_calls.plain_model import Column, Comparison, Literal, Name, Put, Query, Table, after, answer_rows, split
 from random_calls.refused import INGEST, WITH_INFOS
-from served.cases import A, A_AND_S, MEGABYTE, appended, fetch_of, info_of, put_of, replaced, rows_of
+from served.cases import A, A_AND_S, MEGABYTE, appended, expiry_of, fetch_of, info_of, put_of, replaced, rows_of
 from trees import batch, field, integer, schema
 
 from tested.cases import ask, call_of, case, look_at_status, put_messages, rows_in
@@ -119,6 +119,20 @@ def groups_and_joins(run: Run) -> None:
                               [(1, 1), (1, 4), (3, 3), (4, 1), (4, 4)])):
             info = client.info(query(text))
             same(text, wanted, [row for endpoint in info.endpoint for row in rows_in(client.fetch(endpoint.ticket))])
+
+
+@case("an expiry, by messages of protoc: the floor, F19 below it, the rows at it, and F18 above all versions")
+def expired_versions(run: Run) -> None:
+    text = "SELECT * FROM t"
+    with run.serving() as (_, gateway), Client(gateway.port) as client:
+        ask(client, put_of("t", A, [(1,), (2,)]), PutCount(2))
+        ask(client, appended("t", A, [(3,)]), PutCount(1))
+        ask(client, fetch_of(1, 0, 2, text), rows_of(A, (1,), (2,)))
+        results = [*client.act(flight.Action(type="scan.expire", body=(2).to_bytes(8, "big")))]
+        same("the floor", [2], [int.from_bytes(result.body, "big") for result in results])
+        ask(client, expiry_of(3), Refusal("F18"))
+        ask(client, fetch_of(1, 0, 2, text), Refusal("F19"))
+        ask(client, fetch_of(2, 0, 3, text), rows_of(A, (1,), (2,), (3,)))
 
 
 # ---- faults

@@ -19,7 +19,7 @@ FAULTS = {"F6": "F6 BadFlatbuffer", "F7": "F7 UnsupportedArrow", "F8": "F8 BadBa
 # The messages that are changed byte by byte and cut at each length, behind others.
 HOSTILE = "hostile_schema hostile_dictionary"
 SWEPT = [
-    ("header", "own_schema"), ("header", "schema_Decimal128_full"), ("header", "hostile_schema"),
+    ("header", "own_schema"), ("header", "own_schema own_batch"), ("header", "schema_Decimal128_full"), ("header", "hostile_schema"),
     ("header", "hostile_schema hostile_dictionary"), ("body", "hostile_schema hostile_dictionary"),
     ("header", f"{HOSTILE} hostile_batch"), ("body", f"{HOSTILE} hostile_batch"),
 ]

@@ -113,9 +113,9 @@ def at(version, rows):
     return query_handle(version, 0, rows, ALL)
 
 
-note("old versions are expired: the floor, and fetches below it, at it and above it; the next put has the next number")
+note("a version is fetched, and expired; the floor, and fetches below it, at it and above it; the next put has the next number")
 assert action(2) == b"\x0a\x0bscan.expire\x12\x08" + bytes(7) + b"\x02"
-EXPIRED = (ONE_TO_FIVE, MORE, MORE, expire(2, 2), refuse(b"DoAction", [action(5)], "F18"), expire(1, 2), expire(0, 2),
+EXPIRED = (ONE_TO_FIVE, MORE, MORE, fetch(at(1, 5), A, *whole_numbers(1, 2, 3, 4, 5)), expire(2, 2), refuse(b"DoAction", [action(5)], "F18"), expire(1, 2), expire(0, 2),
            refuse(b"DoGet", [ticket(at(1, 5))], "F19"), fetch(at(2, 6), A, *whole_numbers(1, 2, 3, 4, 5, 6)),
            refuse(b"DoGet", [ticket(at(4, 8))], "F18"), expire(3, 3), refuse(b"DoGet", [ticket(at(2, 6))], "F19"),
            fetch(at(3, 7), A, *whole_numbers(1, 2, 3, 4, 5, 6, 6)), MORE, info(PAYLOAD, A, [at(4, 8)]),
