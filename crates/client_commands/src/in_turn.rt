@@ -39,8 +39,8 @@ use std::thread::Threads;
 /// The first failure, in the order of the endpoints. Where something was written, the stream breaks off in the middle of a message
 /// behind some of the rows, so that no reader takes it for whole. Where a write failed, a beginning of the stream was written, which
 /// may end behind a message.
-/// - `Lost::Failed`, as `ask_places`, `begin_first`, `pass_run` and `begin_at_last` give it. It comes once the connection that is
-///   made ahead is there, or refused.
+/// - `Lost::Failed`, as `ask_places`, `begin_first`, `pass_run` and `begin_at_last` give it. It comes once the stream that is begun
+///   ahead has said its schema, or has failed; nothing bounds that time.
 /// - `Lost::Unconnected` where the streams of all endpoints before those of a further connection were passed on, and the network
 ///   was asked twice for that one and gave none.
 pub(crate) fn stream_rows<T: Threads, C: Connect + Drop + Send, O: Output>(

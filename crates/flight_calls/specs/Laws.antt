@@ -45,7 +45,7 @@ pub record IsWhole (result : Result (Unit {0}) Fault) (new : Connection) (calls 
   pub begins : flat_map (λ item. item) owed ≡ written ++ more
   pub all : result ≡ Ok tt → more ≡ []
 
--- So it is of each connection that was new: nothing is read or written beside what its calls are owed.
+-- So it is of each connection that was new: nothing is written beside what its calls are owed.
 abbrev pub NewConnectionsAreWhole : Moves → Type 0
 NewConnectionsAreWhole moves =
     (options : Options) (result : Result (Unit {0}) Fault) (old new : Connection) (serves : Serves moves options result old new)
