@@ -92,6 +92,7 @@ fn of_morsel(patience: Patience) -> Patience
     match patience {
         Patience::Endless => Patience::Endless,
         Patience::Rows(rows) => Patience::Rows(rows / MOST_ENDED),
+        Patience::Choice => Patience::Choice,
     }
 }
 
@@ -101,7 +102,7 @@ fn is_over(patience: Patience, ended: usize) -> bool
 {
     match patience {
         Patience::Endless => false,
-        Patience::Rows(_) => ended >= MOST_ENDED,
+        Patience::Rows(_) | Patience::Choice => ended >= MOST_ENDED,
     }
 }
 
@@ -164,7 +165,7 @@ fn next_answer<A, P: Answers<A>>(patience: Patience, answers: &mut P) -> NextAns
     ensures comes { ComesIn patience P.right (P.count answers.old) (P.given answers.old) result (P.given answers.new) }
 {
     match patience {
-        Patience::Rows(_) => answers.turn(),
+        Patience::Rows(_) | Patience::Choice => answers.turn(),
         Patience::Endless => match answers.next() {
             Some(answer) => NextAnswer::Given(answer),
             None => NextAnswer::End,

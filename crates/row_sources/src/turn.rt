@@ -26,6 +26,8 @@ pub enum Patience {
     Endless,
     /// So many, and behind them those of the batch in hand.
     Rows(usize),
+    /// Until the next rows are chosen. None of them is given yet: they are those of the next turn.
+    Choice,
 }
 
 /// What a turn works with.
@@ -57,8 +59,9 @@ impl Looking {
     // How many rows were looked at in a turn of watched work.
     pub(crate) fn looked(&self) -> usize {
         match self.patience {
-            Patience::Endless => 0,
             Patience::Rows(left) => WATCHED_ROWS.saturating_sub(left),
+            Patience::Endless => 0,
+            Patience::Choice => 0,
         }
     }
 }
