@@ -29,6 +29,14 @@ const TURNS_AHEAD: usize = 8;
 
 const ROWS_AHEAD: usize = 65_536;
 
+// So many turns of a stream, and the patience of each.
+#[derive(Drop)]
+struct Turns {
+    alloc: Global,
+    patience: Patience,
+    most: usize,
+}
+
 /// The parcels of a morsel: those that were made ahead, and behind them the others, each of which is made when it is asked
 /// for. A contract sees a stream that has begun: it says no schema.
 pub struct Ahead<'s> {
@@ -140,13 +148,30 @@ impl<'s> Ahead<'s> {
         }
     }
 
+    /// Chooses the rows of the first parcel, which is not made yet. The same is still to come.
+    pub fn choose(&mut self, alloc: Global)
+        ensures { self.new ≡ self.old }
+    {
+        let turns = Turns {
+            alloc,
+            patience: Patience::Choice,
+            most: 1,
+        };
+        make_more(&turns, &mut self.made, &mut self.bytes, &mut self.rest);
+    }
+
     /// Makes parcels ahead for a while, until there are 16 or they have 8,388,608 bytes: it looks at 1,048,576 rows at most.
     /// Whether there is more to be made ahead then. The same is still to come. What refuses a parcel is answered behind those
     /// that were made before.
     pub fn go_on(&mut self, alloc: Global) -> bool
         ensures { self.new ≡ self.old }
     {
-        make_more(alloc, &mut self.made, &mut self.bytes, &mut self.rest)
+        let turns = Turns {
+            alloc,
+            patience: Patience::Rows(ROWS_AHEAD),
+            most: TURNS_AHEAD,
+        };
+        make_more(&turns, &mut self.made, &mut self.bytes, &mut self.rest)
     }
 }
 
@@ -190,9 +215,9 @@ fn make_next(
     }))
 }
 
-// Makes parcels of a stream ahead for a while, as many as there is room for. Whether there is more to be made ahead then.
+// Makes parcels of a stream ahead for so many turns, as many as there is room for. Whether there is more to be made ahead then.
 fn make_ahead(
-    alloc: Global,
+    turns: &Turns,
     made: &mut VecDeque<Made>,
     bytes: &mut usize,
     rest: &mut FetchStream,
@@ -200,11 +225,10 @@ fn make_ahead(
     ensures { (schema : Schema) (rows : List Row) (given : ℕ) → AreAhead schema rows given made.old.items (Some rest.old) →
         AreAhead schema rows given made.new.items (Some rest.new) }
 {
-    let patience = Patience::Rows(ROWS_AHEAD);
-    let mut turns = TURNS_AHEAD;
-    while turns > 0 && made.len() < made.capacity() && *bytes < MOST_MADE_BYTES {
-        turns -= 1;
-        match make_next(alloc, patience, rest) {
+    let mut left = turns.most;
+    while left > 0 && made.len() < made.capacity() && *bytes < MOST_MADE_BYTES {
+        left -= 1;
+        match make_next(turns.alloc, turns.patience, rest) {
             Ok(Turn::Given(next)) => {
                 *bytes = bytes.saturating_add(next.parcel.len());
                 made.push_back_reserved(next);
@@ -214,12 +238,12 @@ fn make_ahead(
             Err(_) => return false,
         }
     }
-    turns == 0
+    left == 0
 }
 
 // The same, where there is memory for the rest.
 fn make_more(
-    alloc: Global,
+    turns: &Turns,
     made: &mut VecDeque<Made>,
     bytes: &mut usize,
     rest: &mut Option<FetchStream>,
@@ -228,7 +252,7 @@ fn make_more(
         AreAhead schema rows given made.new.items rest.new }
 {
     match rest {
-        Some(stream) => make_ahead(alloc, made, bytes, stream),
+        Some(stream) => make_ahead(turns, made, bytes, stream),
         None => false,
     }
 }

@@ -4,7 +4,8 @@ use fetch_stream::{Ahead, Morsels};
 use scan_workers::Work;
 use std::alloc::Global;
 
-// The morsels of a stream, each of which is answered by its payloads. A worker makes some of them ahead, turn by turn.
+// The morsels of a stream, each of which is answered by its payloads. A worker chooses the first rows of one, and then makes some
+// payloads ahead, turn by turn.
 #[derive(Drop)]
 pub(crate) struct MorselWork<'s> {
     pub(crate) morsels: Morsels<'s>,
@@ -26,8 +27,14 @@ impl<'s> Work for MorselWork<'s> {
         self.morsels.count()
     }
 
+    fn chooses_first(&self) -> bool {
+        true
+    }
+
     fn answer(&self, alloc: Global, morsel: usize) -> Ahead<'s> {
-        self.morsels.ahead(alloc, morsel)
+        let mut ahead = self.morsels.ahead(alloc, morsel);
+        ahead.choose(alloc);
+        ahead
     }
 
     fn go_on(&self, alloc: Global, answer: &mut Ahead<'s>) -> bool {

@@ -41,12 +41,24 @@ impl<'a, K: Truth<A>, A: Drop, W: Work<Answer = A>, G: Gate, R: Wait> Exchange<'
         self.work.go_on(self.alloc, &mut answered.answer)
     }
 
-    // The answer to a morsel, made turn by turn, or none where answers are no longer read.
+    // Waits until a morsel may be begun. Whether answers are still read.
+    fn wait_to_begin(&self, number: usize) -> bool {
+        if self.work.chooses_first() {
+            self.window.wait_to_choose(self.rt, number)
+        } else {
+            self.window.wait_for_room(self.rt, number)
+        }
+    }
+
+    // The answer to a morsel, begun, and then made turn by turn once it has a slot; or none where answers are no longer read.
     fn make(&self, number: usize) -> Option<Answered<K, A>>
         requires ready { W.ready self.now.work.now }
         requires there { number < W.count self.now.work.now }
     {
         let mut answered = self.answer(number);
+        if !self.window.wait_for_room(self.rt, number) {
+            return None;
+        }
         for _ in self.rt.forever() {
             if !self.go_on(&mut answered) {
                 return Some(answered);
@@ -75,7 +87,7 @@ impl<'a, K: Truth<A>, A: Drop, W: Work<Answer = A>, G: Gate, R: Wait> Exchange<'
     {
         for _ in self.rt.forever() {
             let number = draw(&self.word, me) as usize;
-            if number >= self.work.count() || !self.window.wait_for_room(self.rt, number) {
+            if number >= self.work.count() || !self.wait_to_begin(number) {
                 return;
             }
             let Some(answered) = self.make(number) else {

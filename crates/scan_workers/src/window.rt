@@ -58,9 +58,9 @@ struct Slots<K: Truth<A>, A> {
 }
 
 impl<K: Truth<A>, A: Drop> Slots<K, A> {
-    // Whether a worker may go on with a morsel: its answer has a slot, or no more are read.
-    fn may_go_on(&self, number: usize) -> bool {
-        self.closed || number.saturating_sub(self.read) < self.answers.len()
+    // Whether a worker may go on with a morsel: it is one of so many from the one on that the reader is at, or no more are read.
+    fn may_go_on(&self, number: usize, many: usize) -> bool {
+        self.closed || number.saturating_sub(self.read) < many
     }
 
     // Puts an answer into its slot. Whether the reader asks for it.
@@ -133,9 +133,10 @@ pub struct Window<K: Truth<A>, A> {
     // ... and the number behind the last morsel that was made, or of which a turn was over, while the reader asked for it.
     answered: AtomicUsize,
     filled: Condvar,
-    // A worker sleeps beside the slot of its morsel, so that a slot which becomes free wakes no other one.
+    // A worker sleeps at the place of its morsel, so that none is woken but the one that may go on. There are twice as many places
+    // as slots, for morsels of which the rows are chosen before there is a slot.
     rooms: Vec<Condvar>,
-    // How many slots there are: so many morsels are begun or answered at once, from the one on that the reader is at.
+    // How many slots there are: so many answers are made or there at once, from the one on that the reader is at.
     pub size: usize,
 }
 
@@ -143,9 +144,10 @@ impl<K: Truth<A>, A: Drop> Window<K, A> {
     // A window of so many slots.
     pub fn new(alloc: Global, size: usize) -> Result<Window<K, A>, AllocError> {
         let mut answers = Vec::with_capacity(alloc, size)?;
-        let mut rooms = Vec::with_capacity(alloc, size)?;
+        let mut rooms = Vec::with_capacity(alloc, size.saturating_mul(2))?;
         for _ in 0..size {
             answers.push(None)?;
+            rooms.push(Condvar::new())?;
             rooms.push(Condvar::new())?;
         }
         Ok(Window {
@@ -165,15 +167,15 @@ impl<K: Truth<A>, A: Drop> Window<K, A> {
         })
     }
 
-    // Where a worker sleeps until the answer of a morsel has a slot.
+    // Where the worker of a morsel sleeps until it may go on.
     fn room(&self, number: usize) -> Option<&Condvar> {
         self.rooms.get(number.checked_rem(self.rooms.len())?)
     }
 
-    // Looks for a while whether the answer of a morsel has a slot.
-    fn look_for_room(&self, number: usize) {
+    // Looks for a while whether a morsel is one of so many from the one on that the reader is at.
+    fn look_near(&self, number: usize, many: usize) {
         for _ in 0..LOOKS {
-            if number.saturating_sub(self.read.load(Ordering::Acquire)) < self.size {
+            if number.saturating_sub(self.read.load(Ordering::Acquire)) < many {
                 return;
             }
             thread::yield_now();
@@ -192,13 +194,24 @@ impl<K: Truth<A>, A: Drop> Window<K, A> {
 
     // Waits until the answer of a morsel has a slot. Whether answers are still read: without slots none are.
     pub fn wait_for_room(&self, rt: &impl Wait, number: usize) -> bool {
+        self.wait_near(rt, number, self.size)
+    }
+
+    // Waits until what a morsel answers may be chosen: as many morsels more may be begun as there are slots. Whether answers are
+    // still read.
+    pub fn wait_to_choose(&self, rt: &impl Wait, number: usize) -> bool {
+        self.wait_near(rt, number, self.size.saturating_mul(2))
+    }
+
+    // Waits until a morsel is one of so many from the one on that the reader is at. Whether answers are still read.
+    fn wait_near(&self, rt: &impl Wait, number: usize, many: usize) -> bool {
         let Some(room) = self.room(number) else {
             return false;
         };
-        self.look_for_room(number);
+        self.look_near(number, many);
         let mut slots = self.slots.lock(rt);
         for _ in rt.forever() {
-            if slots.may_go_on(number) {
+            if slots.may_go_on(number, many) {
                 return !slots.closed;
             }
             slots = room.wait(rt, slots);
@@ -283,14 +296,21 @@ impl<K: Truth<A>, A: Drop> Window<K, A> {
         unreachable!()
     }
 
-    // The reader is done with so many answers, and asks for the next one. One slot became free, for the last morsel of the window.
+    // The reader is done with so many answers, and asks for the next one. One slot became free, for the last morsel of the window,
+    // and the rows of one morsel more may be chosen.
     pub fn go_on(&self, rt: &impl Wait, read: usize) {
         let moved = self.slots.lock(rt).ask(read);
         if !moved {
             return;
         }
         self.read.store(read, Ordering::Release);
-        if let Some(room) = self.room(read.wrapping_add(self.size).wrapping_sub(1)) {
+        self.wake_last(read, self.size);
+        self.wake_last(read, self.size.saturating_mul(2));
+    }
+
+    // Wakes the worker, if it sleeps, whose morsel is the last one of so many from the one on that the reader is at.
+    fn wake_last(&self, read: usize, many: usize) {
+        if let Some(room) = self.room(read.wrapping_add(many).wrapping_sub(1)) {
             room.notify_one();
         }
     }
