@@ -15,6 +15,15 @@ struct Counts {
 }
 
 impl Counts {
+    // None is begun yet.
+    fn new() -> Counts {
+        Counts {
+            begun: AtomicU64::new(0),
+            done: AtomicU64::new(0),
+            most: AtomicU64::new(0),
+        }
+    }
+
     // One more is begun.
     fn begin(&self) {
         let begun = self.begun.fetch_add(1, Ordering::SeqCst).saturating_add(1);
@@ -31,10 +40,18 @@ impl Counts {
     }
 }
 
-// 200 morsels, each of which is counted as it is begun.
+// What is counted of morsels that are chosen, and of answers that are made.
+#[derive(Drop)]
+struct Held {
+    chosen: Counts,
+    made: Counts,
+}
+
+// 200 morsels. Each is counted as it is chosen, and as it is made: at once, or later where it is chosen first.
 #[derive(Drop)]
 struct Counted<'a> {
-    counts: &'a Counts,
+    held: &'a Held,
+    chooses_first: bool,
 }
 
 impl<'a> Work for Counted<'a> {
@@ -50,16 +67,30 @@ impl<'a> Work for Counted<'a> {
         200
     }
 
+    fn chooses_first(&self) -> bool {
+        self.chooses_first
+    }
+
     fn answer(&self, _alloc: Global, morsel: usize) -> usize {
-        self.counts.begin();
+        self.held.chosen.begin();
+        if !self.chooses_first {
+            self.held.made.begin();
+        }
         morsel
+    }
+
+    fn go_on(&self, _alloc: Global, _answer: &mut usize) -> bool {
+        if self.chooses_first {
+            self.held.made.begin();
+        }
+        false
     }
 }
 
 // It takes its time over each answer, so that others go ahead.
 #[derive(Drop)]
 struct Slow<'a> {
-    counts: &'a Counts,
+    held: &'a Held,
 }
 
 impl<'a> Reads<usize> for Slow<'a> {
@@ -71,27 +102,40 @@ impl<'a> Reads<usize> for Slow<'a> {
 
     fn read<P: Answers<usize>>(&mut self, answers: &mut P) {
         while let Some(_number) = answers.next() {
-            self.counts.end();
+            self.held.made.end();
+            self.held.chosen.end();
         }
     }
 }
 
-// Whether so many workers held no more answers than they are, and held some.
-fn is_within<R: Threads + Wait + Sync>(
+// So many answers are made at once at most, and so many morsels chosen.
+#[derive(Drop)]
+struct Most {
+    chosen: u64,
+    made: u64,
+}
+
+// How many morsels so many workers chose at once at most, and how many answers they made.
+fn most_of<R: Threads + Wait + Sync>(
     rt: &R,
     alloc: Global,
     workers: usize,
-) -> Result<bool, AllocError> {
-    let counts = Counts {
-        begun: AtomicU64::new(0),
-        done: AtomicU64::new(0),
-        most: AtomicU64::new(0),
+    chooses_first: bool,
+) -> Result<Most, AllocError> {
+    let held = Held {
+        chosen: Counts::new(),
+        made: Counts::new(),
     };
-    let mut reader = Slow { counts: &counts };
-    let work = Counted { counts: &counts };
+    let mut reader = Slow { held: &held };
+    let work = Counted {
+        held: &held,
+        chooses_first,
+    };
     in_order(rt, alloc, &work, workers, &NoGate, &mut reader)?;
-    let most = counts.most.load(Ordering::SeqCst);
-    Ok(0 < most && most <= workers as u64)
+    Ok(Most {
+        chosen: held.chosen.most.load(Ordering::SeqCst),
+        made: held.made.most.load(Ordering::SeqCst),
+    })
 }
 
 /// For how many numbers of workers, of 1 to 16, no more answers were there at once than workers, with the one that is read.
@@ -101,7 +145,25 @@ pub fn at_most_as_many_as_workers<R: Threads + Wait + Sync>(
 ) -> Result<String, AllocError> {
     let mut within = 0u32;
     for workers in 1..17 {
-        if is_within(rt, alloc, workers)? {
+        let most = most_of(rt, alloc, workers, false)?;
+        if 0 < most.made && most.made <= workers as u64 {
+            within = within.saturating_add(1);
+        }
+    }
+    format!(in alloc; "{within}")
+}
+
+/// For how many numbers of workers, of 1 to 16, that is so where a morsel is chosen before its answer is made, and no more than
+/// twice as many were chosen as there are workers.
+pub fn at_most_twice_as_many_are_chosen<R: Threads + Wait + Sync>(
+    rt: &R,
+    alloc: Global,
+) -> Result<String, AllocError> {
+    let mut within = 0u32;
+    for workers in 1..17 {
+        let most = most_of(rt, alloc, workers, true)?;
+        let few = most.made <= workers as u64 && most.chosen <= 2 * workers as u64;
+        if 0 < most.chosen && few {
             within = within.saturating_add(1);
         }
     }
