@@ -4,7 +4,7 @@ ghost use Rattle.std.specs.Prelude.{◌≡◌, OnOk};
 ghost use Rattle.scan_exec.specs.GroupWork.{CanBeGrouped, GroupsOfAll, work_at};
 
 use crate::merging::{Merging, PartGroups};
-use crate::parts::part_count;
+use crate::parts::cut_of;
 use grouping::Groups;
 use row_sources::Watches;
 use scan_base::Fault;
@@ -60,8 +60,8 @@ impl<R: Threads + Wait + Sync> StartsGroupWorkers for R {
 }
 
 /// Groups the rows of each part of the batches for itself, by several workers, and merges the groups in the order of the
-/// parts. There is one part for each worker, or for each batch where there are fewer batches. Threads are started once
-/// for a call, and have ended when it returns. No more workers are at work than there are batches; with fewer than two the rows
+/// parts. There is one long part for each worker and two short ones, or of few batches a part for each worker or batch. Threads are
+/// started once for a call, and have ended when it returns. No more workers are at work than there are batches; with fewer than two the rows
 /// are grouped in one walk, and no thread is started.
 #[derive(Drop)]
 pub struct GroupWorkers<'h, R: StartsGroupWorkers> {
@@ -115,13 +115,17 @@ fn groups_beside<'t, R: Threads + Wait + Sync, L: Watches>(
     ensures ready { OnOk result (L.ready watch.new) }
     ensures watched { L.watched watch.old watch.new }
 {
-    let parts = part_count(work.shape.batches.len(), workers);
-    let morsels = PartGroups { work, parts };
-    let mut merging = Merging { alloc, work, watch };
-    let merged = in_order(rt, alloc, &morsels, workers, &NoGate, &mut merging);
+    let cut = cut_of(work.shape.batches.len(), workers);
+    let parts = PartGroups { work, cut };
+    let mut merging = Merging {
+        alloc,
+        parts: &parts,
+        watch,
+    };
+    let merged = in_order(rt, alloc, &parts, workers, &NoGate, &mut merging);
     let Merging {
         alloc: _,
-        work: _,
+        parts: _,
         watch,
     } = merging;
     take_back(watch);
