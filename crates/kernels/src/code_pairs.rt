@@ -92,7 +92,7 @@ pub(crate) fn text_parts_compared(
     }
 }
 
-// The same where the texts of the first column are those of a dictionary.
+// The same where the first has the texts of a dictionary.
 fn coded_compared(
     alloc: Global,
     comparison: Comparison,
@@ -134,7 +134,8 @@ fn coded_compared(
     }
 }
 
-// The truths of `len` rows from `from` on of two dictionaries: by their pairs of codes, or one after another where there are too many pairs.
+// The truths of `len` rows from `from` on of two dictionaries: by their pairs of codes, or row by row where there are too
+// many pairs.
 fn codes_compared(
     alloc: Global,
     pairs: &CodedPairs<'_>,
@@ -171,7 +172,7 @@ fn pair_count(pairs: &CodedPairs<'_>, rows: usize) -> Option<usize>
     Some(count)
 }
 
-// A truth for each pair of codes: those are known that rows have, unless a value is null. None where there are too many pairs.
+// A truth for each pair of codes, unless there are too many. It is known where a row has the pair and both values are texts.
 fn pair_truths(
     alloc: Global,
     pairs: &CodedPairs<'_>,

@@ -50,7 +50,7 @@ impl<'a, L: TextColumn, R: TextColumn> Kernel for TextPairs<'a, L, R> {
     }
 }
 
-/// What a comparison of a column whose texts are its own says of its slots and those of another column, where these are texts too.
+/// What a comparison of two columns says of their slots, where the first has texts of its own and the other is of texts.
 ///
 /// # Errors
 ///
