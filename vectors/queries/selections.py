@@ -445,26 +445,28 @@ APART = Table("apart", [Column("i", integer(8, False), list(range(32))),
 
 PART_ROWS = [range(90), range(90, 150), range(150, 190)]
 PART_WORDS = ["", "a", "b", "ab", "abcdefgh", "abcdefghi", "abcdefghj", None]
+LONG_WORDS = ["", "a", "a" * 127, "a" * 128, "a" * 129, "a" * 128 + "b", "b" * 129, None]  # more than 128 bytes have a number
 
 
-def parts_table():
+def parts_table(table, words, texts):
     """The dictionary of p has more codes than a table of numbers has places at first, and that of q few."""
     batches = []
     for number, rows in enumerate(PART_ROWS):
         columns = [Column("i", integer(8, False), list(rows))]
         for name, count in [("p", 80), ("q", 9)]:
-            entries = [PART_WORDS[drawn(f"entry {name} {number}", place, 8)] for place in range(count)]
+            entries = [words[drawn(f"entry {name} {number}", place, 8)] for place in range(count)]
             slots = [drawn(f"part {name}", row, count) for row in rows]
             nulls = [drawn(f"null {name}", row, 7) == 0 for row in rows]
             columns.append(Column(name, UTF8, slots, nulls, entries))
-        for name, of, values in [("s", UTF8, ["a", "b", ""]), ("b", integer(8, True), [-1, 0, 7])]:
+        for name, of, values in [("s", UTF8, texts), ("b", integer(8, True), [-1, 0, 7])]:
             nulls = [drawn(f"null part {name}", row, 7) == 0 for row in rows]
             columns.append(Column(name, of, [values[drawn(f"part {name}", row, 3)] for row in rows], nulls))
         batches.append(columns)
-    return Table("parts", *batches)
+    return Table(table, *batches)
 
 
-PARTS = parts_table()
+PARTS = parts_table("parts", PART_WORDS, ["a", "b", ""])
+LONGS = parts_table("longs", LONG_WORDS, ["a" * 128, "a" * 129, ""])
 
 
 def of_parts():
@@ -473,6 +475,9 @@ def of_parts():
         cells = [[*(rows[0][name] for name in names), len(rows), number_of(rows, "p"), sum_of(rows, "i")]
                  for rows in grouped(PARTS.rows, *names)]
         yield f"rows SELECT {keys}, COUNT(*), COUNT(p), SUM(i) FROM parts GROUP BY {keys}", shown(cells)
+    for keys in ["p, q", "q, p", "p, b", "q, s, p, b", "s, b, q"]:
+        cells = [[len(rows), number_of(rows, "p"), sum_of(rows, "i")] for rows in grouped(LONGS.rows, *keys.split(", "))]
+        yield f"rows SELECT COUNT(*), COUNT(p), SUM(i) FROM longs GROUP BY {keys}", shown(cells)
 
 
 JOINS = ["a = a", "a = u", "u = a", "d = a", "a = d", "d = u", "b = a", "a = b", "u = b", "s = s", "s = c", "c = s", "c = c",
@@ -523,7 +528,7 @@ def of_keys():
         yield f"rows SELECT SUM(i) FROM apart GROUP BY {key}", "".join(f"{row},;" for row in range(32))
 
 
-TABLES = [EACH, RAMP, MARKS, WIDE, KEYS, EQUAL, APART, PARTS]
+TABLES = [EACH, RAMP, MARKS, WIDE, KEYS, EQUAL, APART, PARTS, LONGS]
 
 
 def puts():
