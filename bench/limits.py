@@ -69,12 +69,22 @@ def equal_keys(count):
     return put(b"t", [(head, b""), batch(count, (0, b"", bytes(count)), (0, b"", bytes(4 * count)))])
 
 
-def long_texts(count):
-    """A table of so many rows that name the two long texts of a dictionary in turn, which differ in their last byte."""
+def long_texts(count, many, pairs):
+    """A table of so many rows of pairs of long texts, which two dictionaries have. The texts differ in their last byte."""
     head = schema(field("s", UTF8, False, dictionary=encoding(0, UINT8)), field("u", UTF8, False, dictionary=encoding(1, UINT8)))
-    words = [dictionary(id, batch(2, (0, b"", *texts([LONG, LONG[:-1] + b"y"])))) for id in range(2)]
-    codes = bytes(row % 2 for row in range(count))
-    return put(b"t", [(head, b""), *words, placed(count, [(count, 0)] * 2, [(0, 0), (0, count)] * 2, codes)])
+    words = [dictionary(id, batch(many, (0, b"", *texts([LONG[:-1] + bytes([65 + number]) for number in range(many)])))) for id in range(2)]
+    codes = b"".join(bytes(pairs(row)[side] for row in range(count)) for side in range(2))
+    return put(b"t", [(head, b""), *words, placed(count, [(count, 0)] * 2, [(0, 0), (0, count), (0, 0), (count, count)], codes)])
+
+
+def two_texts(count):
+    """Each row has one of two texts in both columns."""
+    return long_texts(count, 2, lambda row: (row % 2, row % 2))
+
+
+def many_texts(count):
+    """Of 16 texts and 16 others each row has another pair, as long as there are some."""
+    return long_texts(count, 16, lambda row: (row % 16, row // 16 % 16))
 
 
 def windows(count):
@@ -112,8 +122,10 @@ def cases(rows, keys):
     return [
         Case("a ticket of comparisons joined by OR", table, ones, rows, rows, "row", MOST_ROWS, "16,777,216 rows"),
         Case("a ticket of INs of 256 numbers", table, filled("SELECT a FROM t WHERE ", members, " OR "), rows, rows, "row", MOST_ROWS, "16,777,216 rows"),
-        Case("a ticket of equalities of long texts", [long_texts(few)], filled("SELECT COUNT(*) FROM t WHERE ", "s=u", " AND "), few, few, "row",
+        Case("a ticket of equalities of two long texts", [two_texts(rows)], filled("SELECT COUNT(*) FROM t WHERE ", "s=u", " AND "), rows, rows, "row",
              MOST_ROWS, "16,777,216 rows"),
+        Case("a ticket of inequalities of long texts, each row another pair", [many_texts(few)],
+             filled("SELECT COUNT(*) FROM t WHERE ", "s<>u", " AND "), few, few, "row", MOST_ROWS, "16,777,216 rows"),
         Case("four places of equal keys, of which no row is kept", [equal_keys(keys)], never, keys, keys**4, "joined row", MOST_KEYS**4, "1,000 keys",
              False),
         Case("63 sums of a group for each row", [windows(rows)], f"SELECT {sums} FROM t GROUP BY k", rows, rows, "group", MOST_ROWS, "16,777,216 groups"),

@@ -15,7 +15,7 @@ apart    64 numbers that differ in their upper bits alone, and as many texts tha
 parts    three batches of two dictionary columns: each batch has dictionaries of its own, in which a text stands under several codes
 
 Under a null of `each` and `keys` stands a value as any other, so a comparison that does not look for nulls is seen; but
-under some nulls of the dictionary column an index that leads nowhere.
+under some nulls of the dictionary columns an index that leads nowhere.
 """
 import collections
 import hashlib
@@ -118,7 +118,7 @@ def values_of(name):
 
 
 WORDS = ["", "a", "a ", "aa", "Z", "é", "\U00010000", "abcdefgh", "abcdefghi", "abcdefghj", "abcdefgh\0", "a\0"]
-ENTRIES = ["x", "abcdefghi", None, "", "x", "abcdefgh", "Z", "abcdefghj"]
+ENTRIES = {"c": ["x", "abcdefghi", None, "", "x", "abcdefgh", "Z", "abcdefghj"], "e": ["x", "Z", "abcdefghi", "x", None]}
 
 
 def hidden(name):
@@ -139,9 +139,10 @@ def each_table():
     columns.append(Column("s", UTF8, picked("s", WORDS), hidden("s")))
     columns.append(Column("f", BOOL, picked("f", [False, True]), hidden("f")))
     columns.append(Column("g", BOOL, picked("g", [False, True]), hidden("g")))
-    nulls = hidden("c")
-    slots = [255 if null and slot % 2 else slot for null, slot in zip(nulls, picked("c", range(len(ENTRIES))))]
-    columns.append(Column("c", UTF8, slots, nulls, ENTRIES))
+    for name, entries in ENTRIES.items():
+        nulls = hidden(name)
+        slots = [255 if null and slot % 2 else slot for null, slot in zip(nulls, picked(name, range(len(entries))))]
+        columns.append(Column(name, UTF8, slots, nulls, entries))
     columns.append(Column("n", integer(64, True), picked("n", values_of("i64"))))
     columns.append(Column("r", UTF8, picked("r", ["", "a", "Z", "abcdefghi"])))
     return Table("each", columns)
@@ -241,6 +242,18 @@ def of_columns():
                 yield compare(Name(left), sign, Name(right)), LONG
 
 
+# Two columns of texts: each has its own texts, or those of a dictionary.
+TEXTS = [("s", "r"), ("s", "e"), ("e", "r"), ("c", "e"), ("e", "c")]
+
+
+def of_text_columns():
+    """Every comparison between two columns of texts, and NOT of each."""
+    for left, right in TEXTS:
+        for sign in SIGNS:
+            yield compare(Name(left), sign, Name(right)), LONG
+            yield negated(compare(Name(left), sign, Name(right))), SPREAD
+
+
 def combined():
     """AND, OR, NOT and the IS tests over what has all three truths."""
     a, b, c, d = (compare(Name("i64"), "<", 1), compare(Name("s"), ">=", "abcdefgh"), compare(Name("f"), "=", True),
@@ -267,7 +280,7 @@ AT_ALL = [
            compare(Name("i16"), "=", 1), compare(Name("u32"), "=", 2), compare(Name("d"), "=", -1)),
     any_of(compare(Name("s"), "=", "abcdefghi"), among(Name("c"), "Z", "abcdefghj"), compare(Name("u8"), "=", 2),
            compare(Name("u16"), "=", 1), compare(Name("i32"), "=", 0), compare(Name("u64"), "=", 1),
-           compare(Name("f"), "<", Name("g"))),
+           compare(Name("f"), "<", Name("g")), compare(Name("c"), "=", Name("e"))),
 ]
 
 
@@ -279,6 +292,7 @@ def over_each():
         tests += [*of_texts(name, turn), *of_any(name, "abcdefgh")]
     tests += [*of_truths("f", 0), *of_any("f", True), *of_columns()]
     tests += [(test, places) for test in combined() for places in (LONG, SPREAD)]
+    tests += of_text_columns()
     yield from (of_each(test, next(places)) for test, places in tests)
     yield from (of_each(test, place) for test in AT_ALL for place in ALL)
 
@@ -431,26 +445,28 @@ APART = Table("apart", [Column("i", integer(8, False), list(range(32))),
 
 PART_ROWS = [range(90), range(90, 150), range(150, 190)]
 PART_WORDS = ["", "a", "b", "ab", "abcdefgh", "abcdefghi", "abcdefghj", None]
+LONG_WORDS = ["", "a", "a" * 127, "a" * 128, "a" * 129, "a" * 128 + "b", "b" * 129, None]  # more than 128 bytes have a number
 
 
-def parts_table():
+def parts_table(table, words, texts):
     """The dictionary of p has more codes than a table of numbers has places at first, and that of q few."""
     batches = []
     for number, rows in enumerate(PART_ROWS):
         columns = [Column("i", integer(8, False), list(rows))]
         for name, count in [("p", 80), ("q", 9)]:
-            entries = [PART_WORDS[drawn(f"entry {name} {number}", place, 8)] for place in range(count)]
+            entries = [words[drawn(f"entry {name} {number}", place, 8)] for place in range(count)]
             slots = [drawn(f"part {name}", row, count) for row in rows]
             nulls = [drawn(f"null {name}", row, 7) == 0 for row in rows]
             columns.append(Column(name, UTF8, slots, nulls, entries))
-        for name, of, values in [("s", UTF8, ["a", "b", ""]), ("b", integer(8, True), [-1, 0, 7])]:
+        for name, of, values in [("s", UTF8, texts), ("b", integer(8, True), [-1, 0, 7])]:
             nulls = [drawn(f"null part {name}", row, 7) == 0 for row in rows]
             columns.append(Column(name, of, [values[drawn(f"part {name}", row, 3)] for row in rows], nulls))
         batches.append(columns)
-    return Table("parts", *batches)
+    return Table(table, *batches)
 
 
-PARTS = parts_table()
+PARTS = parts_table("parts", PART_WORDS, ["a", "b", ""])
+LONGS = parts_table("longs", LONG_WORDS, ["a" * 128, "a" * 129, ""])
 
 
 def of_parts():
@@ -459,6 +475,9 @@ def of_parts():
         cells = [[*(rows[0][name] for name in names), len(rows), number_of(rows, "p"), sum_of(rows, "i")]
                  for rows in grouped(PARTS.rows, *names)]
         yield f"rows SELECT {keys}, COUNT(*), COUNT(p), SUM(i) FROM parts GROUP BY {keys}", shown(cells)
+    for keys in ["p, q", "q, p", "p, b", "q, s, p, b", "s, b, q"]:
+        cells = [[len(rows), number_of(rows, "p"), sum_of(rows, "i")] for rows in grouped(LONGS.rows, *keys.split(", "))]
+        yield f"rows SELECT COUNT(*), COUNT(p), SUM(i) FROM longs GROUP BY {keys}", shown(cells)
 
 
 JOINS = ["a = a", "a = u", "u = a", "d = a", "a = d", "d = u", "b = a", "a = b", "u = b", "s = s", "s = c", "c = s", "c = c",
@@ -509,7 +528,7 @@ def of_keys():
         yield f"rows SELECT SUM(i) FROM apart GROUP BY {key}", "".join(f"{row},;" for row in range(32))
 
 
-TABLES = [EACH, RAMP, MARKS, WIDE, KEYS, EQUAL, APART, PARTS]
+TABLES = [EACH, RAMP, MARKS, WIDE, KEYS, EQUAL, APART, PARTS, LONGS]
 
 
 def puts():

@@ -1,5 +1,5 @@
 -- Keys, cell by cell.
-use Rattle.std.proofs.Common.{◌≡◌, ◌≢◌, ℕ, zero, suc, ◌<◌, Bool, true, false, List, [], ◌∷◌, length, map, get_or, refl, sym, ap, ◌∙◌, true≢false, arith, nat_lt}
+use Rattle.std.proofs.Common.{◌≡◌, ◌≢◌, ℕ, zero, suc, ◌<◌, Bool, true, false, List, [], ◌∷◌, length, map, get_or, Option, None, refl, sym, ap, ◌∙◌, true≢false, arith, nat_lt}
 use Rattle.std.specs.Prelude.{IsTrue}
 use denote.Struct.Props.{props}
 use Rattle.std.specs.List.{list_all}
@@ -12,33 +12,32 @@ use Rattle.scan_base.specs.declared.value.Value.TheVariants.{Null}
 use Rattle.scan_base.specs.Predicate.{cell_in}
 use Rattle.arrays.specs.Column.{ColumnAt, slot_of}
 use Rattle.arrays.specs.Batch.{row_of}
-use Rattle.typed_plan.specs.Grouped.{same_value, same_key}
 use Rattle.first_rows.specs.declared.key.RowKey.{RowKey}
-use Rattle.first_rows.specs.Keys.{value_self, key_sound}
+use Rattle.first_rows.specs.Parts.{part_self, parts_sound, same_part, same_parts}
 
--- keys of one length whose cells are the same are the same
-pub same_all : (a b : List Value) → length a ≡ length b →
-    ((k : ℕ) → k < length a → same_value (get_or a k Null) (get_or b k Null) ≡ true) → same_key a b ≡ true
+-- parts of one number that are the same one by one are the same
+pub same_all : (a b : List (Option Value)) → length a ≡ length b →
+    ((k : ℕ) → k < length a → same_part (get_or a k None) (get_or b k None) ≡ true) → same_parts a b ≡ true
 same_all [] [] long same = refl
 same_all [] (y ∷ ys) long same = absurd (omega arith)
 same_all (x ∷ xs) [] long same = absurd (omega arith)
 same_all (x ∷ xs) (y ∷ ys) long same =
-    let first : same_value x y ≡ true = same 0 (omega arith) in
-    let rest : same_key xs ys ≡ true = same_all xs ys (omega arith) (λ k lt. same (suc k) (omega arith)) in
+    let first : same_part x y ≡ true = same 0 (omega arith) in
+    let rest : same_parts xs ys ≡ true = same_all xs ys (omega arith) (λ k lt. same (suc k) (omega arith)) in
     rw (first, rest) refl
 
 pub decide : (t : Bool) → (t ≡ true → ⊥) → t ≡ false
 decide true never = absurd (never refl)
 decide false never = refl
 
--- keys that differ in a cell differ
-pub same_none : (a b : List Value) (k : ℕ) → same_value (get_or a k Null) (get_or b k Null) ≡ false → same_key a b ≡ false
-same_none a b k differs = decide (same_key a b) (λ (h : same_key a b ≡ true).
-    true≢false (sym (value_self (get_or b k Null)) ∙ ap (λ c. same_value (get_or c k Null) (get_or b k Null)) (sym (key_sound a b h)) ∙ differs))
+-- parts of which one differs differ
+pub same_none : (a b : List (Option Value)) (k : ℕ) → same_part (get_or a k None) (get_or b k None) ≡ false → same_parts a b ≡ false
+same_none a b k differs = decide (same_parts a b) (λ (h : same_parts a b ≡ true).
+    true≢false (sym (part_self (get_or b k None)) ∙ ap (λ c. same_part (get_or c k None) (get_or b k None)) (sym (parts_sound a b h)) ∙ differs))
 
--- keys of two lengths differ
-pub same_not : (a b : List Value) → length a ≢ length b → same_key a b ≡ false
-same_not a b differ = decide (same_key a b) (λ (h : same_key a b ≡ true). differ (ap length (key_sound a b h)))
+-- parts of two numbers differ
+pub same_not : (a b : List (Option Value)) → length a ≢ length b → same_parts a b ≡ false
+same_not a b differ = decide (same_parts a b) (λ (h : same_parts a b ≡ true). differ (ap length (parts_sound a b h)))
 
 -- a cell of a row is the slot of its column
 cell_at : (columns : List ColumnAt) (row key : ℕ) (d : ColumnAt) → key < length columns → cell_in (row_of columns row) key ≡ slot_of (get_or columns key d) row

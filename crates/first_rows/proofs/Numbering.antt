@@ -1,6 +1,6 @@
 -- Numbers of the texts of keys.
-use Rattle.std.proofs.Common.{◌≡◌, ◌≢◌, ◌<◌, ◌&&◌, ℕ, zero, suc, ◌+◌, Bool, true, arith, length, List, [], ◌∷◌, ◌++◌, Option, Some, None, map, refl, sym, ap, subst, ◌∙◌}
-use Rattle.std.specs.Prelude.{IfSome, nat_eq}
+use Rattle.std.proofs.Common.{◌≡◌, ◌≢◌, ◌<◌, ◌&&◌, ℕ, zero, suc, ◌+◌, Bool, true, false, arith, if◌then◌else◌, length, List, [], ◌∷◌, ◌++◌, Option, Some, None, map, refl, sym, ap, subst, ◌∙◌}
+use Rattle.std.specs.Prelude.{IfSome, nat_eq, nat_lt}
 use Rattle.std.specs.Borrow.{Bor}
 use Rattle.std.specs.List.{position_or_len}
 use Rattle.std.specs.Str.{bytes_eq}
@@ -13,8 +13,8 @@ use Rattle.arrays.specs.Batch.{BatchAt}
 use Rattle.coded_keys.specs.declared.numbers.SeenNumber.{SeenNumber}
 use Rattle.coded_keys.specs.Numbers.{AreNumbers, IsNumber as IsSeenNumber}
 use Rattle.first_rows.specs.declared.texts.TextNumbers.{TextNumbers}
-use Rattle.first_rows.specs.Numbered.{blanked}
-use Rattle.first_rows.specs.Numbers.{IsBehind, IsNumber, IsPairNumber, IsStep, Stay, pair_place, text_number}
+use Rattle.first_rows.specs.Numbered.{blanked, without}
+use Rattle.first_rows.specs.Numbers.{IsBehind, IsNumber, IsPairNumber, IsStep, IsWith, Stay, long_text, pair_place, text_number}
 use Rattle.first_rows.proofs.Places.{inserted, pair_one, stays, text_one}
 
 -- what was kept of rows stays so
@@ -64,18 +64,27 @@ behind_one pairs (suc n) (suc m) a b k both one two =
     let place : two.0 ≡ one.0 = omega (arith, next) in
     pair_one pairs (suc n) a (suc m) b one.0 one.1 (two.1 ∙ ap Some place)
 
-step_stays : (before after : TextNumbers) (n : ℕ) (value : Value) (m : ℕ) → Stay before after → IsStep before n value m → IsStep after n value m
-step_stays before after n Null m stay step = step
-step_stays before after n (Flag flag) m stay step = step
-step_stays before after n (Int number) m stay step = step
-step_stays before after n (Text text) m stay step =
+-- a long text is the value
+pub is_text : (value : Value) (text : List ℕ) → long_text value ≡ Some text → value ≡ Text text
+is_text Null text h = cc
+is_text (Flag flag) text h = cc
+is_text (Int number) text h = cc
+is_text (Text bytes) text h = by (nat_lt 128 (length bytes)) h
+  where
+    by : (t : Bool) → (if t then Some bytes else None) ≡ Some text → Text bytes ≡ Text text
+    by true h = let same : bytes ≡ text = cc in ap Text same
+    by false h = cc
+
+with_stays : (before after : TextNumbers) (n : ℕ) (text : Option (List ℕ)) (m : ℕ) → Stay before after → IsWith before n text m → IsWith after n text m
+with_stays before after n None m stay step = step
+with_stays before after n (Some text) m stay step =
     (step.0, stay.texts (Text text) step.0 step.1, behind_stays before after n step.0 m stay step.2)
 
 -- the number of the texts of values stays
 pub number_stays : (before after : TextNumbers) (n : ℕ) (values : List Value) (m : ℕ) → Stay before after → IsNumber before n values m → IsNumber after n values m
 number_stays before after n [] m stay is = is
 number_stays before after n (value ∷ values) m stay is =
-    (is.0, step_stays before after n value is.0 stay is.1, number_stays before after is.0 values m stay is.2)
+    (is.0, with_stays before after n (long_text value) is.0 stay is.1, number_stays before after is.0 values m stay is.2)
 
 -- one value more
 pub number_more : (numbers : TextNumbers) (n : ℕ) (values : List Value) (m : ℕ) (value : Value) (k : ℕ) → IsNumber numbers n values m → IsStep numbers m value k →
@@ -83,11 +92,9 @@ pub number_more : (numbers : TextNumbers) (n : ℕ) (values : List Value) (m : �
 number_more numbers n [] m value k is step = (k, subst (λ (at : ℕ). IsStep numbers at value k) is step, refl)
 number_more numbers n (first ∷ values) m value k is step = (is.0, is.1, number_more numbers is.0 values m value k is.2 step)
 
-step_only : (numbers : TextNumbers) (n : ℕ) (value : Value) (m k : ℕ) → IsStep numbers n value m → IsStep numbers n value k → m ≡ k
-step_only numbers n Null m k one two = one ∙ sym two
-step_only numbers n (Flag flag) m k one two = one ∙ sym two
-step_only numbers n (Int number) m k one two = one ∙ sym two
-step_only numbers n (Text text) m k one two =
+with_only : (numbers : TextNumbers) (n : ℕ) (text : Option (List ℕ)) (m k : ℕ) → IsWith numbers n text m → IsWith numbers n text k → m ≡ k
+with_only numbers n None m k one two = one ∙ sym two
+with_only numbers n (Some text) m k one two =
     let text : Some one.0 ≡ Some two.0 = sym one.1 ∙ two.1 in
     let place : one.0 ≡ two.0 = cc in
     behind_only numbers.pairs.keys n one.0 m k one.2 (subst (λ (at : ℕ). IsBehind numbers.pairs.keys n at k) (sym place) two.2)
@@ -96,28 +103,31 @@ step_only numbers n (Text text) m k one two =
 pub number_only : (numbers : TextNumbers) (n : ℕ) (values : List Value) (m k : ℕ) → IsNumber numbers n values m → IsNumber numbers n values k → m ≡ k
 number_only numbers n [] m k one two = one ∙ sym two
 number_only numbers n (value ∷ values) m k one two =
-    let same : two.0 ≡ one.0 = step_only numbers n value two.0 one.0 two.1 one.1 in
+    let same : two.0 ≡ one.0 = with_only numbers n (long_text value) two.0 one.0 two.1 one.1 in
     number_only numbers one.0 values m k one.2 (subst (λ (at : ℕ). IsNumber numbers at values k) same two.2)
 
 step_one : (numbers : TextNumbers) (n m : ℕ) (a b : Value) (k : ℕ) → AreBoth n m → blanked a ≡ blanked b → IsStep numbers n a k → IsStep numbers m b k → (n ≡ m) × (a ≡ b)
-step_one numbers n m Null Null k both e one two = (sym one ∙ two, refl)
-step_one numbers n m (Flag a) (Flag b) k both e one two = (sym one ∙ two, e)
-step_one numbers n m (Int a) (Int b) k both e one two = (sym one ∙ two, e)
-step_one numbers n m (Text a) (Text b) k both e one two =
-    let pair = behind_one numbers.pairs.keys n m one.0 two.0 k both one.2 two.2 in
-    (pair.0, ap Text (text_one numbers.texts.keys a b one.0 one.1 (two.1 ∙ ap Some (sym pair.1))))
-step_one numbers n m _ _ k both e one two = cc
+step_one numbers n m a b k both e one two = by (long_text a) (long_text b) refl refl e one two
+  where
+    by : (s t : Option (List ℕ)) → long_text a ≡ s → long_text b ≡ t → without s a ≡ without t b → IsWith numbers n s k → IsWith numbers m t k → (n ≡ m) × (a ≡ b)
+    by None None is also e one two = let same : a ≡ b = cc in (sym one ∙ two, same)
+    by (Some s) (Some t) is also e one two =
+        let pair = behind_one numbers.pairs.keys n m one.0 two.0 k both one.2 two.2 in
+        let same : s ≡ t = text_one numbers.texts.keys s t one.0 one.1 (two.1 ∙ ap Some (sym pair.1)) in
+        (pair.0, is_text a s is ∙ ap Text same ∙ sym (is_text b t also))
+    by _ _ is also e one two = cc
 
--- behind two values that are alike beside their texts stand texts of both, or of none
+-- behind two values that are alike beside their long texts stand texts of both, or of none
 step_both : (numbers : TextNumbers) (n m : ℕ) (a b : Value) (k l : ℕ) → AreBoth n m → blanked a ≡ blanked b → IsStep numbers n a k → IsStep numbers m b l → AreBoth k l
-step_both numbers n m Null Null k l both e one two = (λ none. two ∙ both.0 (sym one ∙ none), λ none. one ∙ both.1 (sym two ∙ none))
-step_both numbers n m (Flag a) (Flag b) k l both e one two = (λ none. two ∙ both.0 (sym one ∙ none), λ none. one ∙ both.1 (sym two ∙ none))
-step_both numbers n m (Int a) (Int b) k l both e one two = (λ none. two ∙ both.0 (sym one ∙ none), λ none. one ∙ both.1 (sym two ∙ none))
-step_both numbers n m (Text a) (Text b) k l both e one two =
-    (λ none. absurd (behind_some numbers.pairs.keys n one.0 k one.2 none), λ none. absurd (behind_some numbers.pairs.keys m two.0 l two.2 none))
-step_both numbers n m _ _ k l both e one two = absurd (cc)
+step_both numbers n m a b k l both e one two = by (long_text a) (long_text b) e one two
+  where
+    by : (s t : Option (List ℕ)) → without s a ≡ without t b → IsWith numbers n s k → IsWith numbers m t l → AreBoth k l
+    by None None e one two = (λ none. two ∙ both.0 (sym one ∙ none), λ none. one ∙ both.1 (sym two ∙ none))
+    by (Some s) (Some t) e one two =
+        (λ none. absurd (behind_some numbers.pairs.keys n one.0 k one.2 none), λ none. absurd (behind_some numbers.pairs.keys m two.0 l two.2 none))
+    by _ _ e one two = absurd (cc)
 
--- values whose texts have one number, and that are the same beside their texts, are the same
+-- values whose long texts have one number, and that are the same beside them, are the same
 pub number_one : (numbers : TextNumbers) (n m : ℕ) (a b : List Value) (k : ℕ) → AreBoth n m → map blanked a ≡ map blanked b → IsNumber numbers n a k → IsNumber numbers m b k →
     (n ≡ m) × (a ≡ b)
 number_one numbers n m [] [] k both e one two = (sym one ∙ two, refl)

@@ -15,12 +15,12 @@ pub record FirstRowsAt : Type 0 where
   pub keys : List RowKey
   pub texts : List (Bor (List ℕ))
 
--- the texts of a key have the number that stands with it, or none has one
+-- the long texts of a key have the number that stands with it, or no text has one
 abbrev pub HasNumber : Bool → TextNumbers → RowKey → ℕ → Type 0
 HasNumber true numbers first texts = IsNumber numbers 0 (key_of first) texts
 HasNumber false numbers first texts = texts ≡ 0
 
--- the texts of a key have its number
+-- the long texts of a key have its number
 abbrev pub IsNumbered : Bool → TextNumbers → NumberedKey → Type 0
 IsNumbered are numbers key = HasNumber are numbers (first_of key) key.texts
 

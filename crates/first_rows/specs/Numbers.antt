@@ -1,5 +1,5 @@
--- Numbers of texts, and of the texts of a key.
-use Rattle.std.specs.Prelude.{◌≡◌, ◌+◌, ◌&&◌, ℕ, zero, suc, List, [], ◌∷◌, Option, Some, None, nat_eq}
+-- Numbers of long texts, and of the long texts of a key.
+use Rattle.std.specs.Prelude.{◌≡◌, ◌+◌, ◌&&◌, ℕ, zero, suc, List, [], ◌∷◌, Option, Some, None, if◌then◌else◌, length, nat_eq, nat_lt}
 use Rattle.std.specs.Borrow.{Bor}
 use Rattle.std.specs.List.{position}
 use Rattle.std.specs.Str.{bytes_eq}
@@ -9,6 +9,13 @@ use Rattle.arrays.specs.Batch.{BatchAt}
 use Rattle.coded_keys.specs.declared.numbers.SeenNumbers.{SeenNumbers}
 use Rattle.coded_keys.specs.Numbers.{AreNumbers}
 use Rattle.first_rows.specs.declared.texts.TextNumbers.{TextNumbers}
+
+-- the text of a value that is a long one, of more than 128 bytes
+abbrev pub long_text : Value → Option (List ℕ)
+long_text Null = None
+long_text (Flag flag) = None
+long_text (Int number) = None
+long_text (Text text) = if nat_lt 128 (length text) then Some text else None
 
 -- the number of a text is its place; other values have none
 abbrev pub text_number : List (Bor (List ℕ)) → Value → Option ℕ
@@ -30,14 +37,16 @@ abbrev pub IsBehind : List (ℕ × ℕ) → ℕ → ℕ → ℕ → Type 0
 IsBehind pairs zero text number = number ≡ text + 1
 IsBehind pairs (suc before) text number = IsPairNumber pairs (suc before) text number
 
--- the texts up to a value have a number, where those before it have this one
-abbrev pub IsStep : TextNumbers → ℕ → Value → ℕ → Type 0
-IsStep numbers before Null number = number ≡ before
-IsStep numbers before (Flag flag) number = number ≡ before
-IsStep numbers before (Int other) number = number ≡ before
-IsStep numbers before (Text text) number = (place : ℕ) × (text_number numbers.texts.keys (Text text) ≡ Some place) × IsBehind numbers.pairs.keys before place number
+-- texts of a number, and one more where there is one, have a number
+abbrev pub IsWith : TextNumbers → ℕ → Option (List ℕ) → ℕ → Type 0
+IsWith numbers before None number = number ≡ before
+IsWith numbers before (Some text) number = (place : ℕ) × (text_number numbers.texts.keys (Text text) ≡ Some place) × IsBehind numbers.pairs.keys before place number
 
--- the texts of values have a number, where those before them have this one
+-- the long texts up to a value have a number, where those before it have this one
+abbrev pub IsStep : TextNumbers → ℕ → Value → ℕ → Type 0
+IsStep numbers before value number = IsWith numbers before (long_text value) number
+
+-- the long texts of values have a number, where those before them have this one
 abbrev pub IsNumber : TextNumbers → ℕ → List Value → ℕ → Type 0
 IsNumber numbers before [] number = number ≡ before
 IsNumber numbers before (value ∷ values) number = (next : ℕ) × IsStep numbers before value next × IsNumber numbers next values number

@@ -17,8 +17,8 @@ use indexmap::IndexSet;
 use std::alloc::{AllocError, Global};
 use std::marker::Model;
 
-/// The first row of each key, in the order in which keys came. Where the texts of keys have numbers, two keys are compared by
-/// these, and no text is looked at for a row whose texts were seen.
+/// The first row of each key, in the order in which keys came. Where the long texts of keys have numbers, two keys are compared by
+/// these and by their other values, and no long text is looked at for a row whose long texts were seen.
 #[derive(Drop)]
 pub struct FirstRows<'t> {
     rows: IndexSet<NumberedKey<'t>, HashSeed>,
@@ -26,7 +26,7 @@ pub struct FirstRows<'t> {
     are_numbered: bool,
 }
 
-// The number of the texts of a row's key, where they have numbers; else 0.
+// The number of the long texts of a row's key, where these have numbers; else 0.
 fn number<'t>(
     are_numbered: bool,
     numbers: &mut TextNumbers<'t>,
@@ -70,7 +70,7 @@ impl<'t> Model for FirstRows<'t> {
 }
 
 impl<'t> FirstRows<'t> {
-    /// No row yet. Whether texts of keys have numbers is told once. The hashes begin with the seed.
+    /// No row yet. Whether long texts of keys have numbers is told once. The hashes begin with the seed.
     pub fn new(alloc: Global, seed: HashSeed, are_numbered: bool) -> FirstRows<'t>
         ensures { result.keys ≡ [] }
     {
@@ -105,7 +105,7 @@ impl<'t> FirstRows<'t> {
     ///
     /// # Errors
     ///
-    /// `AllocError` where memory is refused, or 32 bits do not tell the number of its texts.
+    /// `AllocError` where memory is refused, or 32 bits do not tell the number of its long texts.
     pub fn insert(&mut self, first: RowKey<'t>) -> Result<usize, AllocError>
         ensures inserted { OnOk result (self.new.keys ≡ insert_key same_first self.old.keys first.entry) }
         ensures place { IfOk result (λ place. place ≡ position_or_len (same_first first.entry) self.old.keys) }
@@ -118,11 +118,11 @@ impl<'t> FirstRows<'t> {
         put(&mut self.rows, key)
     }
 
-    /// The same. A text whose code in the row's batch was seen is not looked at.
+    /// The same. A long text whose code in the row's batch was seen is not looked at.
     ///
     /// # Errors
     ///
-    /// `AllocError` where memory is refused, or 32 bits do not tell the number of its texts.
+    /// `AllocError` where memory is refused, or 32 bits do not tell the number of its long texts.
     pub fn insert_seen(
         &mut self,
         seen: &mut SeenNumbers,

@@ -1,17 +1,16 @@
-//! Keys whose texts have a number.
+//! Keys whose long texts have a number.
 
-ghost use Rattle.std.specs.Prelude.{◌≡◌, ◌<◌, IsTrue, get_or, length, nat_lt};
+ghost use Rattle.std.specs.Prelude.{◌≡◌, ◌<◌, IsTrue, None, get_or, length, nat_lt, option_map};
 ghost use Rattle.std.specs.List.{list_all};
 ghost use Rattle.scan_base.specs.Value.{value_of};
-ghost use Rattle.scan_base.specs.declared.value.Value.TheVariants.{Null};
 
-use crate::cell::{are_same, hash_texts, hash_value};
+use crate::cell::{are_same_parts, hash_part, hash_texts, rest};
 use crate::key::{RowKey, cell_at};
 use arrays::Batch;
 use scan_base::ValueRef;
 use std::hash::{Hash, Hasher};
 
-/// A first row, and the number of the texts of its key: 0 where they have none. Then the texts themselves are compared. The two
+/// A first row, and the number of the long texts of its key: 0 where none has one. Then the texts themselves are compared. The two
 /// numbers of 32 bits lie side by side, so that a key takes no more than its row.
 #[derive(Clone, Copy, Drop)]
 pub(crate) struct NumberedKey<'t> {
@@ -28,7 +27,7 @@ impl<'t> NumberedKey<'t> {
     ghost use Rattle.first_rows.specs.Numbered.{first_of, rest_of};
     ghost use Rattle.first_rows.specs.RowKeys.{key_of};
 
-    /// A row, and the number of its texts.
+    /// A row, and the number of its long texts.
     pub(crate) fn new(first: RowKey<'t>, texts: u32) -> NumberedKey<'t>
         ensures first { first_of result ≡ first.entry }
         ensures texts { result.texts ≡ texts }
@@ -55,39 +54,32 @@ impl<'t> NumberedKey<'t> {
     }
 
     // What is compared of the value at a place of the key, beside the number.
-    fn part(&self, place: usize) -> ValueRef<'t>
+    fn part(&self, place: usize) -> Option<ValueRef<'t>>
         requires { place < length self.now.columns.now }
-        ensures { value_of result ≡ get_or (rest_of self.now) place Null }
+        ensures { option_map value_of result ≡ get_or (rest_of self.now) place None }
     {
-        let value = cell_at(self.batch, self.columns, self.row, place);
-        if self.texts == 0 {
-            return value;
-        }
-        match value {
-            ValueRef::Text(_) => ValueRef::Text(""),
-            ValueRef::Null => ValueRef::Null,
-            ValueRef::Bool(flag) => ValueRef::Bool(flag),
-            ValueRef::Int(_) => value,
-        }
+        rest(
+            self.texts,
+            cell_at(self.batch, self.columns, self.row, place),
+        )
     }
 }
 
 impl<'t> PartialEq for NumberedKey<'t> {
     ghost use Rattle.std.specs.Cmp.{on_per, partial_equiv_from_equiv};
-    ghost use Rattle.typed_plan.specs.Grouped.{same_key};
     ghost use Rattle.first_rows.specs.Numbered.{coded};
-    ghost use Rattle.first_rows.specs.Keys.{same_key_laws};
+    ghost use Rattle.first_rows.specs.Parts.{same_parts, same_parts_laws};
 
-    ghost eq = { λ a b. same_key (coded a) (coded b) };
+    ghost eq = { λ a b. same_parts (coded a) (coded b) };
 
-    ghost laws = { on_per coded (partial_equiv_from_equiv same_key_laws) };
+    ghost laws = { on_per coded (partial_equiv_from_equiv same_parts_laws) };
 
     fn eq(&self, other: &NumberedKey<'t>) -> bool {
         if self.texts != other.texts || self.columns.len() != other.columns.len() {
             return false;
         }
         for place in 0..self.columns.len() {
-            if !are_same(self.part(place), other.part(place)) {
+            if !are_same_parts(self.part(place), other.part(place)) {
                 return false;
             }
         }
@@ -98,9 +90,9 @@ impl<'t> PartialEq for NumberedKey<'t> {
 impl<'t> Eq for NumberedKey<'t> {
     ghost use Rattle.std.specs.Cmp.{on_equiv};
     ghost use Rattle.first_rows.specs.Numbered.{coded};
-    ghost use Rattle.first_rows.specs.Keys.{same_key_laws};
+    ghost use Rattle.first_rows.specs.Parts.{same_parts_laws};
 
-    ghost laws = { on_equiv coded same_key_laws };
+    ghost laws = { on_equiv coded same_parts_laws };
 }
 
 impl<'t> Hash for NumberedKey<'t> {
@@ -113,7 +105,7 @@ impl<'t> Hash for NumberedKey<'t> {
     fn hash<H: Hasher>(&self, state: &mut H) {
         hash_texts(self.texts, state);
         for place in 0..self.columns.len() {
-            hash_value(self.part(place), state);
+            hash_part(self.part(place), state);
         }
     }
 }

@@ -1,4 +1,4 @@
-//! Numbers of texts, and of the texts of a key.
+//! Numbers of long texts, and of the long texts of a key.
 
 ghost use Rattle.std.specs.Prelude.{◌≡◌, ◌<◌, ◌+◌, Some, IfOk, OnOk, get_or, length};
 ghost use Rattle.scan_base.specs.declared.value.Value.TheVariants.{Null, Text};
@@ -6,11 +6,11 @@ ghost use Rattle.first_rows.specs.Numbers.{AreSeen, IsBehind, IsNumber, IsStep, 
 ghost use Rattle.first_rows.specs.RowKeys.{key_of};
 ghost use Rattle.coded_keys.specs.Numbers.{value_in};
 
+use crate::cell::long_text;
 use crate::key::RowKey;
 use coded_keys::{KeyPart, SeenNumbers};
 use hash_seed::HashSeed;
 use indexmap::IndexSet;
-use scan_base::ValueRef;
 use std::alloc::{AllocError, Global};
 
 /// Texts, the place of each is its number; and pairs of the number of earlier texts of a key, and that of one text more. The
@@ -96,7 +96,7 @@ impl<'t> TextNumbers<'t> {
         Ok(number)
     }
 
-    // The number of the texts of the parts of a key up to one, where those before have this number.
+    // The number of the long texts of the parts of a key up to one, where those before have this number.
     fn part(
         &mut self,
         seen: &mut SeenNumbers,
@@ -110,24 +110,20 @@ impl<'t> TextNumbers<'t> {
         ensures seen { AreSeen self.new first.now.batch.now first.now.columns.now seen.new }
         ensures is { IfOk result (IsStep self.new before (get_or (key_of first.now) part Null)) }
     {
-        match first.cell(part as usize) {
-            ValueRef::Text(text) => {
-                let at = KeyPart {
-                    batch: first.batch,
-                    columns: first.columns,
-                    row: first.row,
-                    part,
-                };
-                let number = self.seen(seen, &at, text)?;
-                self.with(before, number)
-            }
-            ValueRef::Null => Ok(before),
-            ValueRef::Bool(_) => Ok(before),
-            ValueRef::Int(_) => Ok(before),
-        }
+        let Some(text) = long_text(first.cell(part as usize)) else {
+            return Ok(before);
+        };
+        let at = KeyPart {
+            batch: first.batch,
+            columns: first.columns,
+            row: first.row,
+            part,
+        };
+        let number = self.seen(seen, &at, text)?;
+        self.with(before, number)
     }
 
-    /// The number of the texts of a row's key.
+    /// The number of the long texts of a row's key.
     ///
     /// # Errors
     ///

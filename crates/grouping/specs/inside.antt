@@ -6,3 +6,4 @@ pub mod Kept
 pub mod Knowing
 pub mod Merging
 pub mod Placing
+pub mod Seeing

@@ -10,6 +10,7 @@ ghost use Rattle.grouping.specs.Fed.{AreTyped, HasItems, IsAlike, IsNew, Feeds, 
 use crate::answers::Answers;
 use crate::kept::{Kept, add, blank, found_count, join};
 use crate::known::SPREAD;
+use crate::seen::SeenBatch;
 use crate::table::Chosen;
 use array_select::Selection;
 use arrays::Batch;
@@ -51,7 +52,7 @@ impl Drop for Groups<'_> {
     }
 }
 
-// Whether the texts of keys have numbers: where one of several columns is of a dictionary.
+// Whether the long texts of keys have numbers: where one of several columns is of a dictionary.
 fn have_numbers(shape: &Grouping<'_>) -> bool {
     if shape.keys.len() < 2 {
         return false;
@@ -83,7 +84,7 @@ impl<'t> Model for Groups<'t> {
       refused = g.refused;
     } };
 
-    ghost invariant = { λ g. IsGroups g.shape g.kept.firsts.keys (lists_of g.kept.tallies.items) g.kept.count g.kept.known.items g.refused };
+    ghost invariant = { λ g. IsGroups g.shape g.kept g.refused };
 }
 
 impl<'t> Groups<'t> {
@@ -107,6 +108,7 @@ impl<'t> Groups<'t> {
                 tallies,
                 count: 0,
                 known: Vec::new(alloc),
+                seen: SeenBatch::new(alloc, seed, shape.keys.len()),
             },
             refused: None,
         })
@@ -126,6 +128,7 @@ impl<'t> Groups<'t> {
         if let Some(fault) = self.refused {
             return Err(fault);
         }
+        self.kept.seen.turn_to(number);
         let chosen = Chosen {
             number,
             batch: &self.shape.batches[number],

@@ -1,6 +1,6 @@
 //! What is kept of the rows that were fed.
 
-ghost use Rattle.std.specs.Prelude.{◌≡◌, ◌≤◌, ◌<◌, ◌+◌, All, IfOk, IsTrue, ℕ, List, OnOk, length, map, nat_lt};
+ghost use Rattle.std.specs.Prelude.{◌≡◌, ◌≤◌, ◌<◌, ◌+◌, All, IfOk, IsTrue, ℕ, [], List, OnOk, length, map, nat_lt};
 ghost use Rattle.std.specs.List.{list_all};
 ghost use Rattle.scan_base.specs.Limits.{most_rows};
 ghost use Rattle.scan_base.specs.declared.value.Value.{Value as Cell};
@@ -14,11 +14,14 @@ ghost use Rattle.grouping.specs.inside.Adding.{IsGrown};
 ghost use Rattle.grouping.specs.inside.Knowing.{AreKnown};
 ghost use Rattle.grouping.specs.inside.Merging.{FirstsJoin, IsMerged};
 ghost use Rattle.grouping.specs.inside.Placing.{found_by, ArePlaced, FirstsStay, IsFirst};
+ghost use Rattle.grouping.specs.inside.Seeing.{AreSeenOf};
 
+use crate::coded::place_by_codes;
 use crate::groups::Grouping;
 use crate::joined::{Others, join_all, join_firsts};
 use crate::known::{Known, know_nothing, known_count};
-use crate::table::{Chosen, place_rows};
+use crate::seen::SeenBatch;
+use crate::table::{Chosen, groups_of};
 use first_rows::FirstRows;
 use group_slots::{ItemTallies, Part, add_all};
 use std::alloc::{AllocError, Global};
@@ -30,14 +33,15 @@ const LEAST_ROWS: usize = 16;
 // Of fewer groups keys are known even where each row opens one.
 const LEAST_GROUPS: usize = 256;
 
-/// The first row of each group, for each item the tally of each group, how many rows were fed, and which keys are known by
-/// a number.
+/// The first row of each group, for each item the tally of each group, how many rows were fed, which keys are known by a number,
+/// and which long texts of keys were seen in the last batch.
 #[derive(Drop)]
 pub(crate) struct Kept<'t> {
     pub(crate) firsts: FirstRows<'t>,
     pub(crate) tallies: Vec<ItemTallies>,
     pub(crate) count: usize,
     pub(crate) known: Vec<Known>,
+    pub(crate) seen: SeenBatch,
 }
 
 /// Feeds the chosen rows.
@@ -57,6 +61,7 @@ pub(crate) fn add<'t>(
     requires few { kept.old.count + length chosen.now.rows.now ≤ most_rows }
     requires kept { IsKept items.now (length (found_by chosen.now.columns.now kept.old.firsts.keys)) kept.old.count (lists_of kept.old.tallies.items) }
     requires known { AreKnown value_tagged (map key_of kept.old.firsts.keys) kept.old.known.items }
+    requires seen { AreSeenOf kept.old.firsts.texts chosen.now.batch.now chosen.now.columns.now kept.old.seen.numbers }
     ensures grown { OnOk result (IsGrown items.now chosen.now.batch.now.columns chosen.now.columns.now chosen.now.rows.now
         (found_by chosen.now.columns.now kept.old.firsts.keys) (found_by chosen.now.columns.now kept.new.firsts.keys)
         kept.old.count (lists_of kept.old.tallies.items) (lists_of kept.new.tallies.items)) }
@@ -64,6 +69,8 @@ pub(crate) fn add<'t>(
     ensures kept { OnOk result (IsKept items.now (length (found_by chosen.now.columns.now kept.new.firsts.keys)) kept.new.count (lists_of kept.new.tallies.items)) }
     ensures firsts { OnOk result (FirstsStay chosen.now kept.old.firsts.keys kept.new.firsts.keys) }
     ensures known { OnOk result (AreKnown value_tagged (map key_of kept.new.firsts.keys) kept.new.known.items) }
+    ensures seen { OnOk result (AreSeenOf kept.new.firsts.texts chosen.now.batch.now chosen.now.columns.now kept.new.seen.numbers) }
+    ensures batch { OnOk result (kept.new.seen.number ≡ kept.old.seen.number) }
 {
     let groups = place_kept(alloc, kept, chosen)?;
     let found = found_count(chosen.columns, &kept.firsts);
@@ -79,7 +86,7 @@ pub(crate) fn add<'t>(
 }
 
 // The group of each of these rows, by what is known of keys. Where the key is not one column, or most rows opened a group, that is
-// left aside.
+// left aside. Then a long text that was seen in the batch is not looked at.
 fn place_kept<'t>(
     alloc: Global,
     kept: &mut Kept<'t>,
@@ -88,24 +95,26 @@ fn place_kept<'t>(
     requires keys { IsTrue (list_all (λ column. nat_lt column (length chosen.now.batch.now.columns)) chosen.now.columns.now) }
     requires within { All (λ row. row < chosen.now.batch.now.rows) chosen.now.rows.now }
     requires known { AreKnown value_tagged (map key_of kept.old.firsts.keys) kept.old.known.items }
+    requires seen { AreSeenOf kept.old.firsts.texts chosen.now.batch.now chosen.now.columns.now kept.old.seen.numbers }
     ensures found { OnOk result (found_by chosen.now.columns.now kept.new.firsts.keys
         ≡ found_then chosen.now.columns.now (found_by chosen.now.columns.now kept.old.firsts.keys) (map (row_of chosen.now.batch.now.columns) chosen.now.rows.now)) }
     ensures placed { IfOk result (λ groups. ArePlaced chosen.now.columns.now chosen.now.batch.now.columns (found_by chosen.now.columns.now kept.new.firsts.keys)
         chosen.now.rows.now groups.items (length chosen.now.rows.now)) }
     ensures firsts { OnOk result (FirstsStay chosen.now kept.old.firsts.keys kept.new.firsts.keys) }
     ensures known { OnOk result (AreKnown value_tagged (map key_of kept.new.firsts.keys) kept.new.known.items) }
+    ensures seen { OnOk result (AreSeenOf kept.new.firsts.texts chosen.now.batch.now chosen.now.columns.now kept.new.seen.numbers) }
+    ensures batch { OnOk result (kept.new.seen.number ≡ kept.old.seen.number) }
     ensures tallies { OnOk result (kept.new.tallies ≡ kept.old.tallies) }
     ensures count { OnOk result (kept.new.count ≡ kept.old.count) }
 {
     let found = kept.firsts.len();
     let is_new_mostly = found > LEAST_GROUPS && kept.count / 2 < found;
     if chosen.columns.len() != 1 || is_new_mostly {
-        let groups = place_rows(alloc, &mut kept.firsts, &mut [], chosen)?;
-        return Ok(groups);
+        return place_by_codes(alloc, &mut kept.firsts, &mut kept.seen.numbers, chosen);
     }
+    kept.seen.numbers.forget();
     make_known(&mut kept.known, found, chosen.rows.len())?;
-    let groups = place_rows(alloc, &mut kept.firsts, kept.known.as_mut_slice(), chosen)?;
-    Ok(groups)
+    groups_of(alloc, &mut kept.firsts, kept.known.as_mut_slice(), chosen)
 }
 
 // Makes room for what will be known of the keys of more rows, where so many groups were found: the more groups, the more
@@ -142,7 +151,9 @@ pub(crate) fn join<'t>(
     ensures kept { OnOk result (IsKept shape.now.items.now (length (found_by shape.now.keys.now kept.new.firsts.keys)) kept.new.count (lists_of kept.new.tallies.items)) }
     ensures firsts { OnOk result (FirstsJoin kept.old.firsts.keys other.now.firsts.keys kept.new.firsts.keys) }
     ensures known { OnOk result (AreKnown value_tagged (map key_of kept.new.firsts.keys) kept.new.known.items) }
+    ensures seen { OnOk result (kept.new.seen.numbers.places.items ≡ []) }
 {
+    kept.seen.numbers.forget();
     know_nothing(&mut kept.known, 0)?;
     let groups = join_firsts(alloc, shape, &mut kept.firsts, &other.firsts)?;
     let found = found_count(shape.keys, &kept.firsts);

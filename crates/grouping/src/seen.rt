@@ -1,4 +1,4 @@
-//! Numbers of texts that were seen in a batch.
+//! Numbers of long texts that were seen in a batch.
 
 ghost use Rattle.std.specs.Prelude.{◌≡◌, ℕ, [], List, Option};
 ghost use Rattle.scan_base.specs.declared.value.Value.{Value};
@@ -10,7 +10,7 @@ use coded_keys::SeenNumbers;
 use hash_seed::HashSeed;
 use std::alloc::Global;
 
-/// The numbers of texts that were seen in the batch of a number.
+/// The numbers of long texts that were seen in the batch of a number.
 #[derive(Drop)]
 pub(crate) struct SeenBatch {
     pub(crate) number: usize,

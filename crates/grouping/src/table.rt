@@ -6,11 +6,11 @@ ghost use Rattle.indexmap.specs.IndexSet.{insert_key};
 ghost use Rattle.arrays.specs.Batch.{row_of};
 ghost use Rattle.group_slots.specs.Tagged.{entry_tagged, value_tagged};
 ghost use Rattle.grouping.specs.Found.{found_then, place_in};
-ghost use Rattle.grouping.specs.inside.Knowing.{AreEntryKeys, AreKeys, AreKnown, AreTagged, StayKnown};
-ghost use Rattle.grouping.specs.inside.Placing.{found_by, ArePlaced, FirstsStay};
+ghost use Rattle.grouping.specs.inside.Knowing.{AreEntryKeys, AreKeys, AreKnown, AreTagged};
+ghost use Rattle.grouping.specs.inside.Placing.{ArePlaced, FirstsStay};
 ghost use Rattle.first_rows.specs.RowKeys.{key_of, same_first};
 
-use crate::coded::groups_by_codes;
+use crate::coded::groups_unseen;
 use crate::known::{
     Known, index_count, index_spread, know_nothing, known_group, push_known, short_group,
 };
@@ -34,8 +34,12 @@ pub(crate) struct Chosen<'t, 'r> {
     pub(crate) spread: u64,
 }
 
-// The group of each of these rows, by the first rows of the groups. A row whose key is new opens a group behind all others.
-fn groups_of<'t>(
+/// The group of each of these rows, by what is known of their keys. A row whose key is new opens a group behind all others.
+///
+/// # Errors
+///
+/// `AllocError` where memory is refused.
+pub(crate) fn groups_of<'t>(
     alloc: Global,
     firsts: &mut FirstRows<'t>,
     known: &mut [Known],
@@ -52,7 +56,7 @@ fn groups_of<'t>(
     ensures known { OnOk result (AreKnown value_tagged (map key_of firsts.new.keys) known.new) }
 {
     if chosen.columns.len() != 1 || known.is_empty() {
-        let groups = groups_by_codes(alloc, firsts, chosen)?;
+        let groups = groups_unseen(alloc, firsts, chosen)?;
         return Ok(groups);
     }
     let column = &chosen.batch.columns()[chosen.columns[0]];
@@ -177,7 +181,7 @@ fn groups_of_entries<'t>(
         IntegerType::UInt8 => groups_of_indices::<u8>(alloc, firsts, known, entries, chosen),
         IntegerType::UInt16 => groups_of_indices::<u16>(alloc, firsts, known, entries, chosen),
         IntegerType::UInt32 => groups_of_indices::<u32>(alloc, firsts, known, entries, chosen),
-        IntegerType::UInt64 => groups_by_codes(alloc, firsts, chosen),
+        IntegerType::UInt64 => groups_unseen(alloc, firsts, chosen),
     }
 }
 
@@ -272,36 +276,6 @@ pub(crate) fn groups_one_by_one<'t>(
         groups.push(short_group(firsts, first)?)?;
     }
     Ok(groups)
-}
-
-/// The group of each of these rows, by the first rows of the groups; without columns there is one group, also of no rows.
-///
-/// # Errors
-///
-/// `AllocError` where memory is refused.
-pub(crate) fn place_rows<'t>(
-    alloc: Global,
-    firsts: &mut FirstRows<'t>,
-    known: &mut [Known],
-    chosen: &Chosen<'t, '_>,
-) -> Result<Vec<u32>, AllocError>
-    requires there { IsTrue (list_all (λ column. nat_lt column (length chosen.now.batch.now.columns)) chosen.now.columns.now) }
-    requires within { All (λ row. row < chosen.now.batch.now.rows) chosen.now.rows.now }
-    requires known { AreKnown value_tagged (map key_of firsts.old.keys) known.old }
-    ensures found { OnOk result (found_by chosen.now.columns.now firsts.new.keys
-        ≡ found_then chosen.now.columns.now (found_by chosen.now.columns.now firsts.old.keys) (map (row_of chosen.now.batch.now.columns) chosen.now.rows.now)) }
-    ensures placed { IfOk result (λ groups. ArePlaced chosen.now.columns.now chosen.now.batch.now.columns (found_by chosen.now.columns.now firsts.new.keys)
-        chosen.now.rows.now groups.items (length chosen.now.rows.now)) }
-    ensures firsts { OnOk result (FirstsStay chosen.now firsts.old.keys firsts.new.keys) }
-    ensures known { OnOk result (AreKnown value_tagged (map key_of firsts.new.keys) known.new) }
-    ensures stay { OnOk result (StayKnown (map key_of firsts.old.keys) (map key_of firsts.new.keys)) }
-{
-    if chosen.columns.is_empty() {
-        let mut groups = Vec::new(alloc);
-        groups.resize(chosen.rows.len(), 0u32)?;
-        return Ok(groups);
-    }
-    groups_of(alloc, firsts, known, chosen)
 }
 
 /// The group of a row, which is opened where the row's key is new.

@@ -1,9 +1,8 @@
 -- What a joiner gives next.
-use Rattle.std.proofs.Common.{◌≡◌, ◌≤◌, ◌<◌, ℕ, ◌+◌, List, [], ◌∷◌, ◌++◌, All, Option, Some, None, Result, Ok, Err, length, map, take, drop, nat_lt, slice_get, unwrap_or, refl, sym, ap, ◌∙◌, subst, arith, true, append_assoc, length-append, length-drop}
+use Rattle.std.proofs.Common.{◌≡◌, ◌<◌, ℕ, ◌+◌, List, [], ◌∷◌, ◌++◌, All, Option, Some, None, Result, Ok, Err, length, map, take, drop, nat_lt, slice_get, unwrap_or, refl, sym, ap, ◌∙◌, subst, arith, true, append_assoc, length-append, length-drop}
 use Rattle.std.specs.declared.alloc.AllocError.{AllocError}
-use Rattle.std.specs.Global.{Vec}
 use Rattle.std.specs.List.{list_all, range_with_len}
-use Rattle.std.proofs.lemmas.List.{get_or-map, length-map, map-append, take-append-drop, drop_all, drop-drop}
+use Rattle.std.proofs.lemmas.List.{get_or-map, length-map, map-append, take-append-drop, drop-drop}
 use Rattle.std.proofs.lemmas.List.Elements.{All-head, All-tail}
 use Rattle.std.proofs.lemmas.Option.{unwrap_or-slice_get}
 use Rattle.arrow_schema.specs.declared.data_type.DataType.{DataType}
@@ -13,59 +12,45 @@ use Rattle.scan_base.specs.declared.value.Value.{Value}
 use Rattle.arrays.specs.Batch.{BatchAt, rows_of}
 use Rattle.arrays.specs.Typed.{AreOf}
 use Rattle.hash_join.specs.declared.pair.Pair.{Pair}
-use Rattle.hash_join.specs.declared.build.Probe.{Probe}
 use Rattle.hash_join.specs.Pairs.{pairs_ahead}
+use Rattle.join_batches.specs.declared.joiner.BuiltSides.{BuiltSides}
 use Rattle.join_batches.specs.declared.joiner.Joiner.TheInside.{Inside}
+use Rattle.join_batches.specs.declared.left.LeftPairs.{LeftPairs}
 use Rattle.join_batches.specs.declared.sides.Sides.{Sides}
-use Rattle.array_select.specs.Room.{most_batch_rows}
 use Rattle.join_batches.specs.Joiner.{JoinerAt, GivesShown, JoinsNext, JoinsShown, joined_type, joined_types, shown_cells}
-use Rattle.join_batches.specs.Rows.{pair_row, IsPair}
+use Rattle.join_batches.specs.Rows.{pair_row}
 use Rattle.join_batches.specs.Sides.{AreSides, AreWithin, IsBatchOf, copied_at, rows_at, types_of, width_of}
+use Rattle.join_batches.specs.Built.{AreBuilt}
 use Rattle.join_batches.specs.Held.{joiner_of, sides_of, IsJoiner}
+use Rattle.join_batches.specs.Left.{IsLeft, KeepsPairs, pairs_left}
 use Rattle.join_batches.proofs.Made.{all_cells}
 use Rattle.join_batches.proofs.Typed.{all_types, all_within, typed_long}
 
 -- the columns of a left batch's key are there
-pub left_key : (j : Inside) → IsJoiner j → 0 < j.batch.rows → list_all (λ column. nat_lt column (length j.batch.columns)) (sides_of j).left.key.items ≡ true
-left_key j held some =
-    ap (λ (n : ℕ). list_all (λ column. nat_lt column n) (sides_of j).left.key.items) (typed_long (sides_of j).left.types.items j.batch.columns (held.left_typed some))
-    ∙ held.built.key_there
+pub left_key : (sides : BuiltSides) (left : LeftPairs) → AreBuilt sides → IsLeft sides left → 0 < left.batch.rows →
+    list_all (λ column. nat_lt column (length left.batch.columns)) sides.left.key.items ≡ true
+left_key sides left built held some =
+    ap (λ (n : ℕ). list_all (λ column. nat_lt column n) sides.left.key.items) (typed_long sides.left.types.items left.batch.columns (held.typed some))
+    ∙ built.key_there
 
--- a joiner that has the same rows to give, and keeps what one keeps
-pub record Goes (before after : Inside) : Type 0 where
-  pub held : IsJoiner after
-  pub same : joiner_of after ≡ joiner_of before
+-- a joiner with this left batch
+abbrev pub with_left : Inside → LeftPairs → Inside
+with_left j left = record j { left = left }
 
--- with the next pairs in place of those that were given
-pub goes_found : (j : Inside) (pairs : Vec Pair) (probe : Probe) → IsJoiner j → j.given ≡ length j.pairs.items →
-    pairs.items ++ pairs_ahead (sides_of j).build j.batch (sides_of j).left.key.items probe ≡ pairs_ahead (sides_of j).build j.batch (sides_of j).left.key.items j.probe →
-    All (IsPair (sides_of j).build.batches j.batch) pairs.items → length pairs.items ≤ most_batch_rows → Goes j (record j { probe = probe; pairs = pairs; given = 0 })
-goes_found j pairs probe held ended next there few = record {
-  held = record {
-    built = held.built;
-    left_typed = held.left_typed;
-    left_few = held.left_few;
-    pairs_there = there;
-    pairs_few = few;
-    given_few = omega arith;
-  };
-  same =
-      let none : drop j.given j.pairs.items ≡ [] = drop_all j.given j.pairs.items (omega (arith, ended)) in
-      ap (λ (pairs : List Pair). record (joiner_of j) { ahead = map (pair_row (sides_of j).build.batches j.batch) pairs })
-      (next ∙ ap (λ (some : List Pair). some ++ pairs_ahead (sides_of j).build j.batch (sides_of j).left.key.items j.probe) (sym none));
-}
-
-pub goes_on : (j : Inside) → IsJoiner j → Goes j j
-goes_on j held = record { held = held; same = refl }
+-- where it keeps its pairs, the same joined rows are to be given
+pub same_rows : (j : Inside) (left : LeftPairs) → KeepsPairs (sides_of j) j.left left → joiner_of (with_left j left) ≡ joiner_of j
+same_rows j left keeps =
+    ap (λ (batch : BatchAt). record (joiner_of j) { ahead = map (pair_row (sides_of j).build.batches batch) (pairs_left (sides_of j) left) }) keeps.batch
+    ∙ ap (λ (pairs : List Pair). record (joiner_of j) { ahead = map (pair_row (sides_of j).build.batches j.left.batch) pairs }) keeps.same
 
 -- the sides of a joiner with a pair to give
-pub sides_are : (j : Inside) (sides : Sides) → IsJoiner j → sides.left.now ≡ j.batch → sides.left_types.now ≡ (sides_of j).left.types.items →
-    sides.rights.now ≡ (sides_of j).build.batches → sides.right_types.now ≡ (sides_of j).right_types.items → j.given < length j.pairs.items → AreSides sides
+pub sides_are : (j : Inside) (sides : Sides) → IsJoiner j → sides.left.now ≡ j.left.batch → sides.left_types.now ≡ (sides_of j).left.types.items →
+    sides.rights.now ≡ (sides_of j).build.batches → sides.right_types.now ≡ (sides_of j).right_types.items → j.left.given < length j.left.pairs.items → AreSides sides
 sides_are j sides held left left_types rights right_types more =
-    let pair = held.pairs_there j.given (record { left = 0; batch = 0; row = 0 }) more in
+    let pair = held.left.pairs_there j.left.given (record { left = 0; batch = 0; row = 0 }) more in
     record {
       left = subst (λ (batch : BatchAt). AreOf sides.left_types.now batch.columns) (sym left)
-          (subst (λ (types : List DataType). AreOf types j.batch.columns) (sym left_types) (held.left_typed (omega (arith, pair.left_row))));
+          (subst (λ (types : List DataType). AreOf types j.left.batch.columns) (sym left_types) (held.left.typed (omega (arith, pair.left_row))));
       rights = subst (λ (batches : List BatchAt). All (λ (batch : BatchAt). AreOf sides.right_types.now batch.columns) batches) (sym rights)
           (subst (λ (types : List DataType). All (λ (batch : BatchAt). AreOf types batch.columns) (sides_of j).build.batches) (sym right_types) held.built.rights_typed);
     }
@@ -107,32 +92,32 @@ types_same j sides (number ∷ shown) same within =
     (types_same j sides shown same (All-tail (λ (number : ℕ). number < width_of sides) number shown within))
 
 -- these columns of the next rows, and the rows behind them
-pub gives_shown : (j : Inside) (sides : Sides) (shown : List ℕ) (pairs : List Pair) (batch : BatchAt) (rows : ℕ) → IsJoiner j → sides.left.now ≡ j.batch →
+pub gives_shown : (j : Inside) (sides : Sides) (shown : List ℕ) (pairs : List Pair) (batch : BatchAt) (rows : ℕ) → IsJoiner j → sides.left.now ≡ j.left.batch →
     sides.left_types.now ≡ (sides_of j).left.types.items → sides.rights.now ≡ (sides_of j).build.batches → sides.right_types.now ≡ (sides_of j).right_types.items →
-    pairs ≡ drop j.given j.pairs.items → rows ≡ batch.rows → AreWithin sides shown → IsBatchOf sides shown pairs batch →
-    GivesShown (joiner_of j) shown batch (joiner_of (record j { given = j.given + rows }))
+    pairs ≡ drop j.left.given j.left.pairs.items → rows ≡ batch.rows → AreWithin sides shown → IsBatchOf sides shown pairs batch →
+    GivesShown (joiner_of j) shown batch (joiner_of (with_left j (record j.left { given = j.left.given + rows })))
 gives_shown j sides shown pairs batch rows held left left_types rights right_types are size within is =
-    let row = pair_row (sides_of j).build.batches j.batch in
-    let some = drop j.given j.pairs.items in
-    let ahead = pairs_ahead (sides_of j).build j.batch (sides_of j).left.key.items j.probe in
+    let row = pair_row (sides_of j).build.batches j.left.batch in
+    let some = drop j.left.given j.left.pairs.items in
+    let ahead = pairs_ahead (sides_of j).build j.left.batch (sides_of j).left.key.items j.left.probe in
     let same : rows_at sides (take batch.rows pairs) ≡ map row (take rows some) =
     ap (λ (b : BatchAt). map (pair_row sides.rights.now b) (take batch.rows pairs)) left
-    ∙ ap (λ (batches : List BatchAt). map (pair_row batches j.batch) (take batch.rows pairs)) rights
+    ∙ ap (λ (batches : List BatchAt). map (pair_row batches j.left.batch) (take batch.rows pairs)) rights
     ∙ ap (λ (found : List Pair). map row (take batch.rows found)) are ∙ ap (λ (n : ℕ). map row (take n some)) (sym size) in
-    let parts : some ++ ahead ≡ take rows some ++ (drop (j.given + rows) j.pairs.items ++ ahead) =
+    let parts : some ++ ahead ≡ take rows some ++ (drop (j.left.given + rows) j.left.pairs.items ++ ahead) =
     ap (λ (all : List Pair). all ++ ahead) (sym (take-append-drop rows some)) ∙ append_assoc (take rows some) (drop rows some) ahead
-    ∙ ap (λ (rest : List Pair). take rows some ++ (rest ++ ahead)) (drop-drop rows j.given j.pairs.items) in
+    ∙ ap (λ (rest : List Pair). take rows some ++ (rest ++ ahead)) (drop-drop rows j.left.given j.left.pairs.items) in
     record {
       rows = map row (take rows some);
-      next = ap (map row) parts ∙ map-append row (take rows some) (drop (j.given + rows) j.pairs.items ++ ahead);
+      next = ap (map row) parts ∙ map-append row (take rows some) (drop (j.left.given + rows) j.left.pairs.items ++ ahead);
       wide = subst (λ (n : ℕ). All (λ (row : List Value). length row ≡ n) (map row (take rows some))) (all_wide j sides.left_types.now sides.right_types.now left_types right_types)
           (subst (All (λ (row : List Value). length row ≡ width_of sides)) same is.wide);
       cells = is.rows_are ∙ ap (map (shown_cells shown)) same;
       some = is.some;
       few =
           let long = ap length are in
-          let rest = length-drop j.given j.pairs.items in
-          let most = held.pairs_few in
+          let rest = length-drop j.left.given j.left.pairs.items in
+          let most = held.left.pairs_few in
           let few = is.few in
           omega (arith, long, rest, most, few);
       typed = subst (λ (some : List DataType). AreOf some batch.columns) (types_same j sides shown (both_types j sides.left_types.now sides.right_types.now left_types right_types) within) is.typed;

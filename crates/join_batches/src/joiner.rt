@@ -1,23 +1,23 @@
 //! Joins of left batches with the rows of a right side.
 
-ghost use Rattle.std.specs.Prelude.{◌≡◌, ◌≤◌, ◌<◌, ◌++◌, [], All, IfOk, IsTrue, OnErr, length, nat_lt};
+ghost use Rattle.std.specs.Prelude.{◌≡◌, ◌≤◌, ◌<◌, [], All, IfOk, IsTrue, false, length, nat_lt, true};
 ghost use Rattle.std.specs.Arc.{arc_value};
 ghost use Rattle.std.specs.List.{list_all, flat_map, range_with_len};
 ghost use Rattle.scan_base.specs.Limits.{most_rows};
 ghost use Rattle.arrays.specs.Batch.{BatchAt, rows_of};
 ghost use Rattle.arrays.specs.Typed.{AreOf};
-ghost use Rattle.hash_join.specs.Pairs.{places, pairs_ahead};
+ghost use Rattle.hash_join.specs.Pairs.{places};
 ghost use Rattle.array_select.specs.Room.{most_batch_rows};
 ghost use Rattle.join_batches.specs.Built.{AreBuilt, unfed};
 ghost use Rattle.join_batches.specs.Joiner.{JoinsNext, JoinsShown, joined_of, joined_types};
-ghost use Rattle.join_batches.specs.Rows.{IsPair};
 
+use crate::left::LeftPairs;
 use crate::sides::Sides;
 use array_select::MOST_BATCH_ROWS;
 use arrays::Batch;
 use arrow_schema::DataType;
 use batch_room::{next_most, tried_rows};
-use hash_join::{Build, LeftSide, Pair, Probe};
+use hash_join::{Build, Probe};
 use hash_seed::HashSeed;
 use std::alloc::{AllocError, Global};
 use std::marker::Model;
@@ -59,11 +59,7 @@ impl Drop for BuiltSides {
 /// rows that are still to be given. Joiners of one right side share it.
 pub struct Joiner {
     sides: Arc<BuiltSides>,
-    batch: Batch,
-    probe: Probe,
-    // The next pairs, and how many of them were given.
-    pairs: Vec<Pair>,
-    given: usize,
+    left: LeftPairs,
     // As many rows as the next batch is tried with.
     most: usize,
 }
@@ -73,10 +69,7 @@ impl Drop for Joiner {
     fn drop(self) {
         let Joiner {
             sides: _,
-            batch: _,
-            probe: _,
-            pairs: _,
-            given: _,
+            left: _,
             most: _,
         } = self;
     }
@@ -159,10 +152,12 @@ impl Joiner {
     {
         Joiner {
             sides,
-            batch: Batch::new(Vec::new(alloc), 0),
-            probe: Probe::new(),
-            pairs: Vec::new(alloc),
-            given: 0,
+            left: LeftPairs {
+                batch: Batch::new(Vec::new(alloc), 0),
+                probe: Probe::new(),
+                pairs: Vec::new(alloc),
+                given: 0,
+            },
             most: MOST_BATCH_ROWS,
         }
     }
@@ -174,10 +169,24 @@ impl Joiner {
         requires ended { self.old.ahead ≡ [] }
         ensures { self.new ≡ record self.old { ahead = joined_of self.old (rows_of batch) } }
     {
-        self.batch = batch;
-        self.probe = Probe::new();
-        self.pairs.clear();
-        self.given = 0;
+        self.left.batch = batch;
+        self.left.probe = Probe::new();
+        self.left.pairs.clear();
+        self.left.given = 0;
+    }
+
+    /// Finds the next pairs of rows that join, where all that were found were given. Whether some are there: where none are, no
+    /// joined row is left. What is still to be given stays.
+    ///
+    /// # Errors
+    ///
+    /// `AllocError` where memory is refused. The same rows come next.
+    pub fn find(&mut self, alloc: Global) -> Result<bool, AllocError>
+        ensures same { self.new ≡ self.old }
+        ensures some { IfOk result (λ found. found ≡ true → 0 < length self.old.ahead) }
+        ensures none { IfOk result (λ found. found ≡ false → self.old.ahead ≡ []) }
+    {
+        self.left.find(alloc, &self.sides)
     }
 
     /// The next joined rows of the left batch as a batch: one row or more, no more than 65,536, which has room where it is more
@@ -210,29 +219,20 @@ impl Joiner {
         requires { IsTrue (list_all (λ number. nat_lt number (length (joined_types self.old))) shown.now) }
         ensures { JoinsShown self.old shown.now result self.new }
     {
-        if self.given == self.pairs.len() {
-            let built: &BuiltSides = &self.sides;
-            let left = LeftSide {
-                batch: &self.batch,
-                key: built.left.key.as_slice(),
-            };
-            self.pairs = next_pairs(alloc, &built.build, &left, &mut self.probe)?;
-            self.given = 0;
-        }
-        let pairs = &self.pairs.as_slice()[self.given..];
-        if pairs.is_empty() {
+        let built: &BuiltSides = &self.sides;
+        if !self.left.find(alloc, built)? {
             return Ok(None);
         }
-        let built: &BuiltSides = &self.sides;
+        let pairs = &self.left.pairs.as_slice()[self.left.given..];
         let sides = Sides {
-            left: &self.batch,
+            left: &self.left.batch,
             left_types: built.left.types.as_slice(),
             rights: built.build.batches(),
             right_types: built.right_types.as_slice(),
         };
         let tried = tried_rows(pairs.len(), shown.len(), self.most);
         let joined = sides.joined(alloc, shown, &pairs[..tried])?;
-        self.given += joined.rows();
+        self.left.given += joined.rows();
         self.most = next_most(self.most, tried, joined.rows());
         Ok(Some(joined))
     }
@@ -247,29 +247,4 @@ fn numbers_below(alloc: Global, count: usize) -> Result<Vec<usize>, AllocError>
         numbers.push(number)?;
     }
     Ok(numbers)
-}
-
-// The next pairs of a left batch that are to be found: none where the batch has no row.
-fn next_pairs(
-    alloc: Global,
-    build: &Build,
-    left: &LeftSide<'_>,
-    probe: &mut Probe,
-) -> Result<Vec<Pair>, AllocError>
-    requires alike { length left.now.key.now ≡ length build.now.key }
-    requires key { 0 < left.now.batch.now.rows →
-        IsTrue (list_all (λ column. nat_lt column (length left.now.batch.now.columns)) left.now.key.now) }
-    requires few { left.now.batch.now.rows ≤ most_batch_rows }
-    ensures next { IfOk result (λ pairs. pairs.items ++ pairs_ahead build.now left.now.batch.now left.now.key.now probe.new
-        ≡ pairs_ahead build.now left.now.batch.now left.now.key.now probe.old) }
-    ensures there { IfOk result (λ pairs. All (IsPair build.now.batches left.now.batch.now) pairs.items) }
-    ensures few { IfOk result (λ pairs. length pairs.items ≤ most_batch_rows) }
-    ensures some { IfOk result
-        (λ pairs. pairs.items ≡ [] → pairs_ahead build.now left.now.batch.now left.now.key.now probe.old ≡ []) }
-    ensures kept { OnErr result (probe.new ≡ probe.old) }
-{
-    if left.batch.rows() == 0 {
-        return Ok(Vec::new(alloc));
-    }
-    build.next(alloc, left, probe, MOST_BATCH_ROWS)
 }

@@ -2,6 +2,7 @@
 #![tactic(auto)]
 
 pub mod joiner;
+mod left;
 mod placed;
 mod sides;
 

@@ -19,7 +19,7 @@ use Rattle.scan_base.proofs.Truths.{or_false}
 use Rattle.arrow_schema.specs.DataType.{is_signed}
 use Rattle.arrays.specs.declared.layout.Layout.TheVariants.{Indices}
 use Rattle.arrays.specs.Dictionary.{entry_at}
-use Rattle.arrays.specs.Indices.{IndicesAt, AreIndices}
+use Rattle.arrays.specs.Indices.{IndicesAt, AreIndices, index_stands}
 use Rattle.arrays.specs.Layout.{layout_slot}
 use Rattle.arrays.specs.Number.{integer_at}
 use Rattle.arrays.specs.Validity.{is_valid}
@@ -211,6 +211,28 @@ index_within cells place are low valid =
     let some = valid_stands (is_valid cells.validity place) (is_some (entry_at cells.dictionary (integer_at cells.index cells.values place))) valid (are.indices place low) in
     (entry_found (null_test false (Column 0)) cells.dictionary (integer_at cells.index cells.values place) (code_at cells.index cells.values place) Unknown some
     (λ n e. one_code (is_signed cells.index) _ (code_at cells.index cells.values place) _ n e)).0
+
+entry_value : (values : List Value) (index : ℤ) (code : ℕ) → is_some (entry_at values index) ≡ true → ((n : ℕ) → index ≡ pos n → code ≡ n) →
+    unwrap_or (entry_at values index) Null ≡ get_or values code Null
+entry_value values (negsuc n) code some is = absurd cc
+entry_value values (pos n) code some is = elim (cases_lt n (length values)) [
+  | inl low ↦ ap (λ (o : Option Value). unwrap_or o Null) (slice_get-get_or values n Null low) ∙ ap (λ k. get_or values k Null) (sym (is n refl))
+  | inr high ↦ absurd (past (ap is_some (sym (slice_get_past values n high)) ∙ some))
+]
+  where
+    past : false ≡ true → ⊥
+    past e = cc
+
+-- the code of a valid slot is that of a value, and the slot has this value
+pub slot_by_code : (cells : IndicesAt) (place : ℕ) → index_stands cells place ≡ true → is_valid cells.validity place ≡ true →
+    (code_at cells.index cells.values place < length cells.dictionary) × (layout_slot (Indices cells) place ≡ get_or cells.dictionary (code_at cells.index cells.values place) Null)
+slot_by_code cells place stands valid =
+    let some = valid_stands (is_valid cells.validity place) (is_some (entry_at cells.dictionary (integer_at cells.index cells.values place))) valid stands in
+    let is = λ (n : ℕ) (e : integer_at cells.index cells.values place ≡ pos n). one_code (is_signed cells.index) _ (code_at cells.index cells.values place) _ n e in (
+      (entry_found (null_test false (Column 0)) cells.dictionary (integer_at cells.index cells.values place) (code_at cells.index cells.values place) Unknown some is).0,
+      ap (λ (b : Bool). if b then unwrap_or (entry_at cells.dictionary (integer_at cells.index cells.values place)) Null else Null) valid
+          ∙ entry_value cells.dictionary (integer_at cells.index cells.values place) (code_at cells.index cells.values place) some is,
+    )
 
 -- the truth of a slot
 pub slot_by_entry : (predicate : Pred ℕ) (cells : IndicesAt) (place : ℕ) → AreIndices cells → place < cells.len →

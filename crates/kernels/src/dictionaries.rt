@@ -195,8 +195,8 @@ fn indices_mask(
     kernel.mask(alloc, column.first() + part.from, part.len)
 }
 
-// The indices of all `count` slots.
-fn packed_indices<'a>(cells: &Indices<'a>, count: usize) -> Packed<'a>
+/// The indices of all `count` slots.
+pub(crate) fn packed_indices<'a>(cells: &Indices<'a>, count: usize) -> Packed<'a>
     requires stands { AreIndices cells.now }
     requires count { count ≡ (cells.now).len }
     ensures integer { result.integer ≡ (cells.now).index }

@@ -24,3 +24,4 @@ pub mod Unfiltered
 pub mod PartPlace
 pub mod PartRows
 pub mod Turns
+pub mod Choosing

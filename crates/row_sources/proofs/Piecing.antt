@@ -82,6 +82,12 @@ module _ (pick : PickAt) (table : TableAt) where
         opened = front;
       }
 
+  -- nothing was passed of which a row is given
+  pub none_yet : (first mid : Cursor) → mid.from ≡ first.from → mid.to ≡ first.to → first.at ≤ mid.at →
+      given_numbered pick (rows_ahead table first) ≡ given_numbered pick (rows_ahead table mid) → IsPlaced table mid →
+      FindsNone (picked_of pick (place_of table first)) (picked_of pick (place_of table mid))
+  none_yet first mid from to forth so_far placed = record { same = so_far; on = on_is first mid from to forth placed }
+
 module _ (pick : PickAt) (table : TableAt) (first mid after : Cursor) (part : Part) (from : mid.from ≡ first.from) (to : mid.to ≡ first.to)
     (forth : first.at ≤ mid.at) (so_far : given_numbered pick (rows_ahead table first) ≡ given_numbered pick (rows_ahead table mid))
     (opens : Opens table mid part after) (of : IsPart table part) (placed : IsPlaced table after) where

@@ -13,5 +13,6 @@ pub mod Chosen
 pub mod Placed
 pub mod Sources
 pub mod Joined
+pub mod Choices
 pub mod Sourced
 pub mod Joining

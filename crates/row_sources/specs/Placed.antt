@@ -1,5 +1,5 @@
 -- Inside: where a cursor stands among the batches of a table, and how it goes on.
-use Rattle.std.specs.Prelude.{◌≡◌, ◌≤◌, ◌<◌, ◌⊎◌, ℕ, ◌+◌, List, ◌++◌, length, map, Some, None, min, ◌-◌}
+use Rattle.std.specs.Prelude.{◌≡◌, ◌≤◌, ◌<◌, ◌⊎◌, ℕ, ◌+◌, List, ◌++◌, length, map, slice_get, Some, None, min, ◌-◌}
 use Rattle.std.specs.List.{last_or, range_with_len}
 use Rattle.arrays.specs.Batch.{rows_of, cut_batch}
 use Rattle.arrays.specs.Typed.{AreOf}
@@ -42,6 +42,12 @@ pub record IsPart (table : TableAt) (part : Part) : Type 0 where
   pub few : part.batch.now.rows ≤ most_rows
   pub wide : length part.batch.now.columns ≡ length table.schema.fields
   pub typed : AreOf (types_of table.schema.fields) part.batch.now.columns
+
+-- a part is the next one of a cursor's range
+pub record IsNextPart (table : TableAt) (cursor : Cursor) (part : Part) : Type 0 where
+  pub batch : slice_get table.batches cursor.batch ≡ Some part.batch.now
+  pub from : part.from ≡ cursor.at - cursor.start
+  pub to : part.to ≡ min (min part.batch.now.rows (cursor.to - cursor.start)) (cursor.at - cursor.start + most_batch_rows)
 
 -- the rows that a cursor has still to look at
 abbrev pub rows_ahead : TableAt → Cursor → List (ℕ × Row)

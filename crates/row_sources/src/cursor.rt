@@ -5,7 +5,7 @@ ghost use Rattle.std.specs.List.{range_with_len};
 ghost use Rattle.table_versions.specs.Stored.{table_of};
 ghost use Rattle.opened_batches.specs.Narrow.{BeginsInFirst};
 ghost use Rattle.opened_batches.specs.Opened.{batches_in};
-ghost use Rattle.row_sources.specs.Placed.{IsPlaced, IsPart, Begins, Opens};
+ghost use Rattle.row_sources.specs.Placed.{IsPlaced, IsPart, IsNextPart, Begins, Opens};
 
 use crate::opened_table::OpenedTable;
 use crate::part::Part;
@@ -48,29 +48,45 @@ impl Cursor {
         }
     }
 
-    // The next rows of the range that stand in one batch, as many as are looked at at once. The cursor goes on behind them.
+    // The next rows of the range that stand in one batch, as many as are looked at at once.
+    pub(crate) fn peek<'a>(&self, table: &'a OpenedTable) -> Part<'a>
+        requires more { self.now.at < self.now.to }
+        requires placed { IsPlaced table.now self.now }
+        ensures part { IsPart table.now result }
+        ensures next { IsNextPart table.now self.now result }
+    {
+        batches_are_rows();
+        let _most = table.rows();
+        let batch = table.batch(self.batch);
+        let from = self.at - self.start;
+        let to = batch
+            .rows()
+            .min(self.to - self.start)
+            .min(from + MOST_BATCH_ROWS);
+        Part { batch, from, to }
+    }
+
+    // The same rows. The cursor goes on behind them.
     pub(crate) fn open<'a>(&mut self, table: &'a OpenedTable) -> Part<'a>
         requires more { self.old.at < self.old.to }
         requires placed { IsPlaced table.now self.old }
         ensures placed { IsPlaced table.now self.new }
         ensures part { IsPart table.now result }
+        ensures next { IsNextPart table.now self.old result }
         ensures opened { Opens table.now self.old result self.new }
     {
         batches_are_rows();
         batch_slices_keep_rows();
-        let _most = table.rows();
-        let batch = table.batch(self.batch);
-        let rows = batch.rows();
-        let from = self.at - self.start;
-        let to = rows.min(self.to - self.start).min(from + MOST_BATCH_ROWS);
+        let part = self.peek(table);
+        let rows = part.batch.rows();
         if self.at == self.start.max(self.from) {
             self.opened += 1;
         }
-        self.at = self.start + to;
-        if to == rows {
+        self.at = self.start + part.to;
+        if part.to == rows {
             self.batch += 1;
             self.start += rows;
         }
-        Part { batch, from, to }
+        part
     }
 }

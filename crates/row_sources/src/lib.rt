@@ -2,6 +2,7 @@
 #![tactic(auto)]
 
 mod build;
+mod choice;
 pub mod collected;
 mod columns;
 mod cursor;

@@ -52,12 +52,11 @@ impl Picker {
         requires small { part.now.to + 64 ≤ 2 ^ 32 }
         ensures { Picks (pick_of self.now) part.now result }
     {
-        if self.filters.is_empty() {
-            return Ok(Some(slice_of(alloc, part, self.shown.as_slice())?));
+        if !self.filters.is_empty() {
+            selection.clear();
+            self.select(alloc, part, selection)?;
         }
-        selection.clear();
-        self.select(alloc, part, selection)?;
-        self.selected(alloc, part, selection)
+        self.give(alloc, part, selection)
     }
 
     /// The numbers in their batch of those rows of a part that the filters let through, in order, into an empty selection.
@@ -92,6 +91,25 @@ impl Picker {
             to,
             selection,
         )
+    }
+
+    // What is given of a part, whose rows are selected where there is a filter.
+    pub(crate) fn give(
+        &self,
+        alloc: Global,
+        part: &Part<'_>,
+        selection: &Selection,
+    ) -> Result<Option<Batch>, AllocError>
+        requires pick { IsPick (length part.now.batch.now.columns) (pick_of self.now) }
+        requires some { part.now.from < part.now.to }
+        requires within { part.now.to ≤ part.now.batch.now.rows }
+        requires selected { 0 < length self.now.filters.items → selection.now ≡ chosen_rows (pick_of self.now) part.now }
+        ensures { Picks (pick_of self.now) part.now result }
+    {
+        if self.filters.is_empty() {
+            return Ok(Some(slice_of(alloc, part, self.shown.as_slice())?));
+        }
+        self.selected(alloc, part, selection)
     }
 
     // The rows of a part that are selected: a slice where they stand next to each other, else in buffers of their own.

@@ -1,7 +1,8 @@
 //! The rows of one place.
 
-ghost use Rattle.std.specs.Prelude.{◌≡◌, ◌≤◌, ◌<◌, [], IfOk, length};
+ghost use Rattle.std.specs.Prelude.{◌≡◌, ◌≤◌, ◌<◌, [], IfOk, OnOk, length, true};
 ghost use Rattle.table_versions.specs.Stored.{table_of};
+ghost use Rattle.row_sources.specs.Choices.{IsChoice};
 ghost use Rattle.row_sources.specs.Placed.{begin_in, end_in, IsPlaced};
 ghost use Rattle.row_sources.specs.Parting.{part_of};
 ghost use Rattle.row_sources.specs.Picking.{IsPick, pick_of};
@@ -9,12 +10,12 @@ ghost use Rattle.row_sources.specs.Running.{FindsTurn, picked_of};
 ghost use Rattle.row_sources.specs.Sources.{place_at};
 ghost use Rattle.row_sources.specs.declared.turn.Patience.TheVariants.{Endless};
 
+use crate::choice::Choice;
 use crate::cursor::Cursor;
 use crate::opened_table::OpenedTable;
 use crate::picker::Picker;
 use crate::piece::Piece;
 use crate::turn::{Looking, Turn};
-use array_select::Selection;
 use std::alloc::{AllocError, Global};
 
 // A table, and where a scan of a range of its rows has come to.
@@ -38,22 +39,29 @@ impl PlaceRows {
     pub(crate) fn turn(
         &mut self,
         picker: &Picker,
-        selection: &mut Selection,
+        choice: &mut Choice,
         looking: &mut Looking,
     ) -> Result<Turn<Piece>, AllocError>
         requires placed { IsPlaced self.old.table self.old.cursor }
         requires pick { IsPick (length self.old.table.schema.fields) (pick_of picker.now) }
+        requires choice { IsChoice self.old.table self.old.cursor (pick_of picker.now) choice.old }
         ensures placed { IsPlaced self.new.table self.new.cursor }
+        ensures choice { IsChoice self.new.table self.new.cursor (pick_of picker.now) choice.new }
         ensures table { self.new.table ≡ self.old.table }
         ensures endless { looking.old.patience ≡ Endless → looking.new.patience ≡ Endless }
         ensures found { FindsTurn looking.old.patience (picked_of (pick_of picker.now) (place_at self.old)) result
             (picked_of (pick_of picker.now) (place_at self.new)) }
     {
         while self.cursor.at < self.cursor.to {
+            self.choose(looking.alloc, picker, choice)?;
+            if looking.ends_at_choice() {
+                return Ok(Turn::Working);
+            }
+            choice.made = false;
             let number = self.cursor.batch;
             let part = self.cursor.open(&self.table);
             looking.spend(part.to - part.from);
-            if let Some(batch) = picker.pick(looking.alloc, &part, selection)? {
+            if let Some(batch) = picker.give(looking.alloc, &part, &choice.selection)? {
                 return Ok(Turn::Given(Piece { batch, number }));
             }
             if looking.is_over() {
@@ -61,6 +69,25 @@ impl PlaceRows {
             }
         }
         Ok(Turn::End)
+    }
+
+    // Chooses the rows of the next part, where they are not chosen yet. Without a filter nothing is to be chosen.
+    fn choose(&self, alloc: Global, picker: &Picker, choice: &mut Choice) -> Result<(), AllocError>
+        requires more { self.now.cursor.at < self.now.cursor.to }
+        requires placed { IsPlaced self.now.table self.now.cursor }
+        requires pick { IsPick (length self.now.table.schema.fields) (pick_of picker.now) }
+        requires choice { IsChoice self.now.table self.now.cursor (pick_of picker.now) choice.old }
+        ensures choice { IsChoice self.now.table self.now.cursor (pick_of picker.now) choice.new }
+        ensures made { OnOk result (0 < length picker.now.filters.items → choice.new.made ≡ true) }
+    {
+        if choice.made || picker.filters.is_empty() {
+            return Ok(());
+        }
+        let part = self.cursor.peek(&self.table);
+        choice.selection.clear();
+        picker.select(alloc, &part, &mut choice.selection)?;
+        choice.made = true;
+        Ok(())
     }
 
     // The first row of the range in a batch, counted from the batch's first row. The range begins in the first batch.

@@ -1,20 +1,21 @@
 //! Rows, piece by piece: those of a place, or joined ones.
 
-ghost use Rattle.std.specs.Prelude.{◌≡◌, ◌<◌, [], IfOk, length};
+ghost use Rattle.std.specs.Prelude.{◌≡◌, ◌≢◌, ◌<◌, [], IfOk, length};
 ghost use Rattle.std.specs.Arc.{arc_value};
 ghost use Rattle.join_batches.specs.Joiner.{joined_types};
 ghost use Rattle.row_sources.specs.Joined.{FeedsNext, IsJoined, IsSource, TakesLeft, joined_at, source_at};
 ghost use Rattle.row_sources.specs.Parting.{ComeInOrder, part_of};
-ghost use Rattle.row_sources.specs.Picking.{IsPick, pick_of};
+ghost use Rattle.row_sources.specs.Picking.{IsPick, PickAt, pick_of};
 ghost use Rattle.row_sources.specs.Running.{FindsNext, FindsTurn, picked_of};
 ghost use Rattle.row_sources.specs.declared.turn.Patience.TheVariants.{Endless};
 
+use crate::choice::Choice;
 use crate::part::Part;
 use crate::picker::Picker;
 use crate::piece::Piece;
 use crate::place::PlaceRows;
 use crate::turn::{Looking, Patience, Turn};
-use array_select::Selection;
+use array_select::{MOST_BATCH_ROWS, Selection};
 use join_batches::Joiner;
 use std::alloc::{AllocError, Global};
 use std::marker::Model;
@@ -29,8 +30,7 @@ pub struct Rows {
     pub(crate) source: Source,
     // What is given of the source: its parts share it.
     pub(crate) picker: Arc<Picker>,
-    // The rows that were chosen last. Its memory is used again.
-    pub(crate) selection: Selection,
+    pub(crate) choice: Choice,
 }
 
 // What rows are picked of: a place, or a join of the rows of others with a place.
@@ -57,11 +57,13 @@ impl Model for Rows {
 
     ghost Value = { RowsAt };
 
+    ghost use Rattle.row_sources.specs.Choices.{IsChoiceOf};
     ghost use Rattle.row_sources.specs.Joined.{source_at, IsSource};
 
     ghost view = { λ r. picked_of (pick_of (arc_value r.picker)) (source_at r.source) };
 
-    ghost invariant = { λ r. IsSource r.source × IsPick (length (source_at r.source).types) (pick_of (arc_value r.picker)) };
+    ghost invariant = { λ r. IsSource r.source × IsPick (length (source_at r.source).types) (pick_of (arc_value r.picker))
+        × IsChoiceOf r.source (pick_of (arc_value r.picker)) r.choice };
 
     ghost size = { λ r. r.depth };
 
@@ -72,7 +74,8 @@ impl Model for Rows {
 
 impl Rows {
     /// The next rows, one or more, of one batch of the first place: at most 65,536. `Turn::Working` where none is given of so
-    /// many that were looked at: joined ones, and those of each place. Then the next turn goes on behind them.
+    /// many that were looked at: joined ones, and those of each place. Then the next turn goes on behind them. With
+    /// `Patience::Choice` it is so too once the next rows are chosen: the next turn gives them.
     ///
     /// # Errors
     ///
@@ -83,12 +86,14 @@ impl Rows {
         ensures found { FindsTurn looking.old.patience self.old result self.new }
     {
         match &mut self.source {
-            Source::Place(place) => place.turn(&self.picker, &mut self.selection, looking),
+            Source::Place(place) => place.turn(&self.picker, &mut self.choice, looking),
             Source::Joined(left, joining) => {
-                if self.picker.filters.is_empty() {
+                if looking.ends_at_choice() {
+                    joining.choose(left, looking)
+                } else if self.picker.filters.is_empty() {
                     joining.turn_shown(left, &self.picker, looking)
                 } else {
-                    joining.turn(left, &self.picker, &mut self.selection, looking)
+                    joining.turn(left, &self.picker, &mut self.choice.selection, looking)
                 }
             }
         }
@@ -126,7 +131,7 @@ impl Rows {
         Rows {
             source,
             picker,
-            selection: Selection::new(alloc),
+            choice: Choice::new(alloc),
         }
     }
 
@@ -243,6 +248,30 @@ impl Joining {
                 Turn::End => return Ok(Turn::End),
             }
         }
+    }
+
+    // Finds the next pairs of rows that join, of one further left batch at most. Their rows are not given yet.
+    #[cycle(turn)]
+    fn choose(&mut self, left: &mut Rows, looking: &Looking) -> Result<Turn<Piece>, AllocError>
+        requires joined { IsJoined left.old self.old.joiner self.old.number }
+        requires ends { looking.now.patience ≢ Endless }
+        ensures joined { IsJoined left.new self.new.joiner self.new.number }
+        ensures types { joined_types self.new.joiner ≡ joined_types self.old.joiner }
+        ensures depth { left.new.depth ≡ left.old.depth }
+        ensures found { (pick : PickAt) → FindsTurn looking.now.patience (picked_of pick (joined_at left.old self.old.joiner self.old.number))
+            result (picked_of pick (joined_at left.new self.new.joiner self.new.number)) }
+    {
+        let alloc = looking.alloc;
+        if self.joiner.find(alloc)? {
+            return Ok(Turn::Working);
+        }
+        let patience = Patience::Rows(MOST_BATCH_ROWS);
+        let mut further = Looking { alloc, patience };
+        if let Turn::End = self.feed_next(left, &mut further)? {
+            return Ok(Turn::End);
+        }
+        self.joiner.find(alloc)?;
+        Ok(Turn::Working)
     }
 
     // Goes on to the next left batch, where the turn comes to it, and is not over then.

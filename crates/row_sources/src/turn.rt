@@ -56,6 +56,13 @@ impl Looking {
         matches!(self.patience, Patience::Rows(0))
     }
 
+    // Whether the turn ends once the next rows are chosen.
+    pub(crate) fn ends_at_choice(&self) -> bool
+        ensures endless { self.now.patience ≡ Endless → result ≡ false }
+    {
+        matches!(self.patience, Patience::Choice)
+    }
+
     // How many rows were looked at in a turn of watched work.
     pub(crate) fn looked(&self) -> usize {
         match self.patience {

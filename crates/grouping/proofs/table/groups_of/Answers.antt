@@ -17,7 +17,7 @@ only c =
 pub returns-then-chosen-ne1-clause-known : goal.returns-then-chosen-ne1-clause-known
 returns-then-chosen-ne1-clause-known c =
     let chosen = c.args.chosen.now in
-    known_found value_tagged chosen.columns.now (map key_of c.args.firsts.now.keys) (map key_of c.groups_by_codes.new.firsts.keys)
+    known_found value_tagged chosen.columns.now (map key_of c.args.firsts.now.keys) (map key_of c.groups_unseen.new.firsts.keys)
     (map (row_of chosen.batch.now.columns) chosen.rows.now) c.args.known.now c.in_ok-groups.ensures.found c.requires.known
 
 pub groups_of_numbers-requires-clause-keys : goal.groups_of_numbers-requires-clause-keys

@@ -1,17 +1,18 @@
 use Rattle.std.proofs.Common.{◌≡◌, ◌<◌, ℕ, List, [], true, length, refl, sym, ap, ◌∙◌, subst, arith}
 use Rattle.std.specs.Arc.{arc_value}
 use Rattle.arrow_schema.specs.declared.data_type.DataType.{DataType}
-use Rattle.join_batches.specs.Joiner.{JoinerAt, joined_types, joined_of, GivesJoined, GivesShown}
+use Rattle.join_batches.specs.Joiner.{joined_types, GivesJoined, GivesShown}
 use Rattle.opened_batches.specs.Chosen.{are_within}
-use Rattle.row_sources.specs.Joined.{joined_at, source_at, FeedsNext, IsJoined}
+use Rattle.table_versions.specs.Stored.{TableAt}
+use Rattle.typed_plan.specs.Typed.{types_of}
+use Rattle.row_sources.specs.Choices.{IsChoice}
+use Rattle.row_sources.specs.Joined.{joined_at, source_at}
 use Rattle.row_sources.specs.Picking.{IsPick, pick_of, given_numbered}
-use Rattle.row_sources.specs.Running.{RowsAt, FindsTurn, FindsPiece, FindsNone, GoesOn, picked_of}
+use Rattle.row_sources.specs.Running.{RowsAt, FindsTurn, FindsPiece, picked_of}
 use Rattle.row_sources.specs.declared.picker.Picker.{Picker}
 use Rattle.row_sources.specs.declared.rows.Source.{Source}
 use Rattle.row_sources.specs.Sources.{place_at}
-use Rattle.row_sources.specs.declared.piece.Piece.{Piece}
-use Rattle.arrays.specs.Batch.{rows_of}
-use Rattle.row_sources.proofs.JoinSteps.{fed, with_ahead, as_many, still_joined, batch_goes, batch_none, batch_over, batch_found, batch_fewer, fed_fewer, fed_none, left_none, on_and_on, picks_end, picks_none, shown_found, shown_joined}
+use Rattle.row_sources.proofs.JoinSteps.{as_many, still_joined, batch_goes, batch_none, batch_over, batch_found, batch_fewer, fed_fewer, fed_none, left_none, on_and_on, picks_end, picks_none, shown_found, shown_joined}
 use Rattle.row_sources.proofs.Turns.{has_end}
 use Rattle.row_sources.proofs.rows.+turn.Goals as goal
 
@@ -233,17 +234,26 @@ Joining::feed_next-returns-in-Working-clause-feeds t c =
     let finds = rw (c.in_ok-piece.was, c.in-Working.is) at c.turn.ensures.found in
     (left_none c.args.left.now c.args.self.now.joiner c.args.self.now.number c.turn.new.self c.requires.none finds.0, finds.1)
 
+pub Rows::turn-invariant_of-self : goal.Rows::turn-invariant_of-self
+Rows::turn-invariant_of-self t c =
+    let is = rw c.in-Place.is at c.self.invariant in
+    let done = c.turn.ensures in (
+      done.placed,
+      subst (λ (table : TableAt). IsPick (length (types_of table.schema.fields)) (pick_of (arc_value c.self.inside.picker))) (sym done.table) is.1,
+      subst (λ (p : Picker). IsChoice c.turn.new.self.table c.turn.new.self.cursor (pick_of p) c.turn.new.choice) c.deref.ensures done.choice,
+    )
+
 pub Rows::turn-invariant_of-self-then-is_empty : goal.Rows::turn-invariant_of-self-then-is_empty
 Rows::turn-invariant_of-self-then-is_empty t c =
     let is = rw c.in-Joined.is at c.self.invariant in
     let done = c.turn_shown.ensures in
-    (done.joined, subst (λ (n : ℕ). IsPick n (pick_of (arc_value c.self.inside.picker))) (ap length (sym done.types)) is.1)
+    (done.joined, subst (λ (n : ℕ). IsPick n (pick_of (arc_value c.self.inside.picker))) (ap length (sym done.types)) is.1, tt)
 
 pub Rows::turn-invariant_of-self-else-is_empty : goal.Rows::turn-invariant_of-self-else-is_empty
 Rows::turn-invariant_of-self-else-is_empty t c =
     let is = rw c.in-Joined.is at c.self.invariant in
     let done = c.turn-else-is_empty.ensures in
-    (done.joined, subst (λ (n : ℕ). IsPick n (pick_of (arc_value c.self.inside.picker))) (ap length (sym done.types)) is.1)
+    (done.joined, subst (λ (n : ℕ). IsPick n (pick_of (arc_value c.self.inside.picker))) (ap length (sym done.types)) is.1, tt)
 
 pub Rows::turn-returns-in-Place-clause-found : goal.Rows::turn-returns-in-Place-clause-found
 Rows::turn-returns-in-Place-clause-found t c =
@@ -263,8 +273,8 @@ Rows::turn-returns-then-is_empty-clause-found t c =
     subst (λ (before : RowsAt). FindsTurn c.args.looking.now.patience before c.turn_shown.result (picked_of (pick_of picker) (joined_at left after.joiner after.number)))
     (ap (λ (source : Source). picked_of (pick_of picker) (source_at source)) (sym c.in-Joined.is) ∙ c.self.view_is)
     (subst (λ (rows : RowsAt). FindsTurn c.args.looking.now.patience (picked_of (pick_of picker) (joined_at rows joining.joiner joining.number)) c.turn_shown.result
-    (picked_of (pick_of picker) (joined_at left after.joiner after.number))) c.deref_mut.ensures.value
-    (subst (λ (p : Picker). FindsTurn c.args.looking.now.patience (picked_of (pick_of p) (joined_at c.deref_mut.result.now joining.joiner joining.number)) c.turn_shown.result
+    (picked_of (pick_of picker) (joined_at left after.joiner after.number))) c.deref_mut-then-is_empty.ensures.value
+    (subst (λ (p : Picker). FindsTurn c.args.looking.now.patience (picked_of (pick_of p) (joined_at c.deref_mut-then-is_empty.result.now joining.joiner joining.number)) c.turn_shown.result
     (picked_of (pick_of p) (joined_at left after.joiner after.number))) c.deref-then-is_empty.ensures c.turn_shown.ensures.found))
 
 pub Rows::turn-returns-else-is_empty-clause-found : goal.Rows::turn-returns-else-is_empty-clause-found

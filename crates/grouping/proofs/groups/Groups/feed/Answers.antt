@@ -1,6 +1,8 @@
 use Rattle.std.proofs.Common.{◌≡◌, ◌<◌, ℕ, ◌+◌, All, List, length, get_or, refl, sym, ap, ◌∙◌, subst, arith}
 use Rattle.arrays.specs.Batch.{BatchAt}
+use Rattle.first_rows.specs.Numbers.{text_number}
 use Rattle.grouping.specs.Fed.{GroupsAt, batch_at}
+use Rattle.grouping.specs.inside.Seeing.{AreSeenOf}
 use Rattle.grouping.proofs.Feeding.{IsFed, can_count_all, keys_there, feeds_all, fed_batch}
 use Rattle.grouping.proofs.groups.Groups.feed.Goals as goal
 use Rattle.grouping.proofs.groups.Groups.feed.Goals.{After-index-self-number}
@@ -37,6 +39,9 @@ invariant_of-self c =
       kept = λ none. c.in-Ok.ensures.kept;
       few = λ none. omega (arith, c.in-Ok.ensures.count, c.requires.few (sym (ap (λ (g : GroupsAt). g.refused) c.self.view_is) ∙ c.in_default.is), ap (λ (g : GroupsAt). g.count) c.self.view_is, ap (λ (rows : List ℕ). length rows) c.places.ensures.value);
       known_are = λ none. c.in-Ok.ensures.known;
+      seen_are = λ none. subst (λ (batch : BatchAt). AreSeenOf c.add.new.kept.firsts.texts batch c.self.inside.shape.keys.now c.add.new.kept.seen.numbers)
+          ((at (goal.at.invariant_of-self c).After-index-self-number).stands.same ∙ ap (batch_at c.self.inside.shape.batches.now) (sym (c.in-Ok.ensures.batch ∙ c.turn_to.ensures.number)))
+          c.in-Ok.ensures.seen;
       first = λ none. c.in-Ok.ensures.firsts c.self.inside.shape.batches.now (at (goal.at.invariant_of-self c).After-index-self-number).stands (c.self.invariant.first none);
     }
 
@@ -48,3 +53,10 @@ returns-in-Ok c =
 
 pub add-requires-clause-known : goal.add-requires-clause-known
 add-requires-clause-known c = c.self.invariant.known_are c.in_default.is
+
+pub add-requires-clause-seen : goal.add-requires-clause-seen
+add-requires-clause-seen c =
+    let shape = c.self.inside.shape in
+    let texts = c.self.inside.kept.firsts.texts in
+    subst (λ (batch : BatchAt). AreSeenOf texts batch shape.keys.now c.turn_to.new.self.numbers) (sym (at (goal.at.add-requires-clause-seen c).After-index-self-number).stands.same)
+    (c.turn_to.ensures.stays (text_number texts) shape.batches.now shape.keys.now (c.self.invariant.seen_are c.in_default.is))

@@ -1,4 +1,4 @@
-use Rattle.std.proofs.Common.{◌≡◌, List, All, refl, sym, ap, ◌∙◌, subst, arith}
+use Rattle.std.proofs.Common.{◌≡◌, length, List, All, refl, sym, ap, ◌∙◌, subst, arith}
 use Rattle.arrays.specs.Batch.{BatchAt}
 use Rattle.grouping.specs.Fed.{GroupsAt}
 use Rattle.grouping.specs.inside.Placing.{IsFirst, found_by}
@@ -33,6 +33,7 @@ invariant_of-self-in-Ok c =
       kept = λ none. c.in-Ok.ensures.kept;
       few = λ none. omega (arith, c.in-Ok.ensures.count, c.requires.few (sym (ap (λ (g : GroupsAt). g.refused) c.self.view_is) ∙ c.in_default.is) (sym (ap (λ (g : GroupsAt). g.refused) c.other.view_is) ∙ c.in_default-refused.is), ap (λ (g : GroupsAt). g.count) c.self.view_is, ap (λ (g : GroupsAt). g.count) c.other.view_is);
       known_are = λ none. c.in-Ok.ensures.known;
+      seen_are = λ none k d low. absurd (omega (arith, low, ap length c.in-Ok.ensures.seen));
       first = λ none. c.in-Ok.ensures.firsts shape.batches.now shape.keys.now (c.self.invariant.first none)
           (subst (λ (batches : List BatchAt). All (IsFirst batches shape.keys.now) firsts) (batches at)
           (subst (λ keys. All (IsFirst c.other.inside.shape.batches.now keys) firsts) (keys at) (c.other.invariant.first c.in_default-refused.is)));

@@ -17,6 +17,7 @@ invariant_of-result c =
           (kept_blank shape.items.now c.in_ok-tallies.tallies.items c.found_count-groups.result many c.in_ok-tallies.ensures.blank);
       few = λ _. omega arith;
       known_are = λ _ k d low. absurd (omega (arith, low, ap length c.new.ensures.items));
+      seen_are = λ _ k d low. absurd (omega (arith, low, ap length c.new-2.ensures));
       first = λ _. subst (λ (firsts : List RowKey). All (IsFirst shape.batches.now shape.keys.now) firsts) (sym none) (All-nil (IsFirst shape.batches.now shape.keys.now));
     }
 

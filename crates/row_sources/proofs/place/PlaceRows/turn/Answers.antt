@@ -4,13 +4,32 @@ use Rattle.table_versions.specs.Stored.{TableAt}
 use Rattle.row_sources.specs.Picking.{pick_of}
 use Rattle.row_sources.specs.Picked.{given_of_part}
 use Rattle.row_sources.specs.Running.{GoesOn, FindsPiece, FindsNone, Ends, picked_of}
-use Rattle.row_sources.proofs.Piecing.{place_of, goes, over, over_is, found, ends_is}
+use Rattle.row_sources.proofs.Piecing.{place_of, none_yet, goes, over, over_is, found, ends_is}
 use Rattle.row_sources.proofs.Turns.{has_end}
 use Rattle.row_sources.proofs.place.PlaceRows.turn.Goals as goal
 
+pub returns-in_err-choose-clause-found : goal.returns-in_err-choose-clause-found
+returns-in_err-choose-clause-found c =
+    let p = err_from_is_err_and c.from_residual.result c.from_residual.ensures.1 in
+    let is = c.loop-self.invariant in
+    let pick = pick_of c.args.picker.now in
+    rw (p.1)
+    (subst (λ (t : TableAt). GoesOn (picked_of pick (place_of t c.args.self.now.cursor)) (picked_of pick (place_of c.loop-self.self.table c.loop-self.self.cursor))) is.table
+    (none_yet pick c.loop-self.self.table c.args.self.now.cursor c.loop-self.self.cursor is.from is.to is.forth is.rows is.placed).on)
+
+-- the rows of the next part are chosen, and none is given
+pub returns-then-ends_at_choice-clause-found : goal.returns-then-ends_at_choice-clause-found
+returns-then-ends_at_choice-clause-found c =
+    let is = c.loop-self.invariant in
+    let pick = pick_of c.args.picker.now in (
+      subst (λ (t : TableAt). FindsNone (picked_of pick (place_of t c.args.self.now.cursor)) (picked_of pick (place_of c.loop-self.self.table c.loop-self.self.cursor))) is.table
+          (none_yet pick c.loop-self.self.table c.args.self.now.cursor c.loop-self.self.cursor is.from is.to is.forth is.rows is.placed),
+      has_end c.args.looking.now.patience c.loop-self.looking.patience c.ends_at_choice.result is.endless c.ends_at_choice.ensures.endless c.if-ends_at_choice.true,
+    )
+
 pub returns-in_err-batch-clause-found : goal.returns-in_err-batch-clause-found
 returns-in_err-batch-clause-found c =
-    let p = err_from_is_err_and c.from_residual.result c.from_residual.ensures.1 in
+    let p = err_from_is_err_and c.from_residual-in_err-batch.result c.from_residual-in_err-batch.ensures.1 in
     let is = c.loop-self.invariant in
     let pick = pick_of c.args.picker.now in
     let cursor = c.args.self.now.cursor in
@@ -26,7 +45,7 @@ returns-in-Some-clause-found c =
     let pick = pick_of c.args.picker.now in
     let cursor = c.args.self.now.cursor in
     let after = c.open-part.new.self in
-    let picked = rw (c.in_ok-batch.was, c.in-Some.is) at c.pick.ensures in
+    let picked = rw (c.in_ok-batch.was, c.in-Some.is) at c.give.ensures in
     subst (λ (t : TableAt). FindsPiece (picked_of pick (place_of t cursor)) (record { batch = c.in-Some.batch; number = c.loop-self.self.cursor.batch })
     (picked_of pick (place_of c.loop-self.self.table after))) is.table
     (found pick c.loop-self.self.table cursor c.loop-self.self.cursor after c.open-part.result is.from is.to is.forth is.rows
@@ -38,7 +57,7 @@ returns-then-is_over-clause-found c =
     let pick = pick_of c.args.picker.now in
     let cursor = c.args.self.now.cursor in
     let after = c.open-part.new.self in
-    let none : given_of_part pick c.open-part.result ≡ [] = rw (c.in_ok-batch.was, c.in_default.is) at c.pick.ensures in (
+    let none : given_of_part pick c.open-part.result ≡ [] = rw (c.in_ok-batch.was, c.in_default.is) at c.give.ensures in (
       subst (λ (t : TableAt). FindsNone (picked_of pick (place_of t cursor)) (picked_of pick (place_of c.loop-self.self.table after))) is.table
           (over_is pick c.loop-self.self.table cursor c.loop-self.self.cursor after c.open-part.result is.from is.to is.forth is.rows
           c.open-part.ensures.opened c.open-part.ensures.part c.open-part.ensures.placed none),
@@ -51,9 +70,10 @@ loop-self-preserved c =
     let pick = pick_of c.args.picker.now in
     let cursor = c.args.self.now.cursor in
     let opens = c.open-part.ensures.opened in
-    let none : given_of_part pick c.open-part.result ≡ [] = rw (c.in_ok-batch.was, c.in_default.is) at c.pick.ensures in
+    let none : given_of_part pick c.open-part.result ≡ [] = rw (c.in_ok-batch.was, c.in_default.is) at c.give.ensures in
     record {
       placed = c.open-part.ensures.placed;
+      choice = λ no part next. cc;
       table = is.table;
       from = opens.from ∙ is.from;
       to = opens.to ∙ is.to;

@@ -1,4 +1,5 @@
 use Rattle.std.proofs.Common.{◌≡◌, ◌≤◌, ◌-◌}
+use Rattle.row_sources.specs.Choices.{IsChoice}
 use Rattle.row_sources.specs.Picking.{pick_of, given_numbered}
 use Rattle.row_sources.specs.Placed.{IsPlaced, rows_ahead}
 use Rattle.row_sources.specs.declared.turn.Patience.TheVariants.{Endless}
@@ -8,6 +9,7 @@ use Rattle.row_sources.proofs.place.PlaceRows.turn.Given as goal
 abbrev pub invariant-loop-self : goal.invariant-loop-self
 invariant-loop-self l = record {
   placed : IsPlaced l.self.table l.self.cursor;
+  choice : IsChoice l.self.table l.self.cursor (pick_of l.picker) l.choice;
   table : l.self.table ≡ l.fn.self.table;
   from : l.self.cursor.from ≡ l.fn.self.cursor.from;
   to : l.self.cursor.to ≡ l.fn.self.cursor.to;

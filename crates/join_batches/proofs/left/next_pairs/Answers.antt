@@ -5,7 +5,7 @@ use Rattle.hash_join.specs.Pairs.{pairs_ahead}
 use Rattle.hash_join.specs.declared.pair.Pair.{Pair}
 use Rattle.join_batches.specs.Rows.{IsPair}
 use Rattle.join_batches.proofs.There.{found_there}
-use Rattle.join_batches.proofs.joiner.next_pairs.Goals as goal
+use Rattle.join_batches.proofs.left.next_pairs.Goals as goal
 
 pub returns-clause-there : goal.returns-clause-there
 returns-clause-there c =

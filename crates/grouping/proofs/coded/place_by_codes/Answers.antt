@@ -5,7 +5,7 @@ use Rattle.group_slots.specs.Tagged.{value_tagged}
 use Rattle.first_rows.specs.RowKeys.{key_of}
 use Rattle.grouping.proofs.Finding.{found_alone}
 use Rattle.grouping.proofs.Knowing.{known_found}
-use Rattle.grouping.proofs.table.place_rows.Goals as goal
+use Rattle.grouping.proofs.coded.place_by_codes.Goals as goal
 
 pub returns-then-is_empty-clause-found : goal.returns-then-is_empty-clause-found
 returns-then-is_empty-clause-found c =
@@ -15,7 +15,7 @@ returns-then-is_empty-clause-found c =
 pub returns-clause-stay : goal.returns-clause-stay
 returns-clause-stay c =
     let chosen = c.args.chosen.now in
-    on_ok_weaker c.groups_of.result
-    (λ found entries known. known_found value_tagged chosen.columns.now (map key_of c.args.firsts.now.keys) (map key_of c.groups_of.new.firsts.keys)
+    on_ok_weaker c.groups_by_codes.result
+    (λ found entries known. known_found value_tagged chosen.columns.now (map key_of c.args.firsts.now.keys) (map key_of c.groups_by_codes.new.firsts.keys)
     (map (row_of chosen.batch.now.columns) chosen.rows.now) entries found known)
-    c.groups_of.ensures.found
+    c.groups_by_codes.ensures.found

@@ -4,7 +4,7 @@ use Rattle.scan_base.specs.declared.predicate.Predicate.{Predicate}
 use Rattle.scan_base.specs.View.{pred_of}
 use Rattle.row_sources.specs.Picking.{pick_of, rows_of_part}
 use Rattle.row_sources.proofs.Giving.{gives, all_hold}
-use Rattle.row_sources.proofs.picker.Picker.pick.Goals as goal
+use Rattle.row_sources.proofs.picker.Picker.give.Goals as goal
 
 no_filter : (filters : List (Predicate ℕ)) → length filters ≡ 0 → map pred_of filters ≡ []
 no_filter [] e = refl
