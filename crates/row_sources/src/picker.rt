@@ -9,7 +9,7 @@ use crate::part::Part;
 use array_select::Selection;
 use arrays::Batch;
 use kernels::Columns;
-use scan_base::Predicate;
+use scan_base::{Operand, Predicate};
 use std::alloc::{AllocError, Global};
 
 /// Which rows of a source are given, and which of their columns.
@@ -57,6 +57,16 @@ impl Picker {
             self.select(alloc, part, selection)?;
         }
         self.give(alloc, part, selection)
+    }
+
+    /// How many comparisons of two columns the filters make for each row at most, and one at least. Contracts say nothing of it:
+    /// it tells what a row costs, since two texts that are compared may have 65,536 bytes each.
+    pub fn weight(&self) -> usize {
+        let mut comparisons = 0usize;
+        for filter in &self.filters {
+            comparisons = comparisons.saturating_add(comparisons_in(filter));
+        }
+        comparisons.max(1)
     }
 
     /// The numbers in their batch of those rows of a part that the filters let through, in order, into an empty selection.
@@ -137,4 +147,53 @@ impl Picker {
         let run = Part { batch, from, to };
         Ok(Some(slice_of(alloc, &run, shown)?))
     }
+}
+
+// How many comparisons of two columns a predicate makes for each row at most.
+fn comparisons_in(predicate: &Predicate<usize>) -> usize {
+    match predicate {
+        Predicate::And(left, right) => comparisons_in(left).saturating_add(comparisons_in(right)),
+        Predicate::Or(left, right) => comparisons_in(left).saturating_add(comparisons_in(right)),
+        Predicate::Not(part) => comparisons_in(part),
+        Predicate::Is {
+            negated: _,
+            tested: _,
+            predicate: part,
+        } => comparisons_in(part),
+        Predicate::Compare {
+            comparison: _,
+            left,
+            right,
+        } => columns_beside(left, std::slice::from_ref(right)),
+        Predicate::Between {
+            negated: _,
+            operand,
+            low,
+            high,
+        } => columns_beside(operand, std::slice::from_ref(low)).saturating_add(columns_beside(
+            operand,
+            std::slice::from_ref(high),
+        )),
+        Predicate::In {
+            negated: _,
+            operand,
+            items,
+        } => columns_beside(operand, items.as_slice()),
+        Predicate::IsNull {
+            negated: _,
+            operand: _,
+        } => 0,
+        Predicate::Constant(_) => 0,
+    }
+}
+
+// How many of these operands are columns, where another one is.
+fn columns_beside(operand: &Operand<usize>, others: &[Operand<usize>]) -> usize {
+    let mut count = 0usize;
+    for other in others {
+        if let (Operand::Column(_), Operand::Column(_)) = (operand, other) {
+            count = count.saturating_add(1);
+        }
+    }
+    count
 }

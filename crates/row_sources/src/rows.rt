@@ -194,7 +194,7 @@ impl Joining {
         loop {
             if let Some(batch) = self.joiner.next(looking.alloc)? {
                 let (from, to) = (0, batch.rows());
-                looking.spend(to);
+                looking.spend(to.saturating_mul(picker.weight()));
                 let part = Part {
                     batch: &batch,
                     from,

@@ -24,7 +24,7 @@ pub enum Turn<T> {
 pub enum Patience {
     /// As many as it takes to the next one that is given, or to the end.
     Endless,
-    /// So many, and behind them those of the batch in hand.
+    /// So many, and behind them those of the batch in hand. A row counts as often as filters compare two columns in it.
     Rows(usize),
     /// Until the next rows are chosen. None of them is given yet: they are those of the next turn.
     Choice,
@@ -40,7 +40,7 @@ pub struct Looking {
 }
 
 impl Looking {
-    // So many rows are looked at.
+    // So many rows are looked at, or one is so many times.
     pub(crate) fn spend(&mut self, rows: usize)
         ensures endless { self.old.patience ≡ Endless → self.new.patience ≡ Endless }
     {

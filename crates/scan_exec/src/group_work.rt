@@ -158,8 +158,8 @@ impl<'t> FedPart<'t> {
         Ok((part, batch.rows()))
     }
 
-    /// The same part, with batches of it fed for a turn: 1,048,576 rows, and behind them those of the batch in hand. Whether there
-    /// are more.
+    /// The same part, with batches of it fed for a turn: 1,048,576 rows, and behind them those of the batch in hand. A row counts as
+    /// often as filters compare two columns in it (`Picker::weight`). Whether there are more.
     ///
     /// # Errors
     ///
@@ -167,12 +167,13 @@ impl<'t> FedPart<'t> {
     pub fn feed_turn(self, alloc: Global) -> Result<(FedPart<'t>, bool), Fault>
         ensures { IfOk result (λ fed. IsSamePart self.entry fed.0) }
     {
+        let weight = self.work.picker.weight();
         let mut part = self;
         let mut rows = 0usize;
         while part.at < part.to && rows < TURN_ROWS {
             let (next, more) = part.feed_next(alloc)?;
             part = next;
-            rows = rows.saturating_add(more);
+            rows = rows.saturating_add(more.saturating_mul(weight));
         }
         let more = part.at < part.to;
         Ok((part, more))
