@@ -1,15 +1,11 @@
 -- Rows that are chosen before they are given.
-use Rattle.std.proofs.Common.{◌≡◌, ℕ, ◌-◌, ◌+◌, true, false, min, sym, ap, ◌∙◌}
+use Rattle.std.proofs.Common.{◌≡◌, ℕ, ◌-◌, ◌+◌, min, sym, ap, ◌∙◌}
 use Rattle.std.specs.List.{filter, range_with_len}
 use Rattle.arrays.specs.Batch.{BatchAt, row_of}
 use Rattle.array_select.specs.Room.{most_batch_rows}
 use Rattle.table_versions.specs.Stored.{TableAt}
-use Rattle.row_sources.specs.declared.choice.Choice.{Choice}
 use Rattle.row_sources.specs.declared.cursor.Cursor.{Cursor}
 use Rattle.row_sources.specs.declared.part.Part.{Part}
-use Rattle.row_sources.specs.declared.rows.Source.{Source}
-use Rattle.row_sources.specs.declared.rows.Source.TheVariants.{Place, Joined}
-use Rattle.row_sources.specs.Choices.{IsChoice, IsChoiceOf}
 use Rattle.row_sources.specs.Picking.{PickAt, holds, chosen_rows}
 use Rattle.row_sources.specs.Placed.{IsNextPart}
 
@@ -24,11 +20,3 @@ same_chosen table cursor pick one other is that =
     ap (λ (b : BatchAt). filter (λ row. holds pick (row_of b.columns row)) (range_with_len one.from (one.to - one.from))) batch
     ∙ ap (λ (n : ℕ). filter (λ row. holds pick (row_of other.batch.now.columns row)) (range_with_len n (one.to - n))) from
     ∙ ap (λ (n : ℕ). filter (λ row. holds pick (row_of other.batch.now.columns row)) (range_with_len other.from (n - other.from))) to
-
--- no choice is made
-pub unmade : (table : TableAt) (cursor : Cursor) (pick : PickAt) (choice : Choice) → choice.made ≡ false → IsChoice table cursor pick choice
-unmade table cursor pick choice none made = let no : true ≡ false = sym made ∙ none in cc
-
-pub unmade_of : (source : Source) (pick : PickAt) (choice : Choice) → choice.made ≡ false → IsChoiceOf source pick choice
-unmade_of (Place place) pick choice none = unmade place.table place.cursor pick choice none
-unmade_of (Joined left joining) pick choice none = tt

@@ -85,18 +85,6 @@ takes_shown joiner shown batch after gives = record {
   on = gives.on;
 }
 
-take_same : (xs : List ℕ) → take (length xs) xs ≡ xs
-take_same [] = refl
-take_same (x ∷ xs) = ap (λ rest. x ∷ rest) (take_same xs)
-
--- no row was taken
-pub stands : (left : RowsAt) (joiner : JoinerAt) (number : ℕ) → take (length left.opened) left.batches ≡ left.opened →
-    FindsNone (joined_at left joiner number) (joined_at left joiner number)
-stands left joiner number front = record {
-  same = refl;
-  on = record { types = refl; batches = refl; depth = refl; opening = take_same left.opened; opened = front };
-}
-
 module _ (left : RowsAt) (joiner : JoinerAt) (number : ℕ) (rows : List Row) (after : JoinerAt) (takes : Takes joiner rows after) where
   -- they are the next ones
   rows_next : (joined_at left joiner number).ahead ≡ map (λ row. (number, row)) rows ++ (joined_at left after number).ahead
@@ -125,6 +113,10 @@ module _ (left : RowsAt) (joiner : JoinerAt) (number : ℕ) (rows : List Row) (a
     opening = take_same left.opened;
     opened = front;
   }
+    where
+      take_same : (xs : List ℕ) → take (length xs) xs ≡ xs
+      take_same [] = refl
+      take_same (x ∷ xs) = ap (λ rest. x ∷ rest) (take_same xs)
 
   -- they come of the batch that was opened last
   rows_latest : (joiner.ahead ≡ []) ⊎ (last_or None left.opened ≡ Some number) → last_or None left.opened ≡ Some number
@@ -275,17 +267,6 @@ pub picks_none : (pick : PickAt) (first a b : RowsAt) → GoesOn first a → giv
 picks_none pick first a b on same none = record {
   same = same ∙ ap (given_numbered pick) none.same;
   on = picks_on pick first b (on_and_on first a b on none.on);
-}
-
-pub picks_still : (pick : PickAt) (a b : RowsAt) → FindsNone a b → FindsNone (picked_of pick a) (picked_of pick b)
-picks_still pick a b none = record { same = ap (given_numbered pick) none.same; on = picks_on pick a b none.on }
-
-pub picks_ended : (pick : PickAt) (a b : RowsAt) → Ends a b → Ends (picked_of pick a) (picked_of pick b)
-picks_ended pick a b ends = record {
-  none = ap (given_numbered pick) ends.none;
-  still = ap (given_numbered pick) ends.still;
-  all = ends.all;
-  on = picks_on pick a b ends.on;
 }
 
 -- a joined batch is passed

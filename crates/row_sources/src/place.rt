@@ -60,7 +60,7 @@ impl PlaceRows {
             choice.made = false;
             let number = self.cursor.batch;
             let part = self.cursor.open(&self.table);
-            looking.spend((part.to - part.from).saturating_mul(picker.weight()));
+            looking.spend(part.to - part.from, picker);
             if let Some(batch) = picker.give(looking.alloc, &part, &choice.selection)? {
                 return Ok(Turn::Given(Piece { batch, number }));
             }

@@ -194,7 +194,7 @@ impl Joining {
         loop {
             if let Some(batch) = self.joiner.next(looking.alloc)? {
                 let (from, to) = (0, batch.rows());
-                looking.spend(to.saturating_mul(picker.weight()));
+                looking.spend(to, picker);
                 let part = Part {
                     batch: &batch,
                     from,
@@ -239,7 +239,7 @@ impl Joining {
         loop {
             if let Some(batch) = self.joiner.next_shown(looking.alloc, shown)? {
                 let number = self.number;
-                looking.spend(batch.rows());
+                looking.spend(batch.rows(), picker);
                 return Ok(Turn::Given(Piece { batch, number }));
             }
             match self.feed_next(left, looking)? {

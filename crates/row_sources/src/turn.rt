@@ -3,6 +3,7 @@
 ghost use Rattle.std.specs.Prelude.{◌≡◌, false};
 ghost use Rattle.row_sources.specs.declared.turn.Patience.TheVariants.{Endless};
 
+use crate::picker::Picker;
 use std::alloc::Global;
 
 // How many rows a turn of watched work looks at.
@@ -40,12 +41,13 @@ pub struct Looking {
 }
 
 impl Looking {
-    // So many rows are looked at, or one is so many times.
-    pub(crate) fn spend(&mut self, rows: usize)
+    // So many rows are looked at. One counts as often as the filters of a picker compare two columns in it.
+    pub(crate) fn spend(&mut self, rows: usize, picker: &Picker)
         ensures endless { self.old.patience ≡ Endless → self.new.patience ≡ Endless }
     {
+        let spent = rows.saturating_mul(picker.weight());
         if let Patience::Rows(left) = &mut self.patience {
-            *left = left.saturating_sub(rows);
+            *left = left.saturating_sub(spent);
         }
     }
 
