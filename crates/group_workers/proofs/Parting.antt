@@ -1,5 +1,5 @@
 -- Parts of batches follow one another, from the first batch to the last.
-use Rattle.std.proofs.Common.{◌≡◌, ◌≤◌, ◌<◌, ℕ, zero, suc, ◌+◌, ◌-◌, ◌/◌, min, arith}
+use Rattle.std.proofs.Common.{◌≡◌, ◌≤◌, ◌<◌, ℕ, zero, suc, ◌+◌, ◌-◌, ◌/◌, min, ap, ◌∙◌, arith}
 use Rattle.std.proofs.Math.Nat.{div-add-mod}
 use Rattle.std.proofs.lemmas.Nat.{mod_below, mul-le}
 use Rattle.group_workers.specs.declared.parts.Cut.{Cut}
@@ -19,16 +19,18 @@ even_all batches (suc parts) some =
     let rest = mod_below batches (suc parts) (omega arith) in
     omega (arith, div-add-mod batches (suc parts), rest)
 
--- and before each of them no more than all
-pub even_few : (batches parts number : ℕ) → 0 < parts → number ≤ parts → even_before batches parts number ≤ batches
-even_few batches parts number some there =
-    let wide = mul-le number (batches / parts) parts (batches / parts) there (omega arith) in
-    let rest = mod_below batches parts some in
-    omega (arith, wide, div-add-mod batches parts, rest)
+-- no batch stands before the first of even parts
+even_none : (batches parts : ℕ) → even_before batches parts 0 ≡ 0
+even_none batches parts = omega arith
 
--- no batch stands before the first part
+-- nor before the first part
 pub none_before : (cut : Cut) → batches_before cut 0 ≡ 0
-none_before cut = omega arith
+none_before cut =
+    let long : min 0 cut.long ≡ 0 = omega arith in
+    let short : 0 - cut.long ≡ 0 = omega arith in
+    let front : even_before cut.front cut.long (min 0 cut.long) ≡ 0 = ap (even_before cut.front cut.long) long ∙ even_none cut.front cut.long in
+    let back : even_before cut.back cut.short (0 - cut.long) ≡ 0 = ap (even_before cut.back cut.short) short ∙ even_none cut.back cut.short in
+    omega (arith, front, back)
 
 -- each part ends behind its begin
 pub before_next : (cut : Cut) (number : ℕ) → batches_before cut number ≤ batches_before cut (number + 1)
@@ -42,4 +44,8 @@ pub all_before : (batches : ℕ) (cut : Cut) → IsCut batches cut → batches_b
 all_before batches cut is =
     let long : min cut.parts cut.long ≡ cut.long = omega (arith, is.parts) in
     let short : cut.parts - cut.long ≡ cut.short = omega (arith, is.parts) in
-    rw (long, short) at omega (arith, even_all cut.front cut.long is.front, even_all cut.back cut.short is.back, is.all)
+    let front : even_before cut.front cut.long (min cut.parts cut.long) ≡ cut.front =
+        ap (even_before cut.front cut.long) long ∙ even_all cut.front cut.long is.front in
+    let back : even_before cut.back cut.short (cut.parts - cut.long) ≡ cut.back =
+        ap (even_before cut.back cut.short) short ∙ even_all cut.back cut.short is.back in
+    omega (arith, front, back, is.all)

@@ -13,8 +13,8 @@ use scan_exec::{FedPart, GroupWork};
 use scan_workers::{Answers, NextAnswer, Reads, Work};
 use std::alloc::Global;
 
-// How many rows a turn of a worker looks at. Where one ends or has no more to do, a turn is over too, so no more rows are told
-// than there are.
+// How many rows a turn of a worker looks at, where a row counts as often as filters compare two columns in it. Where a part ends or
+// has no more to do, a turn is over too, so no more rows are told than count.
 const TURN_ROWS: usize = 1_048_576;
 
 // Parts of the batches as morsels, each answered by its groups. A worker feeds some of its batches ahead, turn by turn.
@@ -47,6 +47,7 @@ impl<'w, 't> Work for PartGroups<'w, 't> {
 
     fn answer(&self, alloc: Global, morsel: usize) -> Result<FedPart<'t>, Fault> {
         let work = self.work;
+        let (_parts, _batches) = (self.cut.parts, work.shape.batches.len());
         let from = self.cut.count_before(morsel);
         let to = self.cut.count_before(morsel + 1);
         work.begin_part(alloc, from, to)
@@ -109,7 +110,7 @@ fn merge_parts<'t, P: Answers<Result<FedPart<'t>, Fault>>, L: Watches>(
     ensures watched { L.watched watch.old watch.new }
 {
     let work = parts.work;
-    let mut untold = row_count(work.shape.batches);
+    let mut untold = row_count(work.shape.batches).saturating_mul(work.picker.weight());
     let Some(first) = next_groups(alloc, parts, answers, &mut untold, watch)? else {
         return Ok(Groups::new(alloc, work.seed, work.shape)?);
     };

@@ -1,6 +1,6 @@
 //! Parts of batches, one behind the other.
 
-ghost use Rattle.std.specs.Prelude.{◌≡◌, ◌≤◌, ℕ};
+ghost use Rattle.std.specs.Prelude.{◌≡◌, ◌≤◌, ◌<◌, ◌+◌, ◌^◌, ℕ};
 ghost use Rattle.group_workers.specs.Parts.{IsCut, batches_before, even_before};
 
 use arrays::Batch;
@@ -58,6 +58,7 @@ impl Cut {
     // How many batches stand before the part of a number.
     pub(crate) fn count_before(&self, number: usize) -> usize
         requires cut { (batches : ℕ) × IsCut batches self.now }
+        requires few { self.now.front + self.now.back < 2 ^ 64 }
         requires there { number ≤ self.now.parts }
         ensures { result ≡ batches_before self.now number }
     {

@@ -80,3 +80,6 @@ returns-clause-watched g c = g.met.L.Watches.again _ _ _ c.loop-groups.invariant
 
 pub returns-in_err-merge-clause-watched : goal.returns-in_err-merge-clause-watched
 returns-in_err-merge-clause-watched g c = g.met.L.Watches.again _ _ _ c.loop-groups.invariant.5 c.next_groups-in-loop-groups.ensures.watched
+
+pub returns-in_err-part-clause-watched : goal.returns-in_err-part-clause-watched
+returns-in_err-part-clause-watched g c = g.met.L.Watches.again _ _ _ c.loop-groups.invariant.5 c.next_groups-in-loop-groups.ensures.watched
