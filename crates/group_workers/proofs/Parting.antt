@@ -45,7 +45,7 @@ all_before batches cut is =
     let long : min cut.parts cut.long ≡ cut.long = omega (arith, is.parts) in
     let short : cut.parts - cut.long ≡ cut.short = omega (arith, is.parts) in
     let front : even_before cut.front cut.long (min cut.parts cut.long) ≡ cut.front =
-        ap (even_before cut.front cut.long) long ∙ even_all cut.front cut.long is.front in
+    ap (even_before cut.front cut.long) long ∙ even_all cut.front cut.long is.front in
     let back : even_before cut.back cut.short (cut.parts - cut.long) ≡ cut.back =
-        ap (even_before cut.back cut.short) short ∙ even_all cut.back cut.short is.back in
+    ap (even_before cut.back cut.short) short ∙ even_all cut.back cut.short is.back in
     omega (arith, front, back, is.all)

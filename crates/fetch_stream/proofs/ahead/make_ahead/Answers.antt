@@ -1,6 +1,5 @@
 use Rattle.std.proofs.Common.{◌≡◌, Result, Ok, Err, subst}
 use Rattle.scan_base.specs.declared.fault.Fault.{Fault}
-use Rattle.row_sources.specs.declared.turn.Patience.TheVariants.{Rows}
 use Rattle.row_sources.specs.declared.turn.Turn.{Turn}
 use Rattle.row_sources.specs.declared.turn.Turn.TheVariants.{Given}
 use Rattle.fetch_stream.specs.declared.made.Made.{Made}
@@ -8,20 +7,20 @@ use Rattle.fetch_stream.specs.inside.MadeAhead.{MakesNext}
 use Rattle.fetch_stream.proofs.MadeAhead.{more_ahead, refused_ahead}
 use Rattle.fetch_stream.proofs.ahead.make_ahead.Goals as goal
 
-pub loop-turns-preserved-in-Ok-Given : goal.loop-turns-preserved-in-Ok-Given
-loop-turns-preserved-in-Ok-Given c = λ schema rows given all.
-    let patience = Rows 65536 in
-    let before = c.loop-turns.rest in
+pub loop-left-preserved-in-Ok-Given : goal.loop-left-preserved-in-Ok-Given
+loop-left-preserved-in-Ok-Given c = λ schema rows given all.
+    let patience = c.args.turns.now.patience in
+    let before = c.loop-left.rest in
     let after = c.make_next.new.stream in
     let next = c.in-Ok-Given.next in
     let is : c.make_next.result ≡ Ok (Given next) = cc in
     let makes : MakesNext patience before (Ok (Given next)) after = subst (λ (r : Result (Turn Made) Fault). MakesNext patience before r after) is c.make_next.ensures in
-    rw c.push_back_reserved.ensures.items (more_ahead patience schema rows given c.loop-turns.made.items before after next (c.loop-turns.invariant schema rows given all) makes)
+    rw c.push_back_reserved.ensures.items (more_ahead patience schema rows given c.loop-left.made.items before after next (c.loop-left.invariant schema rows given all) makes)
 
 pub returns-in-Err : goal.returns-in-Err
 returns-in-Err c = λ schema rows given all.
-    let patience = Rows 65536 in
-    let before = c.loop-turns.rest in
+    let patience = c.args.turns.now.patience in
+    let before = c.loop-left.rest in
     let after = c.make_next.new.stream in
     let makes : MakesNext patience before (Err c.in-Err.field-0) after = subst (λ (r : Result (Turn Made) Fault). MakesNext patience before r after) c.in-Err.is c.make_next.ensures in
-    refused_ahead schema rows given c.loop-turns.made.items before after c.in-Err.field-0 (c.loop-turns.invariant schema rows given all) makes
+    refused_ahead schema rows given c.loop-left.made.items before after c.in-Err.field-0 (c.loop-left.invariant schema rows given all) makes

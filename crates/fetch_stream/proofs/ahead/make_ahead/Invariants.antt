@@ -4,8 +4,8 @@ use Rattle.table_versions.specs.Table.{Row}
 use Rattle.fetch_stream.specs.inside.MadeAhead.{AreAhead}
 use Rattle.fetch_stream.proofs.ahead.make_ahead.Given as goal
 
-abbrev pub invariant-loop-turns : goal.invariant-loop-turns
-invariant-loop-turns l = (schema : Schema) (rows : List Row) (given : ℕ) → AreAhead schema rows given l.fn.made.items (Some l.fn.rest) → AreAhead schema rows given l.made.items (Some l.rest)
+abbrev pub invariant-loop-left : goal.invariant-loop-left
+invariant-loop-left l = (schema : Schema) (rows : List Row) (given : ℕ) → AreAhead schema rows given l.fn.made.items (Some l.fn.rest) → AreAhead schema rows given l.made.items (Some l.rest)
 
-abbrev pub decreases-loop-turns : goal.decreases-loop-turns
-decreases-loop-turns l = l.turns
+abbrev pub decreases-loop-left : goal.decreases-loop-left
+decreases-loop-left l = l.left
