@@ -5,15 +5,6 @@ ghost use Rattle.group_workers.specs.Parts.{IsCut, batches_before, even_before};
 
 use arrays::Batch;
 
-// How many batches there are for each worker, at least, where parts are cut that differ.
-const MANY_BATCHES: usize = 10;
-
-// Which part of the batches stands behind: one in so many.
-const BACK: usize = 5;
-
-// How many short parts there are for each worker.
-const SHORT_PARTS: usize = 2;
-
 /// How batches are cut into parts that follow one another: those in front into so many long parts, and those behind them into so
 /// many short ones.
 #[derive(Clone, Copy, Drop)]
@@ -26,31 +17,18 @@ pub(crate) struct Cut {
     pub(crate) parts: usize,
 }
 
-// How so many batches are cut for so many workers. There is one long part for each worker, and two short ones: who is done with a
-// long one first makes short ones while others are at theirs. The groups of a part are made anew, and merged by the thread that
-// reads them, so there are no more. Of few batches there are no short parts, and each part has one batch or more.
+// How so many batches are cut for so many workers: into one long part for each, or one for each batch where there are fewer. The groups
+// of a part are made anew, and merged by the thread that reads them. So short parts cost more than they gain: none is cut.
 pub(crate) fn cut_of(batches: usize, workers: usize) -> Cut
     ensures { IsCut batches result }
 {
-    let workers = workers.max(1);
-    if batches / MANY_BATCHES < workers {
-        let long = batches.min(workers);
-        return Cut {
-            front: batches,
-            long,
-            back: 0,
-            short: 0,
-            parts: long,
-        };
-    }
-    let back = batches / BACK;
-    let short = SHORT_PARTS * workers;
+    let long = batches.min(workers.max(1));
     Cut {
-        front: batches - back,
-        long: workers,
-        back,
-        short,
-        parts: workers + short,
+        front: batches,
+        long,
+        back: 0,
+        short: 0,
+        parts: long,
     }
 }
 

@@ -60,8 +60,8 @@ impl<R: Threads + Wait + Sync> StartsGroupWorkers for R {
 }
 
 /// Groups the rows of each part of the batches for itself, by several workers, and merges the groups in the order of the
-/// parts. There is one long part for each worker and two short ones, or of few batches a part for each worker or batch. Threads are
-/// started once for a call, and have ended when it returns. No more workers are at work than there are batches; with fewer than two the rows
+/// parts. There is one part for each worker, or for each batch where there are fewer batches. Threads are started once
+/// for a call, and have ended when it returns. No more workers are at work than there are batches; with fewer than two the rows
 /// are grouped in one walk, and no thread is started.
 #[derive(Drop)]
 pub struct GroupWorkers<'h, R: StartsGroupWorkers> {
