@@ -78,7 +78,7 @@ def taken(path, records):
         given.seek(0)
         subprocess.run([path, "pipe"], stdin=given, stdout=out, check=True)
         end = out.seek(0, 2)
-        out.seek(max(0, end - 9))
+        out.seek(max(0, end - 4))
         last = out.read()
     after = resource.getrusage(resource.RUSAGE_CHILDREN)
     return after.ru_utime + after.ru_stime - before.ru_utime - before.ru_stime, last
@@ -90,7 +90,7 @@ def least(paths, records, runs):
     for _ in range(runs):
         for at, path in enumerate(paths):
             seconds, last = taken(path, records)
-            if last != b"\x04" + bytes(8):
+            if last != b"\x04" + bytes(3):
                 sys.exit(f"an answer ends with {last.hex()}")
             found[at] = min(found[at], seconds)
     return found
