@@ -1,5 +1,5 @@
 -- That a part is that of a number can be shown in one way at most.
-use Rattle.std.proofs.Common.{◌≡◌, ℕ, List, length, Result, Ok, Err}
+use Rattle.std.proofs.Common.{◌≡◌, ℕ, max, min, List, length, Result, Ok, Err, arith}
 use Rattle.std.specs.Coded.{Coded-set, coded_ℕ, coded_list}
 use Rattle.std.proofs.Math.Logic.{∥∥₁_elim}
 use Rattle.arrow_schema.specs.declared.data_type.DataType.{DataType}
@@ -11,9 +11,7 @@ use Rattle.scan_base.specs.contracts.value.Value as value
 use Rattle.table_versions.specs.Table.{Row}
 use Rattle.typed_plan.specs.declared.plan.Aggregate.{Aggregate}
 use Rattle.typed_plan.specs.contracts.plan.Aggregate as aggregate
-use Rattle.group_workers.specs.declared.parts.Cut.{Cut}
 use Rattle.group_workers.specs.Merging.{CanMerge, IsPartAt}
-use Rattle.group_workers.specs.Parts.{IsCut}
 use Rattle.group_workers.proofs.Parting.{all_before}
 use Rattle.scan_exec.specs.GroupWork.{CanBeGrouped, GroupWorkAt, IsPartOf, PartAt}
 
@@ -36,15 +34,15 @@ IsPartOf-prop : (work : GroupWorkAt) (from to : ℕ) (part : PartAt) → IsProp 
 IsPartOf-prop work from to part = hlevel (batches_equal, types_equal, places_equal, items_equal, rows_equal)
 
 -- so what is kept of it is what it was
-part_kept : (work : GroupWorkAt) (cut : Cut) (number : ℕ) (answer : Result PartAt Fault) → ∥ IsPartAt work cut number answer ∥₁ → IsPartAt work cut number answer
-part_kept work cut number (Ok part) is = ∥∥₁_elim is (IsPartOf-prop work _ _ part) (λ x. x)
-part_kept work cut number (Err fault) is = tt
+part_kept : (work : GroupWorkAt) (parts number : ℕ) (answer : Result PartAt Fault) → ∥ IsPartAt work parts number answer ∥₁ → IsPartAt work parts number answer
+part_kept work parts number (Ok part) is = ∥∥₁_elim is (IsPartOf-prop work _ _ part) (λ x. x)
+part_kept work parts number (Err fault) is = tt
 
 -- so the groups of each part can be merged
-pub can_merge : (work : GroupWorkAt) (cut : Cut) → CanBeGrouped work → IsCut (length work.batches) cut →
-    CanMerge work cut (λ number answer. ∥ IsPartAt work cut number answer ∥₁) cut.parts
-can_merge work cut can is = record {
+pub can_merge : (work : GroupWorkAt) (parts workers : ℕ) → CanBeGrouped work → parts ≡ min (length work.batches) (max 1 workers) →
+    CanMerge work (λ number answer. ∥ IsPartAt work parts number answer ∥₁) parts
+can_merge work parts workers can count = record {
   can = can;
-  all = all_before (length work.batches) cut is;
-  each = part_kept work cut;
+  all = all_before (length work.batches) parts (λ some. omega (arith, some, count));
+  each = part_kept work parts;
 }

@@ -12,7 +12,6 @@ use Rattle.scan_base.specs.declared.fault.Fault.{Fault}
 use Rattle.table_versions.specs.Table.{Row}
 use Rattle.grouping.specs.Fed.{GroupsAt, HasMerged, Holds, IsAlike, IsNew}
 use Rattle.row_sources.specs.Picking.{PickAt, holds}
-use Rattle.group_workers.specs.declared.parts.Cut.{Cut}
 use Rattle.group_workers.specs.Merging.{IsPartAt}
 use Rattle.group_workers.specs.Parts.{batches_before}
 use Rattle.group_workers.proofs.Parting.{before_next, none_before}
@@ -38,13 +37,13 @@ rows_join pick from to batches ordered =
     ∙ ap (passing pick) (flat_map-append rows_of (take from batches) (batches_between from to batches))
     ∙ filter-append (holds pick) (flat_map rows_of (take from batches)) (flat_map rows_of (batches_between from to batches))
 
-module _ (work : GroupWorkAt) (cut : Cut) (number : ℕ) where
+module _ (work : GroupWorkAt) (parts number : ℕ) where
   -- how many batches stand before this part, and before the next one
   abbrev before : ℕ
-  before = batches_before cut number
+  before = batches_before (length work.batches) parts number
 
   abbrev after : ℕ
-  after = batches_before cut (number + 1)
+  after = batches_before (length work.batches) parts (number + 1)
 
   -- the rows of the parts so far, and of this part
   abbrev so_far : List Row
@@ -55,7 +54,7 @@ module _ (work : GroupWorkAt) (cut : Cut) (number : ℕ) where
 
   -- together they are those before the next part
   both_are : passing work.pick (flat_map rows_of (take after work.batches)) ≡ so_far ++ here
-  both_are = rows_join work.pick before after work.batches (before_next cut number)
+  both_are = rows_join work.pick before after work.batches (before_next (length work.batches) parts number)
 
   -- groups of the parts so far and of this one have few enough rows together
   pub merge_few : (groups other : GroupsAt) → AreGroupsOf work so_far groups → AreGroupsOf work here other →
@@ -79,43 +78,43 @@ module _ (work : GroupWorkAt) (cut : Cut) (number : ℕ) where
   }
 
 -- the groups of the first part are those of the rows before the second
-pub first_are : (work : GroupWorkAt) (cut : Cut) (groups : GroupsAt) →
-    AreGroupsOf work (passing work.pick (flat_map rows_of (batches_between (batches_before cut 0) (batches_before cut (0 + 1)) work.batches))) groups →
-    AreGroupsOf work (passing work.pick (flat_map rows_of (take (batches_before cut 1) work.batches))) groups
-first_are work cut groups is =
-    let end = batches_before cut 1 in
+pub first_are : (work : GroupWorkAt) (parts : ℕ) (groups : GroupsAt) →
+    AreGroupsOf work (passing work.pick (flat_map rows_of (batches_between (batches_before (length work.batches) parts 0) (batches_before (length work.batches) parts (0 + 1)) work.batches))) groups →
+    AreGroupsOf work (passing work.pick (flat_map rows_of (take (batches_before (length work.batches) parts 1) work.batches))) groups
+first_are work parts groups is =
+    let end = batches_before (length work.batches) parts 1 in
     subst (λ (some : List BatchAt). AreGroupsOf work (passing work.pick (flat_map rows_of some)) groups) (from_first end work.batches)
-    (subst (λ (n : ℕ). AreGroupsOf work (passing work.pick (flat_map rows_of (batches_between n end work.batches))) groups) (none_before cut) is)
+    (subst (λ (n : ℕ). AreGroupsOf work (passing work.pick (flat_map rows_of (batches_between n end work.batches))) groups) (none_before (length work.batches) parts) is)
 
 -- where each part was merged, they are those of all rows
-pub all_are : (work : GroupWorkAt) (cut : Cut) (parts given : ℕ) (groups : GroupsAt) → given ≡ parts → batches_before cut parts ≡ length work.batches →
-    AreGroupsOf work (passing work.pick (flat_map rows_of (take (batches_before cut given) work.batches))) groups →
+pub all_are : (work : GroupWorkAt) (parts given : ℕ) (groups : GroupsAt) → given ≡ parts → batches_before (length work.batches) parts parts ≡ length work.batches →
+    AreGroupsOf work (passing work.pick (flat_map rows_of (take (batches_before (length work.batches) parts given) work.batches))) groups →
     AreGroupsOf work (passing work.pick (flat_map rows_of work.batches)) groups
-all_are work cut parts given groups end all is =
+all_are work parts given groups end all is =
     subst (λ (some : List BatchAt). AreGroupsOf work (passing work.pick (flat_map rows_of some)) groups)
-    (ap (λ (n : ℕ). take (batches_before cut n) work.batches) end ∙ ap (λ (n : ℕ). take n work.batches) all ∙ take-length work.batches) is
+    (ap (λ (n : ℕ). take (batches_before (length work.batches) parts n) work.batches) end ∙ ap (λ (n : ℕ). take n work.batches) all ∙ take-length work.batches) is
 
 no_batches : (batches : List BatchAt) → length batches ≡ 0 → [] ≡ batches
 no_batches [] none = refl
 no_batches (batch ∷ batches) none = absurd (omega (arith, none))
 
 -- where there is no part, new groups are those of all rows
-pub new_are : (work : GroupWorkAt) (cut : Cut) (parts : ℕ) (groups : GroupsAt) → parts ≡ 0 → batches_before cut parts ≡ length work.batches →
+pub new_are : (work : GroupWorkAt) (parts : ℕ) (groups : GroupsAt) → parts ≡ 0 → batches_before (length work.batches) parts parts ≡ length work.batches →
     IsNew work.batches work.types work.keys work.items groups → AreGroupsOf work (passing work.pick (flat_map rows_of work.batches)) groups
-new_are work cut parts groups none all new = record {
+new_are work parts groups none all new = record {
   batches_are = new.batches_are;
   types_are = new.types_are;
   keys_are = new.keys_are;
   items_are = new.items_are;
   refused = new.refused;
   held = subst (λ (some : List BatchAt). Holds groups (passing work.pick (flat_map rows_of some)))
-      (no_batches work.batches (sym all ∙ ap (batches_before cut) none ∙ none_before cut)) new.held;
+      (no_batches work.batches (sym all ∙ ap (batches_before (length work.batches) parts) none ∙ none_before (length work.batches) parts)) new.held;
 }
 
 -- a part that is begun is that of its number
-pub begun_at : (work : GroupWorkAt) (cut : Cut) (number from to : ℕ) (result : Result PartAt Fault) → from ≡ batches_before cut number →
-    to ≡ batches_before cut (number + 1) → IfOk result (λ part. part ≡ part_at work from from to) → IsPartAt work cut number result
-begun_at work cut number from to (Err fault) first last is = tt
-begun_at work cut number from to (Ok part) first last is =
-    subst (λ (n : ℕ). IsPartOf work n (batches_before cut (number + 1)) part) first
+pub begun_at : (work : GroupWorkAt) (parts number from to : ℕ) (result : Result PartAt Fault) → from ≡ batches_before (length work.batches) parts number →
+    to ≡ batches_before (length work.batches) parts (number + 1) → IfOk result (λ part. part ≡ part_at work from from to) → IsPartAt work parts number result
+begun_at work parts number from to (Err fault) first last is = tt
+begun_at work parts number from to (Ok part) first last is =
+    subst (λ (n : ℕ). IsPartOf work n (batches_before (length work.batches) parts (number + 1)) part) first
     (subst (λ (n : ℕ). IsPartOf work from n part) last (begun_part work from from to part is))

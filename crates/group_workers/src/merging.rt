@@ -1,11 +1,10 @@
 //! Groups of each part of the batches for itself, merged in the order of the parts.
 
-ghost use Rattle.std.specs.Prelude.{◌≡◌, IfOk, OnOk, length};
-ghost use Rattle.group_workers.specs.Parts.{IsCut};
+ghost use Rattle.std.specs.Prelude.{◌≡◌, IfOk, OnOk};
 ghost use Rattle.group_workers.specs.Merging.{AreNextGroups, CanMerge, IsNextPart};
 ghost use Rattle.scan_exec.specs.GroupWork.{GroupsOfAll, work_at};
 
-use crate::parts::{Cut, row_count};
+use crate::parts::{count_before, row_count};
 use grouping::Groups;
 use row_sources::{Watches, tell};
 use scan_base::Fault;
@@ -21,8 +20,7 @@ const TURN_ROWS: usize = 1_048_576;
 #[derive(Clone, Copy, Drop)]
 pub(crate) struct PartGroups<'w, 't> {
     pub(crate) work: &'w GroupWork<'t>,
-    pub(crate) cut: Cut,
-    ghost cut_is: { IsCut (length work.now.shape.batches.now) cut },
+    pub(crate) parts: usize,
 }
 
 impl<'w, 't> Work for PartGroups<'w, 't> {
@@ -33,23 +31,19 @@ impl<'w, 't> Work for PartGroups<'w, 't> {
 
     ghost ready = { λ p. CanBeGrouped (work_at p.work.now) };
 
-    ghost count = { λ p. p.cut.parts };
+    ghost count = { λ p. p.parts };
 
-    ghost answers = { λ p number answer. IsPartAt (work_at p.work.now) p.cut number answer };
+    ghost answers = { λ p number answer. IsPartAt (work_at p.work.now) p.parts number answer };
 
     fn count(&self) -> usize {
-        self.cut.parts
-    }
-
-    fn most_held(&self, _workers: usize) -> usize {
-        self.cut.parts
+        self.parts
     }
 
     fn answer(&self, alloc: Global, morsel: usize) -> Result<FedPart<'t>, Fault> {
         let work = self.work;
-        let (_parts, _batches) = (self.cut.parts, work.shape.batches.len());
-        let from = self.cut.count_before(morsel);
-        let to = self.cut.count_before(morsel + 1);
+        let batches = work.shape.batches.len();
+        let from = count_before(batches, self.parts, morsel);
+        let to = count_before(batches, self.parts, morsel + 1);
         work.begin_part(alloc, from, to)
     }
 
@@ -70,7 +64,7 @@ impl<'w, 't> Work for PartGroups<'w, 't> {
 // Merges the groups of each part behind those of the parts before it, watched.
 pub(crate) struct Merging<'w, 't, 'l, L> {
     pub(crate) alloc: Global,
-    pub(crate) parts: &'w PartGroups<'w, 't>,
+    pub(crate) work: &'w GroupWork<'t>,
     pub(crate) watch: &'l mut L,
 }
 
@@ -81,41 +75,40 @@ impl<'w, 't, 'l, L: Watches> Reads<Result<FedPart<'t>, Fault>> for Merging<'w, '
     ghost use Rattle.group_workers.specs.Merging.{CanMerge};
     ghost use Rattle.scan_exec.specs.GroupWork.{GroupsOfAll, work_at};
 
-    ghost takes = { λ m right count. CanMerge (work_at m.parts.now.work.now) m.parts.now.cut right count × L.ready m.watch.now };
+    ghost takes = { λ m right count. CanMerge (work_at m.work.now) right count × L.ready m.watch.now };
 
-    ghost reads = { λ m right count out new. GroupsOfAll (work_at m.parts.now.work.now) out
+    ghost reads = { λ m right count out new. GroupsOfAll (work_at m.work.now) out
         × (new.watch.ghost_name ≡ m.watch.ghost_name) × OnOk out (L.ready new.watch.now) × L.watched m.watch.now new.watch.now };
 
     fn read<P: Answers<Result<FedPart<'t>, Fault>>>(
         &mut self,
         answers: &mut P,
     ) -> Result<Groups<'t>, Fault> {
-        merge_parts(self.alloc, self.parts, answers, self.watch)
+        merge_parts(self.alloc, self.work, answers, self.watch)
     }
 }
 
 // The groups of all parts, merged in the order of the parts, watched.
 fn merge_parts<'t, P: Answers<Result<FedPart<'t>, Fault>>, L: Watches>(
     alloc: Global,
-    parts: &PartGroups<'_, 't>,
+    work: &GroupWork<'t>,
     answers: &mut P,
     watch: &mut L,
 ) -> Result<Groups<'t>, Fault>
     requires ready { P.ready answers.old }
     requires begin { P.given answers.old ≡ 0 }
-    requires can { CanMerge (work_at parts.now.work.now) parts.now.cut P.right (P.count answers.old) }
+    requires can { CanMerge (work_at work.now) P.right (P.count answers.old) }
     requires watch { L.ready watch.old }
-    ensures groups { GroupsOfAll (work_at parts.now.work.now) result }
+    ensures groups { GroupsOfAll (work_at work.now) result }
     ensures watch { OnOk result (L.ready watch.new) }
     ensures watched { L.watched watch.old watch.new }
 {
-    let work = parts.work;
     let mut untold = row_count(work.shape.batches).saturating_mul(work.picker.weight());
-    let Some(first) = next_groups(alloc, parts, answers, &mut untold, watch)? else {
+    let Some(first) = next_groups(alloc, work, answers, &mut untold, watch)? else {
         return Ok(Groups::new(alloc, work.seed, work.shape)?);
     };
     let mut groups = first;
-    while let Some(part) = next_groups(alloc, parts, answers, &mut untold, watch)? {
+    while let Some(part) = next_groups(alloc, work, answers, &mut untold, watch)? {
         groups.merge(alloc, part)?;
     }
     Ok(groups)
@@ -157,17 +150,17 @@ fn next_part<'t, P: Answers<Result<FedPart<'t>, Fault>>, L: Watches>(
 // The groups of the part that is answered next, or none behind the last one. What its worker has not fed is fed here.
 fn next_groups<'t, P: Answers<Result<FedPart<'t>, Fault>>, L: Watches>(
     alloc: Global,
-    parts: &PartGroups<'_, 't>,
+    work: &GroupWork<'t>,
     answers: &mut P,
     untold: &mut usize,
     watch: &mut L,
 ) -> Result<Option<Groups<'t>>, Fault>
     requires ready { P.ready answers.old }
-    requires can { CanMerge (work_at parts.now.work.now) parts.now.cut P.right (P.count answers.old) }
+    requires can { CanMerge (work_at work.now) P.right (P.count answers.old) }
     requires watch { L.ready watch.old }
     ensures ready { P.ready answers.new }
     ensures count { P.count answers.new ≡ P.count answers.old }
-    ensures groups { IfOk result (AreNextGroups (work_at parts.now.work.now) parts.now.cut (P.count answers.old) (P.given answers.old) (P.given answers.new)) }
+    ensures groups { IfOk result (AreNextGroups (work_at work.now) (P.count answers.old) (P.given answers.old) (P.given answers.new)) }
     ensures watch { OnOk result (L.ready watch.new) }
     ensures watched { L.watched watch.old watch.new }
 {

@@ -4,7 +4,7 @@ ghost use Rattle.std.specs.Prelude.{◌≡◌, OnOk};
 ghost use Rattle.scan_exec.specs.GroupWork.{CanBeGrouped, GroupsOfAll, work_at};
 
 use crate::merging::{Merging, PartGroups};
-use crate::parts::cut_of;
+use crate::parts::part_count;
 use grouping::Groups;
 use row_sources::Watches;
 use scan_base::Fault;
@@ -115,17 +115,13 @@ fn groups_beside<'t, R: Threads + Wait + Sync, L: Watches>(
     ensures ready { OnOk result (L.ready watch.new) }
     ensures watched { L.watched watch.old watch.new }
 {
-    let cut = cut_of(work.shape.batches.len(), workers);
-    let parts = PartGroups { work, cut };
-    let mut merging = Merging {
-        alloc,
-        parts: &parts,
-        watch,
-    };
-    let merged = in_order(rt, alloc, &parts, workers, &NoGate, &mut merging);
+    let parts = part_count(work.shape.batches.len(), workers);
+    let morsels = PartGroups { work, parts };
+    let mut merging = Merging { alloc, work, watch };
+    let merged = in_order(rt, alloc, &morsels, workers, &NoGate, &mut merging);
     let Merging {
         alloc: _,
-        parts: _,
+        work: _,
         watch,
     } = merging;
     take_back(watch);

@@ -220,8 +220,7 @@ where
     ensures read { IfOk result (λ out. S.reads reader.old (λ n a. ∥ K.right n a ∥₁) (W.count work.now) out reader.new) }
     ensures kept { OnErr result (reader.new ≡ reader.old) }
 {
-    let held = work.most_held(workers).max(workers);
-    let window: Window<K, A> = Window::new(alloc, held)?;
+    let window: Window<K, A> = Window::new(alloc, workers)?;
     let (word, mut me) = open(alloc)?;
     let claimers = split_all(alloc, &word, &mut me, workers)?;
     let exchange = Exchange {
@@ -265,7 +264,7 @@ where
 }
 
 /// Has the answers read in the order of the morsels, which so many workers make, in threads of their own beside the reader. No
-/// more answers are held at once than there are workers, or than the work says (`Work::most_held`). With fewer than two workers no thread is started: the reader makes all.
+/// more answers are held at once than there are workers. With fewer than two workers no thread is started: the reader makes all.
 ///
 /// # Errors
 ///

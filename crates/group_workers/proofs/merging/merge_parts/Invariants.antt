@@ -11,8 +11,8 @@ invariant-loop-groups g l =
     (g.P.Answers.count l.answers ≡ g.P.Answers.count l.fn.answers)
     × g.P.Answers.ready l.answers
     × (g.P.Answers.given l.answers ≤ g.P.Answers.count l.answers)
-    × AreGroupsOf (work_at l.parts.work.now) (passing (work_at l.parts.work.now).pick
-    (flat_map rows_of (take (batches_before l.parts.cut (g.P.Answers.given l.answers)) l.parts.work.now.shape.batches.now))) l.groups
+    × AreGroupsOf (work_at l.work) (passing (work_at l.work).pick
+    (flat_map rows_of (take (batches_before (length l.work.shape.batches.now) (g.P.Answers.count l.fn.answers) (g.P.Answers.given l.answers)) l.work.shape.batches.now))) l.groups
     × g.L.Watches.ready l.watch
     × g.L.Watches.watched l.fn.watch l.watch
 

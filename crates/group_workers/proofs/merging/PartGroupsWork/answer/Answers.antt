@@ -5,5 +5,5 @@ use Rattle.group_workers.proofs.merging.PartGroupsWork.answer.Goals as goal
 pub returns : goal.returns
 returns c =
     let part = c.args.self.now in
-    begun_at (work_at part.work.now) part.cut c.args.morsel c.count_before-from.result c.count_before-to.result c.begin_part.result
+    begun_at (work_at part.work.now) part.parts c.args.morsel c.count_before-from.result c.count_before-to.result c.begin_part.result
     c.count_before-from.ensures c.count_before-to.ensures c.begin_part.ensures
