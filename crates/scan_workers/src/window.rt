@@ -3,10 +3,10 @@
 ghost use Rattle.std.specs.Prelude.{◌≡◌, IfSome};
 
 use std::alloc::{AllocError, Global};
+use std::hint::spin_loop;
 use std::marker::{Brand, PhantomData};
 use std::sync::atomic::{AtomicUsize, Ordering};
 use std::sync::{Condvar, Mutex, Wait};
-use std::thread;
 
 // What answers are right.
 pub trait Truth<A> {
@@ -120,9 +120,9 @@ impl<K: Truth<A>, A: Drop> Slots<K, A> {
     }
 }
 
-// Before a thread sleeps it looks so often, without the lock, whether it may go on, and lets others run behind each look. To
-// wake a thread that sleeps may take as long as a morsel.
-const LOOKS: usize = 64;
+// Before a thread sleeps it looks so often, without the lock, whether it may go on: some 60 microseconds long. To wake a thread that
+// sleeps may take as long. It doesn't yield its processor meanwhile: who else runs there may keep it for milliseconds.
+const LOOKS: usize = 1_500;
 
 // The window. Workers put their answers into it, and the reader takes them.
 #[derive(Drop)]
@@ -178,7 +178,7 @@ impl<K: Truth<A>, A: Drop> Window<K, A> {
             if number.saturating_sub(self.read.load(Ordering::Acquire)) < many {
                 return;
             }
-            thread::yield_now();
+            spin_loop();
         }
     }
 
@@ -188,7 +188,7 @@ impl<K: Truth<A>, A: Drop> Window<K, A> {
             if self.answered.load(Ordering::Acquire) == number.wrapping_add(1) {
                 return;
             }
-            thread::yield_now();
+            spin_loop();
         }
     }
 
