@@ -5,7 +5,7 @@ use Rattle.scan_base.specs.declared.predicate.Operand.{Operand}
 use Rattle.scan_base.specs.Predicate.{any_equal, operand_value}
 use Rattle.kernels.specs.Parts.{cell_of, said_in, said_of}
 use Rattle.kernels.proofs.Leaves.{any_cell, found_then, part_said}
-use Rattle.kernels.proofs.leaf.in_leaf.Goals as goal
+use Rattle.kernels.proofs.leaf.numbers_among.Goals as goal
 
 pub returns-in-Some : goal.returns-in-Some
 returns-in-Some c =
