@@ -1,6 +1,6 @@
 //! Groups of rows.
 
-ghost use Rattle.std.specs.Prelude.{◌≤◌, ◌+◌, ◌<◌, All, IfOk, length, map};
+ghost use Rattle.std.specs.Prelude.{◌≡◌, ◌≤◌, ◌+◌, ◌<◌, All, IfOk, length, map};
 ghost use Rattle.std.specs.Option.{ForNone};
 ghost use Rattle.scan_base.specs.Limits.{most_rows};
 ghost use Rattle.arrays.specs.Batch.{row_of};
@@ -143,6 +143,15 @@ impl<'t> Groups<'t> {
                 Err(Fault::OutOfMemory)
             }
         }
+    }
+
+    /// Frees the tables that find groups sooner: what is known of keys, and what was seen of long texts in a batch. What is grouped
+    /// stays. Rows that are fed later make tables anew.
+    pub fn free_tables(&mut self)
+        ensures { self.new ≡ self.old }
+    {
+        self.kept.seen.numbers.forget();
+        self.kept.known = Vec::new(*self.kept.known.allocator());
     }
 
     /// Takes the groups of other rows of the same batches behind the own: each joins that of its key, or stands last.

@@ -59,9 +59,11 @@ impl Picker {
         self.give(alloc, part, selection)
     }
 
-    /// How many comparisons of two columns the filters make for each row at most, and one at least. Contracts say nothing of it:
+    /// How many comparisons of two columns the filters make for each row at most, and one at least. Contracts say no more of it:
     /// it tells what a row costs, since two texts that are compared may have 65,536 bytes each.
-    pub fn weight(&self) -> usize {
+    pub fn weight(&self) -> usize
+        ensures { 1 ≤ result }
+    {
         let mut comparisons = 0usize;
         for filter in &self.filters {
             comparisons = comparisons.saturating_add(comparisons_in(filter));
