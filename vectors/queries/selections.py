@@ -254,6 +254,22 @@ def of_text_columns():
             yield negated(compare(Name(left), sign, Name(right))), SPREAD
 
 
+# BETWEEN and IN of three columns and a literal.
+THREE = [("s", "r", "e", "a"), ("e", "c", "r", "Z"), ("c", "e", "s", "x"), ("i8", "i64", "u8", 1), ("u32", "i16", "d", 2)]
+
+
+def of_lists():
+    """Each column and the literal in each place, and NOT of each."""
+    for *names, literal in THREE:
+        one, two, three = map(Name, names)
+        yield between(one, two, three), LONG
+        yield not_between(three, literal, two), LONG
+        yield not_between(literal, one, three), LONG
+        yield among(one, two, three), LONG
+        yield not_among(two, literal, one), LONG
+        yield not_among(literal, three, one), LONG
+
+
 def combined():
     """AND, OR, NOT and the IS tests over what has all three truths."""
     a, b, c, d = (compare(Name("i64"), "<", 1), compare(Name("s"), ">=", "abcdefgh"), compare(Name("f"), "=", True),
@@ -293,6 +309,7 @@ def over_each():
     tests += [*of_truths("f", 0), *of_any("f", True), *of_columns()]
     tests += [(test, places) for test in combined() for places in (LONG, SPREAD)]
     tests += of_text_columns()
+    tests += of_lists()
     yield from (of_each(test, next(places)) for test, places in tests)
     yield from (of_each(test, place) for test in AT_ALL for place in ALL)
 

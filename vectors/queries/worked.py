@@ -265,6 +265,51 @@ TEXTS = [
     ("(s IN (c, 'Z')) IS UNKNOWN", [2, 6]),
 ]
 
+# BETWEEN and IN with columns on any side. BETWEEN is the AND of two comparisons, and IN the OR of equalities: a null on one side
+# leaves FALSE of the one, and TRUE of the other, as it is.
+LISTS = [
+    ("s IN (c, 'a ')", [1, 4, 5, 6]),
+    ("s NOT IN (c, 'a ')", [3]),
+    ("s NOT IN ('a', c)", [3]),
+    ("c NOT IN (s, 'Z')", [3]),
+    ("c IN (s, c)", [1, 3, 4, 5]),
+    ("'a' IN (s, c)", [3, 5]),
+    ("'a' NOT IN (s, c)", [1, 4]),
+    ("('a' IN (s, c)) IS UNKNOWN", [2, 6]),
+    ("'Z' IN ('a', s)", [4]),
+    ("'Z' NOT IN ('a', s)", [1, 3, 5, 6]),
+    ("'a' IN ('x', 'a', s)", [1, 2, 3, 4, 5, 6]),
+    ("'a' NOT IN (s, 'a')", []),
+    ("s BETWEEN c AND 'a'", [1, 4, 5]),
+    ("s NOT BETWEEN c AND 'a'", [3, 6]),
+    ("(s BETWEEN c AND 'b') IS UNKNOWN", [2, 6]),
+    ("s BETWEEN 'a' AND c", [5]),
+    ("s NOT BETWEEN 'a' AND c", [1, 3, 4]),
+    ("s NOT BETWEEN c AND c", [3]),
+    ("c BETWEEN s AND s", [1, 4, 5]),
+    ("c BETWEEN 'b' AND s", []),
+    ("c NOT BETWEEN 'b' AND s", [1, 3, 4, 5]),
+    ("s BETWEEN s AND 'Z'", [1, 4]),
+    ("'a' BETWEEN c AND s", [3, 5]),
+    ("'a' NOT BETWEEN c AND s", [1, 4]),
+    ("'Z' BETWEEN 'Y' AND c", [3, 4, 5]),
+    ("'X' NOT BETWEEN 'Y' AND c", [1, 2, 3, 4, 5, 6]),
+    ("k BETWEEN i8 AND u8", [4, 6]),
+    ("k BETWEEN u8 AND i8", []),
+    ("k NOT BETWEEN u8 AND i8", [1, 3, 4, 5, 6]),
+    ("k NOT BETWEEN 3 AND i8", [1, 2, 4, 5, 6]),
+    ("(k BETWEEN 1 AND i8) IS UNKNOWN", [2]),
+    ("i64 BETWEEN d AND u64", [1, 4, 5, 6]),
+    ("0 BETWEEN i8 AND k", [1, 4, 6]),
+    ("(9 BETWEEN i8 AND k) IS FALSE", [1, 2, 3, 4, 5, 6]),
+    ("i16 IN (i8, k, 32767)", [3, 4, 5, 6]),
+    ("k NOT IN (i8, 4)", [1, 3, 5, 6]),
+    ("4 IN (k, i8)", [4]),
+    ("4 NOT IN (k, i8)", [1, 3, 5, 6]),
+    ("u64 IN (u8, i64)", [1, 5]),
+    ("f BETWEEN g AND TRUE", [3, 4, 5]),
+]
+
 TRUTH_VALUES = [
     ("f = TRUE", [3, 5, 6]),
     ("FALSE = f", [1, 4]),
@@ -643,7 +688,7 @@ def cases():
     for names, predicates in [(SIGNED, OF_SIGNED), (UNSIGNED, OF_UNSIGNED)]:
         for one in names:
             yield from (rows("SELECT k FROM types WHERE " + filled(predicate, one), wanted) for predicate, wanted in predicates)
-    for predicate, wanted in NUMBERS + TEXTS + TRUTH_VALUES:
+    for predicate, wanted in NUMBERS + TEXTS + LISTS + TRUTH_VALUES:
         yield rows(f"SELECT k FROM types WHERE {predicate}", wanted)
     for predicate, wanted in DATES:
         yield rows(f"SELECT k FROM days WHERE {predicate}", wanted)
