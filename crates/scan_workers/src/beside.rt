@@ -101,6 +101,8 @@ where
         × S.reads old.reader.now (λ n a. ∥ K.right n a ∥₁) (W.count old.pull.exchange.now.work.now) out new.reader.now };
 
     fn work(&mut self) -> S::Out {
+        let exchange = self.pull.exchange;
+        exchange.window.await_helper(exchange.rt);
         let out = self.reader.read(&mut self.pull);
         self.pull.exchange.window.close(self.pull.exchange.rt);
         out

@@ -7,6 +7,7 @@ use std::hint::spin_loop;
 use std::marker::{Brand, PhantomData};
 use std::sync::atomic::{AtomicUsize, Ordering};
 use std::sync::{Condvar, Mutex, Wait};
+use std::time::Duration;
 
 // What answers are right.
 pub trait Truth<A> {
@@ -123,6 +124,9 @@ impl<K: Truth<A>, A: Drop> Slots<K, A> {
 // Before a thread sleeps it looks so often, without the lock, whether it may go on: some 60 microseconds long. To wake a thread that
 // sleeps may take as long. It doesn't yield its processor meanwhile: who else runs there may keep it for milliseconds.
 const LOOKS: usize = 1_500;
+
+// How many microseconds the reader sleeps at most until a worker is at work.
+const MOMENT: u64 = 100;
 
 // The window. Workers put their answers into it, and the reader takes them.
 #[derive(Drop)]
@@ -256,6 +260,17 @@ impl<K: Truth<A>, A: Drop> Window<K, A> {
     pub fn join(&self, rt: &impl Wait) {
         let mut slots = self.slots.lock(rt);
         slots.helpers = slots.helpers.saturating_add(1);
+        drop(slots);
+        self.filled.notify_one();
+    }
+
+    // Sleeps for a moment, unless a worker is at work beside the reader or begins to be. A thread that was just started may have been
+    // put on the reader's processor: then it runs once the reader sleeps, and else only milliseconds later.
+    pub fn await_helper(&self, rt: &impl Wait) {
+        let seen = self.filled.notifications();
+        if !self.is_helped(rt) {
+            self.filled.sleep(rt, seen, Duration::from_micros(MOMENT));
+        }
     }
 
     // It is at work no more. The reader, if it sleeps, looks again.
