@@ -108,6 +108,10 @@ pub record IsSamePart (before after : PartAt) : Type 0 where
   pub rows : after.rows ≡ before.rows
   pub to : after.to ≡ before.to
 
+-- who watches was told of so many rows at least
+abbrev pub ToldAtLeast : {W : Type 0} → (ℕ → W → W → Type 0) → ℕ → W → W → Type 0
+ToldAtLeast told rows old new = (count : ℕ) × (rows ≤ count) × told count old new
+
 -- Inside: the groups are those of the batches that were fed, and the others can be fed.
 pub record IsPartFed (work : GroupWorkAt) (from at to : ℕ) (groups : GroupsAt) : Type 0 where
   pub can : CanBeGrouped work

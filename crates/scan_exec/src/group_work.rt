@@ -1,7 +1,7 @@
 //! What is grouped, and who groups it.
 
 ghost use Rattle.std.specs.Prelude.{◌≡◌, ◌≤◌, ◌<◌, ◌+◌, ℕ, IfOk, Ok, OnOk, length};
-ghost use Rattle.scan_exec.specs.GroupWork.{CanBeGrouped, CountsNext, GroupWorkAt, GroupsOfAll, GroupsOfPart, IsPartOf, IsSamePart, part_at, rows_between, work_at};
+ghost use Rattle.scan_exec.specs.GroupWork.{CanBeGrouped, CountsNext, GroupWorkAt, GroupsOfAll, GroupsOfPart, IsPartOf, IsSamePart, ToldAtLeast, part_at, rows_between, work_at};
 
 use crate::grouped::{Feeding, feed_batch};
 use array_select::Selection;
@@ -125,6 +125,14 @@ impl<'t> GroupWork<'t> {
     }
 }
 
+// As how many rows these count, where each counts so often.
+fn weighted_rows(rows: usize, weight: usize) -> usize
+    requires { 1 ≤ weight }
+    ensures { rows ≤ result }
+{
+    rows.saturating_mul(weight)
+}
+
 impl<'t> FedPart<'t> {
     // The same part, with its next batch fed, and how many rows that has.
     fn feed_next(self, alloc: Global) -> Result<(FedPart<'t>, usize), Fault>
@@ -159,7 +167,7 @@ impl<'t> FedPart<'t> {
     }
 
     /// The same part, with batches of it fed for a turn: 1,048,576 rows, and behind them those of the batch in hand. A row counts as
-    /// often as filters compare two columns in it (`Picker::weight`). Whether there are more.
+    /// often as filters compare two columns in it (`Picker::weight`). Whether there are more: where not, its groups free their tables.
     ///
     /// # Errors
     ///
@@ -173,13 +181,17 @@ impl<'t> FedPart<'t> {
         while part.at < part.to && rows < TURN_ROWS {
             let (next, more) = part.feed_next(alloc)?;
             part = next;
-            rows = rows.saturating_add(more.saturating_mul(weight));
+            rows = rows.saturating_add(weighted_rows(more, weight));
         }
         let more = part.at < part.to;
+        if !more {
+            part.groups.free_tables();
+        }
         Ok((part, more))
     }
 
-    /// The groups of the part, once its other batches are fed. Who watches is told of the rows of each, and may end it behind each.
+    /// The groups of the part, once its other batches are fed. Who watches is told of the rows of each, and may end it behind each. A
+    /// row counts as often as filters compare two columns in it.
     ///
     /// # Errors
     ///
@@ -189,30 +201,32 @@ impl<'t> FedPart<'t> {
         ensures groups { (work : GroupWorkAt) (from to : ℕ) → IsPartOf work from to self.entry → GroupsOfPart work from to result }
         ensures ready { OnOk result (W.ready watch.new) }
         ensures watched { W.watched watch.old watch.new }
-        ensures told { OnOk result (W.told (rows_between self.entry.at self.entry.to self.entry.batches) watch.old watch.new) }
+        ensures told { OnOk result (ToldAtLeast W.told (rows_between self.entry.at self.entry.to self.entry.batches) watch.old watch.new) }
     {
+        let weight = self.work.picker.weight();
         let mut part = self;
         while part.at < part.to {
             let (next, rows) = part.feed_next(alloc)?;
             part = next;
-            tell(watch, rows)?;
+            tell(watch, weighted_rows(rows, weight))?;
         }
         Ok(part.groups())
     }
 
-    // The groups, where all batches were fed.
+    // The groups, where all batches were fed. They free their tables.
     fn groups(self) -> Groups<'t>
         requires { self.at ≡ self.to }
         ensures { (work : GroupWorkAt) (from to : ℕ) → IsPartOf work from to self.entry → GroupsOfPart work from to (Ok result) }
     {
         let FedPart {
             work: _,
-            groups,
+            mut groups,
             from: _,
             at: _,
             to: _,
             selection: _,
         } = self;
+        groups.free_tables();
         groups
     }
 }

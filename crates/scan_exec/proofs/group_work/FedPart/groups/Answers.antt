@@ -7,4 +7,4 @@ pub returns : goal.returns
 returns c =
     let s = c.self.inside in
     let whole : s.at ≡ s.to = omega (arith, c.requires, ap (λ (p : PartAt). p.at) c.self.view_is, ap (λ (p : PartAt). p.to) c.self.view_is) in
-    part_whole (work_at s.work) s.from s.at s.to s.groups c.args.self c.self.invariant c.self.view_is whole
+    rw c.free_tables.ensures (part_whole (work_at s.work) s.from s.at s.to s.groups c.args.self c.self.invariant c.self.view_is whole)
