@@ -12,7 +12,7 @@ use scan_exec::{FedPart, GroupWork};
 use scan_workers::{Answers, NextAnswer, Reads, Work};
 use std::alloc::Global;
 
-// How many rows a turn of a worker looks at, where a row counts as often as filters compare two columns in it. Where a part ends or
+// How many rows a turn of a worker looks at, where a row counts as often as filters compare in it. Where a part ends or
 // has no more to do, a turn is over too, so no more rows are told than count.
 const TURN_ROWS: usize = 1_048_576;
 

@@ -6,24 +6,11 @@ ghost use Rattle.row_sources.specs.Running.{GoesOn};
 
 use crate::rows::Rows;
 use crate::turn::{Looking, Turn, patience_of};
-use crate::watch::{Unwatched, Watches, tell};
+use crate::watch::{Watches, tell};
 use arrays::Batch;
 use std::alloc::{AllocError, Global};
 
-/// All rows that are still to be given, batch by batch.
-///
-/// # Errors
-///
-/// `AllocError` where memory is refused.
-pub fn collect_batches(alloc: Global, rows: &mut Rows) -> Result<Vec<Batch>, AllocError>
-    requires front { take (length rows.old.opened) rows.old.batches ≡ rows.old.opened }
-    ensures on { GoesOn rows.old rows.new }
-    ensures collected { IfOk result (λ batches. AreCollected rows.old batches.items rows.new) }
-{
-    collect_watched(alloc, rows, &mut Unwatched)
-}
-
-/// The same, watched: behind each batch and each turn that gives none, who watches may end it.
+/// All rows that are still to be given, batch by batch. Behind each batch, and each turn that gives none, who watches may end it.
 ///
 /// # Errors
 ///

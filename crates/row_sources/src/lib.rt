@@ -19,7 +19,7 @@ mod scan_source;
 pub mod turn;
 pub mod watch;
 
-pub use crate::collected::{collect_batches, collect_watched};
+pub use crate::collected::collect_watched;
 pub use crate::opened_table::{OpenedTable, opened_tables};
 pub use crate::part::Part;
 pub use crate::picker::Picker;

@@ -9,7 +9,7 @@ use crate::part::Part;
 use array_select::Selection;
 use arrays::Batch;
 use kernels::Columns;
-use scan_base::{Operand, Predicate};
+use scan_base::Predicate;
 use std::alloc::{AllocError, Global};
 
 /// Which rows of a source are given, and which of their columns.
@@ -59,8 +59,8 @@ impl Picker {
         self.give(alloc, part, selection)
     }
 
-    /// How many comparisons of two columns the filters make for each row at most, and one at least. Contracts say no more of it:
-    /// it tells what a row costs, since two texts that are compared may have 65,536 bytes each.
+    /// How many comparisons the filters make for each row at most, and one at least. Contracts say no more of it: it tells what a
+    /// row costs. Two texts that are compared may have 65,536 bytes each, and a batch of one row is asked each comparison apart.
     pub fn weight(&self) -> usize
         ensures { 1 ≤ result }
     {
@@ -151,7 +151,7 @@ impl Picker {
     }
 }
 
-// How many comparisons of two columns a predicate makes for each row at most.
+// How many comparisons a predicate makes for each row at most.
 fn comparisons_in(predicate: &Predicate<usize>) -> usize {
     match predicate {
         Predicate::And(left, right) => comparisons_in(left).saturating_add(comparisons_in(right)),
@@ -164,38 +164,24 @@ fn comparisons_in(predicate: &Predicate<usize>) -> usize {
         } => comparisons_in(part),
         Predicate::Compare {
             comparison: _,
-            left,
-            right,
-        } => columns_beside(left, std::slice::from_ref(right)),
+            left: _,
+            right: _,
+        } => 1,
         Predicate::Between {
             negated: _,
-            operand,
-            low,
-            high,
-        } => columns_beside(operand, std::slice::from_ref(low)).saturating_add(columns_beside(
-            operand,
-            std::slice::from_ref(high),
-        )),
+            operand: _,
+            low: _,
+            high: _,
+        } => 2,
         Predicate::In {
             negated: _,
-            operand,
+            operand: _,
             items,
-        } => columns_beside(operand, items.as_slice()),
+        } => items.len(),
         Predicate::IsNull {
             negated: _,
             operand: _,
-        } => 0,
+        } => 1,
         Predicate::Constant(_) => 0,
     }
-}
-
-// How many of these operands are columns, where another one is.
-fn columns_beside(operand: &Operand<usize>, others: &[Operand<usize>]) -> usize {
-    let mut count = 0usize;
-    for other in others {
-        if let (Operand::Column(_), Operand::Column(_)) = (operand, other) {
-            count = count.saturating_add(1);
-        }
-    }
-    count
 }

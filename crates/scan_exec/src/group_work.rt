@@ -167,7 +167,7 @@ impl<'t> FedPart<'t> {
     }
 
     /// The same part, with batches of it fed for a turn: 1,048,576 rows, and behind them those of the batch in hand. A row counts as
-    /// often as filters compare two columns in it (`Picker::weight`). Whether there are more: where not, its groups free their tables.
+    /// often as filters compare in it (`Picker::weight`). Whether there are more: where not, its groups free their tables.
     ///
     /// # Errors
     ///
@@ -191,7 +191,7 @@ impl<'t> FedPart<'t> {
     }
 
     /// The groups of the part, once its other batches are fed. Who watches is told of the rows of each, and may end it behind each. A
-    /// row counts as often as filters compare two columns in it.
+    /// row counts as often as filters compare in it.
     ///
     /// # Errors
     ///
