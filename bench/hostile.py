@@ -1,5 +1,5 @@
 #!/usr/bin/env python3
-"""What a few kilobytes of input may make the program hold: eleven inputs that are small beside the answers that they ask for.
+"""What a few kilobytes of input may make the program hold: twelve inputs that are small beside the answers that they ask for.
 
     python3 bench/hostile.py [--program PATH] [--rows N] [--given-back] [CASE..]
 
@@ -7,7 +7,7 @@ Buffers of a put may lie over each other, so that many columns cost the bytes of
 often it is named, while an answer has one for each of its batches; and a group is made of a bit. Each case puts such tables
 and fetches one answer of them through `flightscan pipe`. The program is run on the puts alone too, and what it holds at most then is taken from
 what it holds with the fetch. It may hold 20 MB beside what docs/ARCHITECTURE.md states for a fetch: that is a list for each group, and a cut of
-each column of each batch whose rows are grouped. The table says how much it is. Of two cases the seconds tell more: their one long text
+each column of each batch whose rows are grouped, or joined by a further place. The table says how much it is. Of two cases the seconds tell more: their one long text
 stands in a key beside another number in each row, and is not to be looked at for each. Every answer has to end with status 0. It ends with 1
 where one does not, or more is held.
 
@@ -49,7 +49,7 @@ STATUS_OK = b"\x04\x00\x00\x00"
 
 # Of each group: where its first row stands, its hash and its entry, and of one item a count, or a count and a sum. Lists grow by doubling.
 GROUP_BYTES, COUNT_BYTES, TALLY_BYTES, GROWN = 40, 8, 32, 2
-CUT_BYTES = 200  # of each column of each batch whose rows are grouped: it is a cut of the table's column
+CUT_BYTES = 200  # of each column of each batch whose rows are grouped, or of a further place: it is a cut of the table's column
 
 
 @dataclass
@@ -152,7 +152,7 @@ def single_rows(table, columns, count):
 
 
 def cases(most):
-    """The eleven inputs, with tables of so many rows at most."""
+    """The twelve inputs, with tables of so many rows at most."""
     rows = {count: min(count, most) for count in (128, 300, 600, 1_000, 4_000, 65_536, 102_400, 500_000, 2_000_000)}
     pieces = max(1, rows[102_400] // PIECE_ROWS)
     four = ", ".join(names(20, "x.") + names(20, "y.") + names(24, "z."))
@@ -177,6 +177,8 @@ def cases(most):
         Case("a long word beside a number, grouped", [one_word(b"u", rows[65_536])], b"SELECT COUNT(*) FROM u GROUP BY s, k", rows[65_536],
              GROWN * rows[65_536] * (GROUP_BYTES + COUNT_BYTES)),
         Case("one word of many, in pieces", [one_of_many_words(b"u", pieces)], b"SELECT s FROM u WHERE k < 1000", pieces * PIECE_ROWS),
+        Case("batches of one row, joined", [keys(b"w", 1), single_rows(b"u", 64, rows[4_000])],
+             f"SELECT {', '.join(names(64, 'x.'))} FROM w AS a JOIN u AS x ON a.k = x.t0".encode(), 1, 64 * rows[4_000] * CUT_BYTES),
         Case("batches of one row, grouped", [single_rows(b"u", 64, rows[4_000])],
              f"SELECT COUNT(*) FROM u GROUP BY {', '.join(names(64))}".encode(), rows[4_000], 64 * rows[4_000] * CUT_BYTES),
         Case("dictionaries over one buffer", [words_over_one_buffer(b"u", 64, rows[500_000])], b"SELECT * FROM u", rows[500_000]),
