@@ -1,12 +1,12 @@
 #!/usr/bin/env python3
 """What one client can cost at the limits of docs/PROTOCOL.md: the dearest tickets, joins, groups and puts that we know of.
 
-    python3 bench/limits.py [--program PATH] [--rows N] [--keys K] [CASE..]
+    python3 bench/limits.py [--program PATH] [--rows N] [--keys K] [--rounds R] [CASE..]
 
-A ticket at its limit may take a server hours, and a join days. So each case is run at two smaller sizes: tables have N rows
-(131,072) and a quarter of them, and places of a join K equal keys (60) and half of them. What the larger one takes more, of the
-processor and of memory, is told for each row, group or joined row. The last two columns are what the limit comes to at that rate:
-they are worked out, and not measured.
+A ticket or a join at its limit may take a server days. So each case is run at two smaller sizes: tables have N rows (131,072)
+or fewer and a quarter of them, and places of a join K equal keys (60) and half of them. What the larger one takes more, of the
+processor and of memory, is told for each row, group, batch or joined row. The last two columns are what the limit comes to at
+that rate: they are worked out, and not measured. Of R rounds (1) the least processor time and the most memory of each size count.
 
 Each case is puts and one fetch through `flightscan pipe`. The program is run on the puts alone too, and what it takes and holds
 then is taken from what it takes and holds with the fetch. Of a put the program without an input is. Every answer has to end
@@ -135,6 +135,7 @@ def tickets(rows):
     front, counted = "SELECT a FROM t WHERE ", "SELECT COUNT(*) FROM t WHERE "
     numbers = filled(front, "a IN (" + ",".join(str(2 * number + 1) for number in range(256)) + ")", " OR ")
     others, texts_of = (filled(counted, f"{column} IN({','.join([item] * 256)})", "OR ") for column, item in ("ab", "su"))
+    mixed = f"s IN('x',{','.join(['u'] * 255)})"  # the last item is looked at first, so that its kernel lacks shows behind all others
     made = [
         ("a ticket of comparisons joined by OR", table, filled(front, "a=1", "OR "), rows),
         ("a ticket of INs of 256 numbers", table, numbers, rows),
@@ -146,9 +147,10 @@ def tickets(rows):
         ("a ticket of INs of 256 columns, of two long texts", alike, texts_of, rows),
         ("a ticket of inequalities of long texts, each row another pair", pairs, filled(counted, "s<>u", " AND "), few),
         ("a ticket of INs of 256 columns, of long texts, each row another pair", pairs, texts_of, few),
+        ("a ticket of INs of a literal and 255 columns, of long texts, each row another pair", pairs, filled(counted, mixed, "OR "), few),
     ]
-    judged = Case("a ticket of comparisons that opens no batch, each row a batch", singles, filled(front, "a=1", "OR "), small, small, "batch", MOST_ROWS,
-                  "16,777,216 batches")
+    judged = Case("a ticket of comparisons that opens no batch, each row a batch", singles, filled(front, "a=1", "OR "), small, small, "batch",
+                  MOST_ROWS, "16,777,216 batches")
     return [*(Case(name, puts, query, count, count, "row", MOST_ROWS, "16,777,216 rows") for name, puts, query, count in made), judged]
 
 
@@ -214,9 +216,15 @@ def cost(command, case):
     return seconds - before, held - base, ends == STATUS_OK
 
 
-def tried(command, case, smaller):
+def costs(command, case, rounds):
+    """The least processor seconds and the most memory of so many rounds, and whether the answers of all are whole."""
+    seconds, held, good = zip(*[cost(command, case) for _ in range(rounds)])
+    return min(seconds), max(held), all(good)
+
+
+def tried(command, case, smaller, rounds):
     """A line on a case at two sizes, and whether its answers are whole."""
-    (seconds, held, good), (less, fewer, also) = cost(command, case), cost(command, smaller)
+    (seconds, held, good), (less, fewer, also) = (costs(command, one, rounds) for one in (case, smaller))
     units = case.units - smaller.units
     each, room = max(seconds - less, 0) / units, max(held - fewer, 0) / units
     there = f"{room * case.limit / 1e9:,.1f} GB" if case.grows else "no more"
@@ -231,6 +239,7 @@ def main():
     parser.add_argument("--program", help="the built program (that of the repository)")
     parser.add_argument("--rows", type=int, default=131_072, help="how many rows a table has, a multiple of 4,096")
     parser.add_argument("--keys", type=int, default=60, help="how many equal keys a place of a join has")
+    parser.add_argument("--rounds", type=int, default=1, help="how often each case is run at each size")
     parser.add_argument("cases", nargs="*", metavar="CASE", help="words of the names of the cases that are tried (all)")
     words = parser.parse_args()
     command, measured, right = [program(words.program), "pipe"], Measured(words.program), True
@@ -239,7 +248,7 @@ def main():
     for case, smaller in zip(cases(words.rows, words.keys), cases(words.rows // 4, words.keys // 2)):
         if words.cases and not any(word in case.name for word in words.cases):
             continue
-        line, good = tried(command, case, smaller)
+        line, good = tried(command, case, smaller, words.rounds)
         print(line, flush=True)
         right = right and good
     print(f"\n{measured.line()}")
