@@ -400,13 +400,15 @@ def gone_while_comparing(run: Run) -> str:
     judged, *others = COMPARED
     with one_seat(run, "1", put, 2 * SMALL_BATCHES) as server:
         marks = [server.seconds_worked()]
-        with Connection(server.port) as connection:
-            ask(connection, judged, rows_of((column,)))
-        marks.append(server.seconds_worked())
-        for records in others:
-            seconds_until_free(server, records)
+        for records in (judged, *others, judged):
+            if records is judged:
+                with Connection(server.port) as connection:
+                    ask(connection, records, rows_of((column,)))
+            else:
+                seconds_until_free(server, records)
             marks.append(server.seconds_worked())
-    once, *taken = [last - first for first, last in zip(marks, marks[1:])]
+    first, *taken, last = [after - before for before, after in zip(marks, marks[1:])]
+    once = max(first, last)
     same(f"{max(taken):.2f} s of work, where batches are judged in {once:.2f}, which no look ends", True, max(taken) < 2 * once)
     return f"at most {max(taken):.2f} s of work, where batches are judged in {once:.2f}"
 
