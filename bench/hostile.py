@@ -1,17 +1,18 @@
 #!/usr/bin/env python3
-"""What a few kilobytes of input may make the program hold: ten inputs that are small beside the answers that they ask for.
+"""What a few kilobytes of input may make the program hold: twelve inputs that are small beside the answers that they ask for.
 
     python3 bench/hostile.py [--program PATH] [--rows N] [--given-back] [CASE..]
 
 Buffers of a put may lie over each other, so that many columns cost the bytes of one; a dictionary has a text once, however
 often it is named, while an answer has one for each of its batches; and a group is made of a bit. Each case puts such tables
-and fetches one answer of them through `flightscan pipe`. The program is run on the puts alone too, and what it holds at most then is taken from what it holds with
-the fetch. It may hold 64 MB beside what docs/ARCHITECTURE.md states for a fetch: that is a list for each group, of which
-the table says how much it is. Of two cases the seconds tell more: their one long text stands in a key beside another number in each
-row, and is not to be looked at for each. Every answer has to end with status 0. It ends with 1 where one does not, or more is held.
+and fetches one answer of them through `flightscan pipe`. The program is run on the puts alone too, and what it holds at most then is taken from
+what it holds with the fetch. It may hold 20 MB beside what docs/ARCHITECTURE.md states for a fetch: that is a list for each group, and a cut of
+each column of each batch whose rows are grouped, or joined by a further place. The table says how much it is. Of two cases the seconds tell more: their one long text
+stands in a key beside another number in each row, and is not to be looked at for each. Every answer has to end with status 0. It ends with 1
+where one does not, or more is held.
 
 With --given-back each case goes to a `serve` of one seat, which is asked for the answer three times. It tells what the server
-holds behind the puts, and behind the first and the last answer. At the end it may hold no more than 64 MB above the puts, and no
+holds behind the puts, and behind the first and the last answer. At the end it may hold no more than 20 MB above the puts, and no
 more than 8 MB above what it held behind the first answer.
 
 `--rows N` makes each table of N rows or fewer, to try the script. Build the program first, as for `pipe.py`.
@@ -38,7 +39,7 @@ from measured import Measured  # noqa: E402
 from trees import BOOL, UTF8, batch, dictionary, encoding, field, integer, placed, schema, texts  # noqa: E402
 from wire import call, chunk, descriptor, packed, query_handle, ticket  # noqa: E402
 
-HELD_MB = 64  # beside what is stated
+HELD_MB = 20  # beside what is stated
 TIMES, GROWN_MB = 3, 8  # of an answer that is asked for again, and what the server may hold more behind the last than behind the first
 PIECE = 1_048_576  # so many bytes of an answer are read at once, and dropped
 LONG = b"x" * 65_536  # the longest text that a table may have
@@ -48,6 +49,7 @@ STATUS_OK = b"\x04\x00\x00\x00"
 
 # Of each group: where its first row stands, its hash and its entry, and of one item a count, or a count and a sum. Lists grow by doubling.
 GROUP_BYTES, COUNT_BYTES, TALLY_BYTES, GROWN = 40, 8, 32, 2
+CUT_BYTES = 200  # of each column of each batch whose rows are grouped, or of a further place: it is a cut of the table's column
 
 
 @dataclass
@@ -142,9 +144,16 @@ def words_over_one_buffer(table, columns, count):
     return put(table, [(head, b""), *(dictionary(id, words) for id in range(columns)), indices])
 
 
+def single_rows(table, columns, count):
+    """A table of so many batches of one row of columns, which are windows on the same eight bytes."""
+    head = schema(*(field(name, INT64, False) for name in names(columns)))
+    row = placed(1, [(1, 0)] * columns, [(0, 0), (0, 8)] * columns, bytes(8))
+    return put(table, [(head, b""), *[row] * count])
+
+
 def cases(most):
-    """The ten inputs, with tables of so many rows at most."""
-    rows = {count: min(count, most) for count in (128, 300, 600, 1_000, 65_536, 102_400, 500_000, 2_000_000)}
+    """The twelve inputs, with tables of so many rows at most."""
+    rows = {count: min(count, most) for count in (128, 300, 600, 1_000, 4_000, 65_536, 102_400, 500_000, 2_000_000)}
     pieces = max(1, rows[102_400] // PIECE_ROWS)
     four = ", ".join(names(20, "x.") + names(20, "y.") + names(24, "z."))
     two = ", ".join(names(63, "x."))
@@ -168,6 +177,10 @@ def cases(most):
         Case("a long word beside a number, grouped", [one_word(b"u", rows[65_536])], b"SELECT COUNT(*) FROM u GROUP BY s, k", rows[65_536],
              GROWN * rows[65_536] * (GROUP_BYTES + COUNT_BYTES)),
         Case("one word of many, in pieces", [one_of_many_words(b"u", pieces)], b"SELECT s FROM u WHERE k < 1000", pieces * PIECE_ROWS),
+        Case("batches of one row, joined", [keys(b"w", 1), single_rows(b"u", 64, rows[4_000])],
+             f"SELECT {', '.join(names(64, 'x.'))} FROM w AS a JOIN u AS x ON a.k = x.t0".encode(), 1, 64 * rows[4_000] * CUT_BYTES),
+        Case("batches of one row, grouped", [single_rows(b"u", 64, rows[4_000])],
+             f"SELECT COUNT(*) FROM u GROUP BY {', '.join(names(64))}".encode(), rows[4_000], 64 * rows[4_000] * CUT_BYTES),
         Case("dictionaries over one buffer", [words_over_one_buffer(b"u", 64, rows[500_000])], b"SELECT * FROM u", rows[500_000]),
     ]
 
@@ -262,7 +275,7 @@ def main():
     if words.given_back:
         print(f"| | ends | MB of the puts | MB more behind an answer | behind {TIMES} | given back |\n|---|---|---:|---:|---:|---|")
     else:
-        print("| | KB put | ends | seconds | MB of the puts | MB more | MB stated | within 64 MB |\n|---|---:|---|---:|---:|---:|---:|---|")
+        print(f"| | KB put | ends | seconds | MB of the puts | MB more | MB stated | within {HELD_MB} MB |\n|---|---:|---|---:|---:|---:|---:|---|")
     for case in cases(words.rows):
         if words.cases and not any(word in case.name for word in words.cases):
             continue

@@ -1,12 +1,12 @@
 #!/usr/bin/env python3
 """What one client can cost at the limits of docs/PROTOCOL.md: the dearest tickets, joins, groups and puts that we know of.
 
-    python3 bench/limits.py [--program PATH] [--rows N] [--keys K] [CASE..]
+    python3 bench/limits.py [--program PATH] [--rows N] [--keys K] [--rounds R] [CASE..]
 
-A ticket at its limit may take a server hours, and a join days. So each case is run at two smaller sizes: tables have N rows
-(131,072) and a quarter of them, and places of a join K equal keys (60) and half of them. What the larger one takes more, of the
-processor and of memory, is told for each row, group or joined row. The last two columns are what the limit comes to at that rate:
-they are worked out, and not measured.
+A ticket or a join at its limit may take a server days. So each case is run at two smaller sizes: tables have N rows (131,072)
+or fewer and a quarter of them, and places of a join K equal keys (60) and half of them. What the larger one takes more, of the
+processor and of memory, is told for each row, group, batch or joined row. The last two columns are what the limit comes to at
+that rate: they are worked out, and not measured. Of R rounds (1) the least processor time and the most memory of each size count.
 
 Each case is puts and one fetch through `flightscan pipe`. The program is run on the puts alone too, and what it takes and holds
 then is taken from what it takes and holds with the fetch. Of a put the program without an input is. Every answer has to end
@@ -26,14 +26,14 @@ ROOT = pathlib.Path(__file__).resolve().parent.parent
 sys.path[:0] = [str(ROOT / "bench"), str(ROOT / "scripts"), str(ROOT / "vectors/arrow")]
 
 from built import program  # noqa: E402
-from hostile import LONG, STATUS_OK, most_held, put  # noqa: E402
+from hostile import LONG, STATUS_OK, most_held, put, single_rows  # noqa: E402
 from measured import Measured  # noqa: E402
-from trees import UTF8, batch, dictionary, encoding, field, integer, placed, schema, texts  # noqa: E402
+from trees import BOOL, UTF8, batch, dictionary, encoding, field, integer, placed, schema, texts  # noqa: E402
 from wire import call, query_handle, ticket  # noqa: E402
 
 MOST_ROWS, MOST_TEXT, MOST_KEYS = 16_777_216, 16_384, 1_000
 INT8, UINT8, INT32, INT64 = integer(8, True), integer(8, False), integer(32, True), integer(64, True)
-FEWER, FEWEST = 16, 512  # so many times fewer rows has a put of which each is a batch, and a table of long texts
+FEWER, FEWEST = 16, 512  # so many times fewer rows has a put of small batches, and a table of long texts
 PIECE = 65_536  # rows of a batch
 COLUMNS = 64
 
@@ -61,6 +61,30 @@ def zeros_and_twos(count):
     """A table of so many rows of 0 and 2 in turn, in batches of 65,536 rows: by its ends each batch may hold a 1."""
     sizes = [min(PIECE, count - first) for first in range(0, count, PIECE)]
     return put(b"t", [(schema(field("a", INT64, False)), b""), *(batch(size, (0, b"", struct.pack("<2q", 0, 2) * (size // 2))) for size in sizes)])
+
+
+def single_zeros(count):
+    """A table of so many rows of 0, each of which is a batch."""
+    return put(b"t", [(schema(field("a", INT64, False)), b""), *[batch(1, (0, b"", bytes(8)))] * count])
+
+
+def two_numbers(count):
+    """Each row has 0 beside 1, or 1 beside 0: by the ends of its batch they may be equal."""
+    head = schema(field("a", INT64, False), field("b", INT64, False))
+    return put(b"t", [(head, b""), batch(count, *((0, b"", struct.pack("<2q", number, 1 - number) * (count // 2)) for number in range(2)))])
+
+
+def two_truths(count):
+    """The same of truth values."""
+    head = schema(field("a", BOOL, False), field("b", BOOL, False))
+    return put(b"t", [(head, b""), batch(count, *((0, b"", bytes([byte]) * (count // 8)) for byte in (0x55, 0xAA)))])
+
+
+def short_texts(count):
+    """A table of so many rows of the text c, and of one text a at the head of each batch of 65,536: by its ends each may be below b."""
+    sizes = [min(PIECE, count - first) for first in range(0, count, PIECE)]
+    pieces = [batch(size, (0, b"", *texts([b"a"] + [b"c"] * (size - 1)))) for size in sizes]
+    return put(b"t", [(schema(field("s", UTF8, False)), b""), *pieces])
 
 
 def equal_keys(count):
@@ -95,13 +119,6 @@ def windows(count):
     return put(b"t", [(head, b""), placed(count, [(count, 0)] * COLUMNS, buffers, body)])
 
 
-def single_rows(count):
-    """A put of so many batches of one row of 64 columns, which are windows on the same eight bytes."""
-    head = schema(*(field(f"c{number}", INT64, False) for number in range(COLUMNS)))
-    row = placed(1, [(1, 0)] * COLUMNS, [(0, 0), (0, 8)] * COLUMNS, bytes(8))
-    return put(b"t", [(head, b""), *[row] * count])
-
-
 # ---- cases
 
 
@@ -111,27 +128,45 @@ def filled(front, part, between):
     return front + between.join([part] * times)
 
 
+def tickets(rows):
+    """The cases of long WHEREs, over tables of so many rows or fewer."""
+    small, few = rows // FEWER, rows // FEWEST
+    table, singles, alike, pairs = [zeros_and_twos(rows)], [single_zeros(small)], [two_texts(rows)], [many_texts(few)]
+    front, counted = "SELECT a FROM t WHERE ", "SELECT COUNT(*) FROM t WHERE "
+    numbers = filled(front, "a IN (" + ",".join(str(2 * number + 1) for number in range(256)) + ")", " OR ")
+    others, texts_of = (filled(counted, f"{column} IN({','.join([item] * 256)})", "OR ") for column, item in ("ab", "su"))
+    mixed = f"s IN('x',{','.join(['u'] * 255)})"  # the last item is looked at first, so that its kernel lacks shows behind all others
+    made = [
+        ("a ticket of comparisons joined by OR", table, filled(front, "a=1", "OR "), rows),
+        ("a ticket of INs of 256 numbers", table, numbers, rows),
+        ("a ticket of INs of 256 columns, of numbers", [two_numbers(rows)], others, rows),
+        ("a ticket of INs of 256 columns, of truth values", [two_truths(rows)], others, rows),
+        ("a ticket of orders of a text and a literal", [short_texts(rows)], filled(counted, "s<'b'", "OR "), rows),
+        ("a ticket of comparisons joined by OR, each row a batch", singles, filled(front, "a=0", "OR "), small),
+        ("a ticket of equalities of two long texts", alike, filled(counted, "s=u", " AND "), rows),
+        ("a ticket of INs of 256 columns, of two long texts", alike, texts_of, rows),
+        ("a ticket of inequalities of long texts, each row another pair", pairs, filled(counted, "s<>u", " AND "), few),
+        ("a ticket of INs of 256 columns, of long texts, each row another pair", pairs, texts_of, few),
+        ("a ticket of INs of a literal and 255 columns, of long texts, each row another pair", pairs, filled(counted, mixed, "OR "), few),
+    ]
+    judged = Case("a ticket of comparisons that opens no batch, each row a batch", singles, filled(front, "a=1", "OR "), small, small, "batch",
+                  MOST_ROWS, "16,777,216 batches")
+    return [*(Case(name, puts, query, count, count, "row", MOST_ROWS, "16,777,216 rows") for name, puts, query, count in made), judged]
+
+
 def cases(rows, keys):
     """The cases, where tables have so many rows, and a join so many equal keys."""
-    singles, few = rows // FEWER, rows // FEWEST
+    singles, groups = rows // FEWER, "16,777,216 groups"
     sums, columns = ", ".join(f"SUM(c{number})" for number in range(COLUMNS - 1)), ", ".join(f"c{number}" for number in range(COLUMNS - 1))
     joins = "".join(f" JOIN t AS {place} ON x.k = {place}.k" for place in "yzw")
     never = f"SELECT x.v FROM t AS x{joins} WHERE x.v < w.v"  # it names the first place and the last one, so it stands above all joins
-    table, ones = [zeros_and_twos(rows)], filled("SELECT a FROM t WHERE ", "a=1", "OR ")
-    members = "a IN (" + ",".join(str(2 * number + 1) for number in range(256)) + ")"
     return [
-        Case("a ticket of comparisons joined by OR", table, ones, rows, rows, "row", MOST_ROWS, "16,777,216 rows"),
-        Case("a ticket of INs of 256 numbers", table, filled("SELECT a FROM t WHERE ", members, " OR "), rows, rows, "row", MOST_ROWS, "16,777,216 rows"),
-        Case("a ticket of equalities of two long texts", [two_texts(rows)], filled("SELECT COUNT(*) FROM t WHERE ", "s=u", " AND "), rows, rows, "row",
-             MOST_ROWS, "16,777,216 rows"),
-        Case("a ticket of inequalities of long texts, each row another pair", [many_texts(few)],
-             filled("SELECT COUNT(*) FROM t WHERE ", "s<>u", " AND "), few, few, "row", MOST_ROWS, "16,777,216 rows"),
+        *tickets(rows),
         Case("four places of equal keys, of which no row is kept", [equal_keys(keys)], never, keys, keys**4, "joined row", MOST_KEYS**4, "1,000 keys",
              False),
-        Case("63 sums of a group for each row", [windows(rows)], f"SELECT {sums} FROM t GROUP BY k", rows, rows, "group", MOST_ROWS, "16,777,216 groups"),
-        Case("groups by 63 columns and a number", [windows(rows)], f"SELECT COUNT(*) FROM t GROUP BY {columns}, k", rows, rows, "group", MOST_ROWS,
-             "16,777,216 groups"),
-        Case("a put of batches of one row of 64 columns", [single_rows(singles)], None, singles, singles, "row", MOST_ROWS, "16,777,216 rows"),
+        Case("63 sums of a group for each row", [windows(rows)], f"SELECT {sums} FROM t GROUP BY k", rows, rows, "group", MOST_ROWS, groups),
+        Case("groups by 63 columns and a number", [windows(rows)], f"SELECT COUNT(*) FROM t GROUP BY {columns}, k", rows, rows, "group", MOST_ROWS, groups),
+        Case("a put of batches of one row of 64 columns", [single_rows(b"t", COLUMNS, singles)], None, singles, singles, "row", MOST_ROWS, "16,777,216 rows"),
     ]
 
 
@@ -181,9 +216,15 @@ def cost(command, case):
     return seconds - before, held - base, ends == STATUS_OK
 
 
-def tried(command, case, smaller):
+def costs(command, case, rounds):
+    """The least processor seconds and the most memory of so many rounds, and whether the answers of all are whole."""
+    seconds, held, good = zip(*[cost(command, case) for _ in range(rounds)])
+    return min(seconds), max(held), all(good)
+
+
+def tried(command, case, smaller, rounds):
     """A line on a case at two sizes, and whether its answers are whole."""
-    (seconds, held, good), (less, fewer, also) = cost(command, case), cost(command, smaller)
+    (seconds, held, good), (less, fewer, also) = (costs(command, one, rounds) for one in (case, smaller))
     units = case.units - smaller.units
     each, room = max(seconds - less, 0) / units, max(held - fewer, 0) / units
     there = f"{room * case.limit / 1e9:,.1f} GB" if case.grows else "no more"
@@ -198,6 +239,7 @@ def main():
     parser.add_argument("--program", help="the built program (that of the repository)")
     parser.add_argument("--rows", type=int, default=131_072, help="how many rows a table has, a multiple of 4,096")
     parser.add_argument("--keys", type=int, default=60, help="how many equal keys a place of a join has")
+    parser.add_argument("--rounds", type=int, default=1, help="how often each case is run at each size")
     parser.add_argument("cases", nargs="*", metavar="CASE", help="words of the names of the cases that are tried (all)")
     words = parser.parse_args()
     command, measured, right = [program(words.program), "pipe"], Measured(words.program), True
@@ -206,7 +248,7 @@ def main():
     for case, smaller in zip(cases(words.rows, words.keys), cases(words.rows // 4, words.keys // 2)):
         if words.cases and not any(word in case.name for word in words.cases):
             continue
-        line, good = tried(command, case, smaller)
+        line, good = tried(command, case, smaller, words.rounds)
         print(line, flush=True)
         right = right and good
     print(f"\n{measured.line()}")

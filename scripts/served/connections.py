@@ -4,6 +4,8 @@ from __future__ import annotations
 
 import struct
 import time
+from collections.abc import Callable, Iterator
+from contextlib import contextmanager
 
 import trees
 import wire
@@ -156,15 +158,19 @@ LARGE_PUT = put_of("t", TEXTS, [("x" * 65_536, 1)] * 64)
 LARGE_FETCH = fetch_of(1, 0, 64, "SELECT x.s FROM t AS x JOIN t AS y ON x.k = y.k")
 
 
+def put_of_messages(made: list[tuple[dict, bytes]]) -> bytes:
+    """A put of Arrow messages, each a tree with its body, which makes the table t."""
+    messages = [wire.chunk(2, written("Message", tree, "spread")) + wire.chunk(1000, body) for tree, body in made]
+    command = wire.descriptor(wire.packed(INGEST, wire.chunk(1, wire.scalar(1, 1)) + wire.chunk(2, b"t")))
+    return wire.call(b"DoPut", [wire.chunk(1, command) + messages[0], *messages[1:]])
+
+
 def large_put(rows: int, *more: tuple[dict, tuple]) -> bytes:
     """A put of one text of 65,536 bytes and so many indices that lead to it, beside more columns: small, with many long keys."""
     text = trees.field("s", trees.UTF8, dictionary=trees.encoding(1, trees.integer(8, True)))
     words = trees.dictionary(1, trees.batch(1, (0, b"", *trees.texts([b"x" * 65_536]))))
     fields, columns = zip((text, (0, b"", bytes(rows))), *more)
-    made = [(trees.schema(*fields), b""), words, trees.batch(rows, *columns)]
-    messages = [wire.chunk(2, written("Message", tree, "spread")) + wire.chunk(1000, body) for tree, body in made]
-    command = wire.descriptor(wire.packed(INGEST, wire.chunk(1, wire.scalar(1, 1)) + wire.chunk(2, b"t")))
-    return wire.call(b"DoPut", [wire.chunk(1, command) + messages[0], *messages[1:]])
+    return put_of_messages([(trees.schema(*fields), b""), words, trees.batch(rows, *columns)])
 
 
 @case("a client that reads nothing of an answer of 268 MB: the server waits, idle, and holds less than 32 MB more")
@@ -258,19 +264,19 @@ def broken_behind_a_byte(connection: Connection) -> None:
     connection.break_off()
 
 
-def seconds_until_free(server: Server, version: int, rows: int) -> float:
-    """How long the only seat is taken at most, when its client goes away in each of four ways."""
-    longest = 0.0
-    for leave in (Connection.close, Connection.break_off, ended_input, broken_behind_a_byte):
-        connection = Connection(server.port)
-        connection.send(fetch_of(version, 0, rows, NEVER))
-        same("the first record is a Message", b"\x02", connection.take(1))
-        began = time.perf_counter()
-        leave(connection)
-        with Connection(server.port) as waiting:
-            ask(waiting, PUT, Refusal("F10"))
-        longest = max(longest, time.perf_counter() - began)
-    return longest
+def seconds_until_free(server: Server, records: bytes, leave: Callable[[Connection], None] = Connection.close) -> float:
+    """How long the only seat is taken when its client goes away behind the first byte of an answer."""
+    connection = Connection(server.port)
+    connection.send(records)
+    same("the first record is a Message", b"\x02", connection.take(1))
+    began = time.perf_counter()
+    leave(connection)
+    with Connection(server.port) as waiting:
+        ask(waiting, PUT, Refusal("F10"))
+    return time.perf_counter() - began
+
+
+WAYS = (Connection.close, Connection.break_off, ended_input, broken_behind_a_byte)
 
 
 @case("clients that go away while a join gives no row, of 1 worker and of 4: each had the schema, and its only seat is free within 5 seconds")
@@ -282,7 +288,8 @@ def gone_while_joining(run: Run) -> str:
                 for number, rows in enumerate(batches):
                     put = appended if number else put_of
                     ask(connection, put("t", KEYS, [(1, 0)] * rows), PutCount(rows))
-            longest = max(longest, seconds_until_free(server, len(batches), sum(batches)))
+            never = fetch_of(len(batches), 0, sum(batches), NEVER)
+            longest = max(longest, *(seconds_until_free(server, never, leave) for leave in WAYS))
     same(f"a seat was free after {longest:.1f} s", True, longest < FREE_SECONDS)
     return f"at most {longest:.1f} s"
 
@@ -303,7 +310,7 @@ def half_closed(run: Run) -> None:
                 Refusal("F10").look(connection.answer())
 
 
-NUMBERED = 16_000  # rows that name one text of 65,536 bytes, each beside its number: such a key is hashed for each row
+NUMBERED = 16_000  # rows that name one text of 65,536 bytes, each beside its number: so many keys are found, each by its number
 V = (Column("v", "Int64", True),)
 # a join of one row with the rows of a further place, and the groups of these rows, with how many rows either answer has
 LONG = (("SELECT x.v FROM t AS x JOIN t AS y ON x.s = y.s AND x.v = y.v", 1, 1),
@@ -344,16 +351,13 @@ GROUPED = fetch_of(1, 0, GROUPED_BATCHES * GROUPED_ROWS, "SELECT v FROM t GROUP 
 
 
 def grouped_put() -> bytes:
-    """A put of rows whose groups take seconds to make."""
+    """A put of rows whose groups take about a second to make."""
     text = trees.field("s", trees.UTF8, dictionary=trees.encoding(1, trees.integer(8, True)))
     number = trees.field("v", trees.integer(64, True))
     words = trees.dictionary(1, trees.batch(1, (0, b"", *trees.texts([b"x" * 2_048]))))
     numbers = struct.pack("<1000q", *range(1_000)) * (GROUPED_ROWS // 1_000)
     rows = trees.batch(GROUPED_ROWS, (0, b"", bytes(GROUPED_ROWS)), (0, b"", numbers))
-    made = [(trees.schema(text, number), b""), words] + [rows] * GROUPED_BATCHES
-    messages = [wire.chunk(2, written("Message", tree, "spread")) + wire.chunk(1000, body) for tree, body in made]
-    command = wire.descriptor(wire.packed(INGEST, wire.chunk(1, wire.scalar(1, 1)) + wire.chunk(2, b"t")))
-    return wire.call(b"DoPut", [wire.chunk(1, command) + messages[0], *messages[1:]])
+    return put_of_messages([(trees.schema(text, number), b""), words] + [rows] * GROUPED_BATCHES)
 
 
 @case("a client that goes away while groups are made: its only seat is free before half of the time that the answer takes")
@@ -365,16 +369,63 @@ def gone_while_grouping(run: Run) -> str:
             connection.send(GROUPED)
             rows_of(V, *[(number,) for number in range(1_000)]).look(connection.answer())
             whole = time.perf_counter() - began
-        leaving = Connection(server.port)
-        leaving.send(GROUPED)
-        same("the first record is a Message", b"\x02", leaving.take(1))
-        began = time.perf_counter()
-        leaving.close()
-        with Connection(server.port) as waiting:
-            ask(waiting, PUT, Refusal("F10"))
-        free = time.perf_counter() - began
+        free = seconds_until_free(server, GROUPED)
     same(f"a seat was free after {free:.1f} of {whole:.1f} s", True, free < whole / 2)
     return f"after {free:.1f} of {whole:.1f} s"
+
+
+SMALL_BATCHES = 4_000  # of two rows, 0 and 2: by its ends each may have a 1, and none a 3
+COMPARED = [fetch_of(1, 0, 2 * SMALL_BATCHES, f"SELECT {item} FROM t WHERE {'OR '.join([equality] * 2_700)}")
+            for item, equality in (("a", "a=3"), ("a", "a=1"), ("COUNT(*)", "a=1"))]
+SOON = 2  # seconds within which a seat has to be free, where the answer would take ten times as long or longer
+TEXT_BATCHES, TEXT_ROWS = 1_200, 1_024  # of the text c, and of one text a at the head of each: by its ends each may have more of them
+BELOW = "OR ".join(["s<'b'"] * 2_000)
+ORDERED = [fetch_of(1, 0, TEXT_BATCHES * TEXT_ROWS, text)
+           for text in (f"SELECT s FROM t WHERE ({BELOW}) AND s>'b'", f"SELECT COUNT(*) FROM t WHERE {BELOW}")]
+
+
+@contextmanager
+def one_seat(run: Run, workers: str, put: bytes, rows: int) -> Iterator[Server]:
+    """A server of one seat, which has a table of so many rows."""
+    with run.serving("--seats", "1", "--workers", workers) as server:
+        with Connection(server.port) as connection:
+            ask(connection, put, PutCount(rows))
+        yield server
+
+
+@case("clients that go away while 2,700 comparisons are asked of small batches: the server works less than twice as long as it judges the batches")
+def gone_while_comparing(run: Run) -> str:
+    column, batch = Column("a", "Int64", False), trees.batch(2, (0, b"", struct.pack("<2q", 0, 2)))
+    put = put_of_messages([(trees.schema(trees.field("a", trees.integer(64, True), False)), b"")] + [batch] * SMALL_BATCHES)
+    judged, *others = COMPARED
+    with one_seat(run, "1", put, 2 * SMALL_BATCHES) as server:
+        marks = [server.seconds_worked()]
+        for records in (judged, *others, judged):
+            if records is judged:
+                with Connection(server.port) as connection:
+                    ask(connection, records, rows_of((column,)))
+            else:
+                seconds_until_free(server, records)
+            marks.append(server.seconds_worked())
+    first, *taken, last = [after - before for before, after in zip(marks, marks[1:])]
+    once = max(first, last)
+    same(f"{max(taken):.2f} s of work, where batches are judged in {once:.2f}, which no look ends", True, max(taken) < 2 * once)
+    return f"at most {max(taken):.2f} s of work, where batches are judged in {once:.2f}"
+
+
+@case("clients that go away while 2,000 orders of texts tell rows or groups, of 1 worker and of 4: two seconds behind the call the only seat is free")
+def gone_while_ordering(run: Run) -> str:
+    batch = trees.batch(TEXT_ROWS, (0, b"", *trees.texts([b"a"] + [b"c"] * (TEXT_ROWS - 1))))
+    put = put_of_messages([(trees.schema(trees.field("s", trees.UTF8)), b"")] + [batch] * TEXT_BATCHES)
+    longest = 0.0
+    for workers in ("1", "4"):
+        with one_seat(run, workers, put, TEXT_BATCHES * TEXT_ROWS) as server:
+            for records in ORDERED:
+                began = time.perf_counter()
+                seconds_until_free(server, records)  # (from the call on: where no row is kept, the schema comes at the first look)
+                longest = max(longest, time.perf_counter() - began)
+    same(f"a seat was free {longest:.2f} s behind the call", True, longest < SOON)
+    return f"at most {longest:.2f} s"
 
 
 @case("a client that waits before it calls: with --idle 0 its connection stays")
