@@ -102,6 +102,9 @@ where
 
     fn work(&mut self) -> S::Out {
         let exchange = self.pull.exchange;
+        if !exchange.work.chooses_first() {
+            self.pull.draw_first();
+        }
         exchange.window.await_helper(exchange.rt);
         let out = self.reader.read(&mut self.pull);
         self.pull.exchange.window.close(self.pull.exchange.rt);

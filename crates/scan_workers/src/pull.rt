@@ -73,6 +73,14 @@ impl<'a, 'h, K: Truth<A>, A: Drop, W: Work<Answer = A>, G: Gate, R: Wait> Pull<
         }
     }
 
+    // Draws a morsel, which is for the reader alone.
+    pub fn draw_first(&mut self)
+        ensures same { (self.new.exchange ≡ self.old.exchange) × (self.new.given ≡ self.old.given) }
+    {
+        let number = self.draw_one();
+        self.drawn = Some(number);
+    }
+
     // Whether the reader leaves all morsels to others. One that it drew is for it alone.
     fn leaves_all(&self) -> bool {
         self.drawn.is_none() && self.exchange.window.is_helped(self.exchange.rt)
