@@ -46,6 +46,11 @@ impl Work for InTurns {
         50
     }
 
+    // All is made in turns. So the reader begins no morsel while another worker is at work.
+    fn chooses_first(&self) -> bool {
+        true
+    }
+
     fn answer(&self, _alloc: Global, morsel: usize) -> Made {
         self.begun.fetch_add(1, Ordering::SeqCst);
         Made {
