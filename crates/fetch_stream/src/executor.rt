@@ -6,10 +6,11 @@ ghost use Rattle.fetch_stream.specs.Streams.{StreamAt, Gives, GivesTurn};
 
 use crate::parcel::Parcel;
 use crate::stream::FetchStream;
-use row_sources::{Patience, Turn, Watches};
+use row_sources::{Patience, Turn};
 use scan_base::Fault;
 use scan_exec::InOneWalk;
 use std::alloc::{AllocError, Global};
+use work_watch::Watches;
 
 /// The payloads of an answer, one parcel at a time, whoever makes them.
 pub trait Payloads {

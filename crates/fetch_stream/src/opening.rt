@@ -24,13 +24,14 @@ use arrow_schema::Schema;
 use endpoint_split::{Handle, Range};
 use flight_info::{Planned, plan_text, tables_batch, tables_schema};
 use hash_seed::HashSeed;
-use row_sources::{Reading, Unwatched, Watches};
+use row_sources::Reading;
 use scan_base::Fault;
 use scan_exec::Scan;
 use std::alloc::{AllocError, Global};
 use std::marker::Model;
 use table_versions::{CatalogVersion, Snapshot};
 use typed_plan::{Output, TypedPlan};
+use work_watch::{Unwatched, Watches};
 
 // How many rows of a place are joined or grouped in no time that shows.
 const FEW_ROWS: usize = 64;

@@ -7,10 +7,11 @@ ghost use Rattle.fetch_stream.specs.inside.Given.{GivesNoneYet, TurnsBatch};
 
 use arrays::Batch;
 use arrow_schema::Schema;
-use row_sources::{Turn, Watches};
+use row_sources::Turn;
 use scan_base::Fault;
 use scan_exec::{GroupsBatches, Making, Scan};
 use std::alloc::{AllocError, Global};
+use work_watch::Watches;
 
 // What gives the batches of an answer.
 pub(crate) enum Source {

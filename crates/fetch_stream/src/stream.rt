@@ -29,12 +29,13 @@ use arrays::laws::batch_slices_keep_rows;
 use arrow_schema::Schema;
 use endpoint_split::Handle;
 use hash_seed::HashSeed;
-use row_sources::{Patience, Turn, Watches};
+use row_sources::{Patience, Turn};
 use scan_base::Fault;
 use scan_exec::{GroupsBatches, InOneWalk, Making};
 use std::alloc::{AllocError, Global};
 use std::marker::Model;
 use table_versions::Snapshot;
+use work_watch::Watches;
 
 /// The answer to a handle, one parcel at a time: the message of its schema, and then record batches, each right behind its
 /// dictionaries. A contract sees what is still to come, and what refused the stream. It shares the tables of its version, and

@@ -4,12 +4,13 @@ ghost use Rattle.std.specs.Prelude.{◌≡◌, IfOk, OnOk};
 
 use fetch_stream::{FetchStream, Parcel, Payloads, ReadsPayloads};
 use group_workers::GroupWorkers;
-use row_sources::{Patience, Turn, Watches};
+use row_sources::{Patience, Turn};
 use scan_base::Fault;
 use scan_exec::{GroupsBatches, Making};
 use std::alloc::{AllocError, Global};
 use std::sync::Wait;
 use std::thread::Threads;
+use work_watch::Watches;
 
 /// A stream, and who makes its groups. What a reader sees is the stream.
 #[derive(Drop)]

@@ -6,13 +6,13 @@ use crate::grouped::{GroupedWork, read_grouped, ready_grouped};
 use crate::joined::Joined;
 use crate::work::MorselWork;
 use fetch_stream::{Ahead, Executor, FetchStream, Morsels, OneWorker, ReadsPayloads};
-use row_sources::Watches;
 use scan_base::Fault;
 use scan_workers::{Answers, NoGate, Reads, in_order};
 use std::alloc::{AllocError, Global};
 use std::marker::Model;
 use std::sync::Wait;
 use std::thread::Threads;
+use work_watch::Watches;
 
 // How many rows a worker reads at least: for fewer, a thread costs more than it saves.
 const LEAST_ROWS: usize = 65_536;

@@ -27,9 +27,10 @@ use flight_core::Reply;
 use flight_core::laws::streams_answer;
 use flight_proto::floor_message;
 use grpc_frame::{Outbox, Output};
-use row_sources::{Patience, Turn, Watches};
+use row_sources::{Patience, Turn};
 use scan_base::Fault;
 use std::alloc::{AllocError, Global};
+use work_watch::Watches;
 
 // How many rows are looked at before it is looked whether the client is still there.
 const LOOKED_ROWS: usize = 1_048_576;

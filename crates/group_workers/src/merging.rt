@@ -6,11 +6,11 @@ ghost use Rattle.scan_exec.specs.GroupWork.{GroupsOfAll, work_at};
 
 use crate::parts::{count_before, row_count};
 use grouping::Groups;
-use row_sources::{Watches, tell};
 use scan_base::Fault;
 use scan_exec::{FedPart, GroupWork};
 use scan_workers::{Answers, NextAnswer, Reads, Work};
 use std::alloc::Global;
+use work_watch::{Watches, tell};
 
 // How many rows a turn of a worker looks at, where a row counts as often as filters compare in it. Where a part ends or
 // has no more to do, a turn is over too, so no more rows are told than count.

@@ -6,7 +6,6 @@ ghost use Rattle.scan_exec.specs.GroupWork.{CanBeGrouped, GroupsOfAll, work_at};
 use crate::merging::{Merging, PartGroups};
 use crate::parts::part_count;
 use grouping::Groups;
-use row_sources::Watches;
 use scan_base::Fault;
 use scan_exec::{GroupWork, GroupsBatches, InOneWalk};
 use scan_workers::{NoGate, in_order};
@@ -14,6 +13,7 @@ use std::alloc::Global;
 use std::marker::Model;
 use std::sync::Wait;
 use std::thread::Threads;
+use work_watch::Watches;
 
 /// A handle that starts the threads which make groups: each that may start threads and wait, and that threads may share.
 pub trait StartsGroupWorkers {

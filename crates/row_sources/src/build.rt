@@ -20,13 +20,13 @@ use crate::picker::Picker;
 use crate::row_source::Reading;
 use crate::rows::{Rows, Source};
 use crate::scan_source::scan_source;
-use crate::watch::Watches;
 use arrow_schema::DataType;
 use scan_base::Predicate;
 use std::alloc::{AllocError, Global};
 use std::sync::Arc;
 use typed_plan::Plan;
 use typed_plan::laws::typed_predicates_name_columns;
+use work_watch::Watches;
 
 // A source, the filters over its rows, and the numbers of its columns that they see and that are given, with their types.
 #[derive(Drop)]

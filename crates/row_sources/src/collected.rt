@@ -6,9 +6,9 @@ ghost use Rattle.row_sources.specs.Running.{GoesOn};
 
 use crate::rows::Rows;
 use crate::turn::{Looking, Turn, patience_of};
-use crate::watch::{Watches, tell};
 use arrays::Batch;
 use std::alloc::{AllocError, Global};
+use work_watch::{Watches, tell};
 
 /// All rows that are still to be given, batch by batch. Behind each batch, and each turn that gives none, who watches may end it.
 ///

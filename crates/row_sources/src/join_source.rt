@@ -13,13 +13,13 @@ use crate::build::Sourced;
 use crate::collected::collect_watched;
 use crate::columns::numbers_below;
 use crate::rows::{Joining, Source};
-use crate::watch::{Watches, tell};
 use arrays::Batch;
 use arrow_schema::DataType;
 use hash_seed::HashSeed;
 use join_batches::{JoinSide, JoinSides, Joiner};
 use std::alloc::{AllocError, Global};
 use typed_plan::JoinKey;
+use work_watch::{Watches, tell};
 
 // What gives the rows of both sides of a join.
 #[derive(Drop)]

@@ -17,7 +17,6 @@ pub mod row_source;
 pub mod rows;
 mod scan_source;
 pub mod turn;
-pub mod watch;
 
 pub use crate::collected::collect_watched;
 pub use crate::opened_table::{OpenedTable, opened_tables};
@@ -27,4 +26,3 @@ pub use crate::piece::Piece;
 pub use crate::row_source::{Reading, RowSource, UnfilteredRows};
 pub use crate::rows::Rows;
 pub use crate::turn::{Looking, Patience, Turn};
-pub use crate::watch::{Unwatched, Watches, tell};

@@ -1,16 +1,24 @@
 //! Which rows of a source are given, and which of their columns.
 
 ghost use Rattle.std.specs.Prelude.{◌≡◌, ◌≤◌, ◌+◌, ◌^◌, ◌<◌, [], IfOk, OnOk, length};
+ghost use Rattle.array_select.specs.Room.{most_batch_rows};
 ghost use Rattle.row_sources.specs.Picking.{IsPick, chosen_rows, pick_of};
 ghost use Rattle.row_sources.specs.Picked.{Picks};
 
 use crate::columns::{gather_of, slice_of};
 use crate::part::Part;
-use array_select::Selection;
+use array_select::{MOST_BATCH_ROWS, Selection};
 use arrays::Batch;
 use kernels::Columns;
 use scan_base::Predicate;
 use std::alloc::{AllocError, Global};
+use work_watch::comparisons_in;
+
+// How many comparisons filters make at once: some tenths of a second where each takes long.
+const MOST_COMPARISONS: usize = 4_194_304;
+
+// How many rows filters look at at once, at least.
+const LEAST_ROWS: usize = 64;
 
 /// Which rows of a source are given, and which of their columns.
 pub struct Picker {
@@ -69,6 +77,17 @@ impl Picker {
             comparisons = comparisons.saturating_add(comparisons_in(filter));
         }
         comparisons.max(1)
+    }
+
+    /// How many rows the filters look at at once: as many as take 4,194,304 comparisons, but 64 at least and 65,536 at most. Whether
+    /// the client is still there is seen between two such pieces.
+    pub fn most_rows(&self) -> usize
+        ensures some { 1 ≤ result }
+        ensures few { result ≤ most_batch_rows }
+    {
+        (MOST_COMPARISONS / self.weight())
+            .max(LEAST_ROWS)
+            .min(MOST_BATCH_ROWS)
     }
 
     /// The numbers in their batch of those rows of a part that the filters let through, in order, into an empty selection.
@@ -148,40 +167,5 @@ impl Picker {
         }
         let run = Part { batch, from, to };
         Ok(Some(slice_of(alloc, &run, shown)?))
-    }
-}
-
-// How many comparisons a predicate makes for each row at most.
-fn comparisons_in(predicate: &Predicate<usize>) -> usize {
-    match predicate {
-        Predicate::And(left, right) => comparisons_in(left).saturating_add(comparisons_in(right)),
-        Predicate::Or(left, right) => comparisons_in(left).saturating_add(comparisons_in(right)),
-        Predicate::Not(part) => comparisons_in(part),
-        Predicate::Is {
-            negated: _,
-            tested: _,
-            predicate: part,
-        } => comparisons_in(part),
-        Predicate::Compare {
-            comparison: _,
-            left: _,
-            right: _,
-        } => 1,
-        Predicate::Between {
-            negated: _,
-            operand: _,
-            low: _,
-            high: _,
-        } => 2,
-        Predicate::In {
-            negated: _,
-            operand: _,
-            items,
-        } => items.len(),
-        Predicate::IsNull {
-            negated: _,
-            operand: _,
-        } => 1,
-        Predicate::Constant(_) => 0,
     }
 }

@@ -18,12 +18,12 @@ use crate::build::{Sourced, build};
 use crate::opened_table::OpenedTable;
 use crate::picker::Picker;
 use crate::rows::Rows;
-use crate::watch::{Unwatched, Watches};
 use arrow_schema::DataType;
 use hash_seed::HashSeed;
 use std::alloc::{AllocError, Global};
 use std::marker::Model;
 use typed_plan::{Columns, Plan};
+use work_watch::{Unwatched, Watches};
 
 /// Which rows of the first place are read, and what the hashes of keys begin with.
 #[derive(Clone, Copy, Drop)]

@@ -14,9 +14,10 @@ use crate::making::Making;
 use crate::shown_groups::ShownGroups;
 use arrays::Batch;
 use hash_seed::HashSeed;
-use row_sources::{Looking, Patience, RowSource, Rows, Turn, UnfilteredRows, Watches};
+use row_sources::{Looking, Patience, RowSource, Rows, Turn, UnfilteredRows};
 use std::alloc::{AllocError, Global};
 use typed_plan::Output;
+use work_watch::Watches;
 
 // What is still to be given.
 pub(crate) enum Answer {

@@ -7,10 +7,11 @@ use crate::grouped::{Feeding, feed_batch};
 use array_select::Selection;
 use grouping::{Grouping, Groups};
 use hash_seed::HashSeed;
-use row_sources::{Picker, Watches, tell};
+use row_sources::Picker;
 use scan_base::Fault;
 use std::alloc::Global;
 use std::marker::Model;
+use work_watch::{Watches, tell};
 
 // How many rows a turn of feeding looks at, and behind them those of the batch in hand.
 const TURN_ROWS: usize = 1_048_576;

@@ -21,13 +21,14 @@ use arrow_schema::Schema;
 use hash_seed::HashSeed;
 use opened_batches::opened_lists;
 use rewrite::laws::skipping_keeps_rows;
-use row_sources::{Patience, Reading, RowSource, Turn, Unwatched, Watches, opened_tables};
+use row_sources::{Patience, Reading, RowSource, Turn, opened_tables};
 use scan_base::Fault;
 use std::alloc::{AllocError, Global};
 use std::marker::Model;
 use std::ops::Range;
 use std::sync::Arc;
 use typed_plan::TypedPlan;
+use work_watch::{Unwatched, Watches};
 
 // How many rows an answer has at most.
 const MAX_ANSWER_ROWS: usize = 67_108_864;

@@ -9,9 +9,10 @@ use crate::group_work::GroupsBatches;
 use crate::grouped::GroupedRows;
 use array_select::Selection;
 use arrays::Batch;
-use row_sources::{Part, Picker, Watches};
+use row_sources::{Part, Picker};
 use std::alloc::{AllocError, Global};
 use std::marker::Model;
+use work_watch::Watches;
 
 // Groups, and the columns of their answer that are given: in this order, and as often as they are named.
 pub(crate) struct ShownGroups {

@@ -1,0 +1,8 @@
+//! Who watches long work, and what a row of it costs.
+#![tactic(auto)]
+
+pub mod watch;
+mod weight;
+
+pub use crate::watch::{Unwatched, Watches, tell};
+pub use crate::weight::comparisons_in;
