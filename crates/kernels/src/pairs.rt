@@ -1,4 +1,4 @@
-//! Columns of numbers that are compared with each other.
+//! Columns that are compared with each other: 64 numbers at once, and other values one after another.
 
 ghost use Rattle.std.specs.Prelude.{◌≡◌, ◌≤◌, ◌<◌, ◌+◌, ◌*◌, ◌^◌, ℕ, pos, int_lt, FitsSigned, length, get_or, IfSome};
 ghost use Rattle.std.specs.Int.{w128};
@@ -88,14 +88,6 @@ pub(crate) fn pairs_of<'a>(
         right: right.column,
         comparison,
         count: left.from + left.len,
-    }
-}
-
-/// Whether a column holds numbers.
-pub(crate) fn has_numbers(column: &Column) -> bool {
-    match column.layout() {
-        Layout::Integers(_) | Layout::Decimals(_) => true,
-        _ => false,
     }
 }
 
