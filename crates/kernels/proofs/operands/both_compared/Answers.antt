@@ -15,7 +15,7 @@ returns c =
     let rows = c.args.rows.now in
     let bounds = c.args.bounds.now in
     let value : Operand ℕ → ℕ → Value = λ operand row. operand_value (cell_of rows row) operand in
-    c.and.ensures
+    c.and-2.ensures
     ∙ zip2_of_maps truth_and
     (λ (row : ℕ). compared GreaterOrEqual (value c.args.operand.now row) (value bounds.low.now row))
     (λ (row : ℕ). compared LessOrEqual (value c.args.operand.now row) (value bounds.high.now row))
