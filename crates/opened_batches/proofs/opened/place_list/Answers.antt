@@ -90,18 +90,18 @@ loop-place-preserved g c =
     record {
       so_far = subst (λ (n : ℕ). IsSoFar parts place.first place.columns.now read.from read.to table (at.index + 1) (at.start + n) c.if-can_hold.list) one.2
           (elim c.if-can_hold.branch [
-          | then-can_hold+in_ok-push w ↦
-          subst (λ (list : OpenedList). IsSoFar parts place.first place.columns.now read.from read.to table (at.index + 1) (at.start + one.0.rows) list) (sym w.list-is)
-          (listed parts place.first place.columns.now read.from read.to table c.batches_are_rows.ensures at.index at.start c.min-end.result c.loop-place.list
-          is.so_far last one.0 one.1 filled before c.loop-place-test.true c.can_hold.result can
-          w.if-can_hold.true w.push.new.self w.in_ok-push.ensures.numbers
-          (w.in_ok-push.ensures.rows ∙ ap (λ (n : ℕ). c.loop-place.list.rows + n) (sym one.2)) w.in_ok-push.ensures.from
-          (w.in_ok-push.ensures.to ∙ ap (λ (n : ℕ). c.loop-place.list.to + min n (c.min-end.result - at.start)) (sym one.2)))
-          | else-can_hold w ↦
-          subst (λ (list : OpenedList). IsSoFar parts place.first place.columns.now read.from read.to table (at.index + 1) (at.start + one.0.rows) list) (sym w.list-is)
-          (passed parts place.first place.columns.now read.from read.to table c.batches_are_rows.ensures at.index at.start c.min-end.result c.loop-place.list
-          is.so_far last one.0 one.1 filled before c.loop-place-test.true c.can_hold.result can
-          w.if-can_hold.false)
+            | then-can_hold+in_ok-push w ↦
+                subst (λ (list : OpenedList). IsSoFar parts place.first place.columns.now read.from read.to table (at.index + 1) (at.start + one.0.rows) list) (sym w.list-is)
+                (listed parts place.first place.columns.now read.from read.to table c.batches_are_rows.ensures at.index at.start c.min-end.result c.loop-place.list
+                is.so_far last one.0 one.1 filled before c.loop-place-test.true c.can_hold.result can
+                w.if-can_hold.true w.push.new.self w.in_ok-push.ensures.numbers
+                (w.in_ok-push.ensures.rows ∙ ap (λ (n : ℕ). c.loop-place.list.rows + n) (sym one.2)) w.in_ok-push.ensures.from
+                (w.in_ok-push.ensures.to ∙ ap (λ (n : ℕ). c.loop-place.list.to + min n (c.min-end.result - at.start)) (sym one.2)))
+            | else-can_hold w ↦
+                subst (λ (list : OpenedList). IsSoFar parts place.first place.columns.now read.from read.to table (at.index + 1) (at.start + one.0.rows) list) (sym w.list-is)
+                (passed parts place.first place.columns.now read.from read.to table c.batches_are_rows.ensures at.index at.start c.min-end.result c.loop-place.list
+                is.so_far last one.0 one.1 filled before c.loop-place-test.true c.can_hold.result can
+                w.if-can_hold.false)
           ]);
       ready = c.in_ok-tell.ensures.ready;
       watched = g.met.W.Watches.again _ _ _ is.watched c.in_ok-tell.ensures.watched;
