@@ -105,11 +105,7 @@ loop-place-preserved g c =
           ]);
       ready = c.in_ok-tell.ensures.ready;
       watched = g.met.W.Watches.again _ _ _ is.watched c.in_ok-tell.ensures.watched;
-      told = (
-        is.told.0 + c.args.filter.now.weight,
-        omega (arith, more, is.told.1, c.requires.weight),
-        g.met.W.Watches.told_again _ _ _ _ _ is.told.2 c.in_ok-tell.ensures.told,
-      );
+      told = (_, omega (arith, more, is.told.1, c.requires.weight), g.met.W.Watches.told_again _ _ _ _ _ is.told.2 c.in_ok-tell.ensures.told);
     }
 
 -- who watches ended it
