@@ -45,8 +45,8 @@ struct TableRows<'a> {
 
 /// What a plan reads of its places, over the rows `range.start` up to, not with, `range.end` of the first one. A batch is left out
 /// where a conjunct of WHERE that names no column of another place can be true in none of its rows, by the statistics of its
-/// columns. Who watches is told of each batch that is judged: as 64 rows for each comparison of these conjuncts, and of at least
-/// one.
+/// columns. Who watches is told of each batch that is judged: of 64 rows for each comparison that these conjuncts make for a row, and
+/// of 64 where they make none.
 ///
 /// # Errors
 ///
