@@ -69,8 +69,9 @@ impl Drop for BuiltSides {
 pub struct Joiner {
     sides: Arc<BuiltSides>,
     left: LeftPairs,
-    // As many rows as the next batch is tried with.
+    // As many rows as the next batch is tried with, and as any batch has at most.
     most: usize,
+    bound: usize,
 }
 
 // Written out, so that dropping it is one call (docs/DECISIONS.md).
@@ -80,6 +81,7 @@ impl Drop for Joiner {
             sides: _,
             left: _,
             most: _,
+            bound: _,
         } = self;
     }
 }
@@ -173,7 +175,16 @@ impl Joiner {
                 given: 0,
             },
             most: MOST_BATCH_ROWS,
+            bound: MOST_BATCH_ROWS,
         }
+    }
+
+    /// From now on a batch has no more than so many joined rows, or one where that is none. Without this call it is 65,536. What is
+    /// to be given stays.
+    pub fn bound_rows(&mut self, most: usize)
+        ensures { self.new ≡ self.old }
+    {
+        self.bound = most;
     }
 
     /// Joins a left batch next: all joined rows of the one before were given.
@@ -244,7 +255,8 @@ impl Joiner {
             rights: built.build.batches(),
             right_types: built.right_types.as_slice(),
         };
-        let tried = tried_rows(pairs.len(), shown.len(), self.most);
+        let most = self.most.min(self.bound);
+        let tried = tried_rows(pairs.len(), shown.len(), most);
         let joined = sides.joined(alloc, shown, &pairs[..tried])?;
         self.left.given += joined.rows();
         self.most = next_most(self.most, tried, joined.rows());
