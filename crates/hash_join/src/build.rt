@@ -5,7 +5,7 @@ ghost use Rattle.std.specs.List.{list_all};
 ghost use Rattle.scan_base.specs.Limits.{most_rows};
 ghost use Rattle.arrays.specs.Batch.{BatchAt};
 ghost use Rattle.hash_join.specs.Pairs.{places, pairs_ahead};
-ghost use Rattle.hash_join.specs.Watched.{ToldAtLeast};
+ghost use Rattle.work_watch.specs.Told.{ToldAtLeast};
 
 use crate::chains::Chains;
 use crate::compared::{Compared, Made};

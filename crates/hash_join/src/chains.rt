@@ -4,7 +4,7 @@ ghost use Rattle.std.specs.Prelude.{◌≡◌, ◌+◌, ◌≤◌, ◌<◌, IfOk
 ghost use Rattle.hash_join.specs.Rights.{AreRights};
 ghost use Rattle.hash_join.specs.Chains.{AreRepeats, HasChains};
 ghost use Rattle.hash_join.specs.Seen.{AreOpen, AreOpenRepeats};
-ghost use Rattle.hash_join.specs.Watched.{ToldAtLeast};
+ghost use Rattle.work_watch.specs.Told.{ToldAtLeast};
 
 use crate::compared::Compared;
 use crate::right_rows::RightRows;

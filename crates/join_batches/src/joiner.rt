@@ -7,7 +7,7 @@ ghost use Rattle.scan_base.specs.Limits.{most_rows};
 ghost use Rattle.arrays.specs.Batch.{BatchAt, rows_of};
 ghost use Rattle.arrays.specs.Typed.{AreOf};
 ghost use Rattle.hash_join.specs.Pairs.{places};
-ghost use Rattle.hash_join.specs.Watched.{ToldAtLeast};
+ghost use Rattle.work_watch.specs.Told.{ToldAtLeast};
 ghost use Rattle.array_select.specs.Room.{most_batch_rows};
 ghost use Rattle.join_batches.specs.Built.{AreBuilt, unfed};
 ghost use Rattle.join_batches.specs.Joiner.{JoinsNext, JoinsShown, joined_of, joined_types};

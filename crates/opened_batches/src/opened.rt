@@ -1,6 +1,6 @@
 //! Which batches are opened.
 
-ghost use Rattle.std.specs.Prelude.{◌≡◌, ◌<◌, ◌≤◌, ◌+◌, ◌-◌, ◌*◌, ◌^◌, ◌==◌, ◌∷◌, ◌++◌, [], ℕ, if◌then◌else◌, All, IfOk, IsTrue, OnOk, length, map, min};
+ghost use Rattle.std.specs.Prelude.{◌≡◌, ◌<◌, ◌≤◌, ◌+◌, ◌-◌, ◌*◌, ◌^◌, ◌==◌, ◌∷◌, ◌++◌, [], if◌then◌else◌, All, IfOk, IsTrue, OnOk, length, map, min};
 ghost use Rattle.std.specs.List.{list_all};
 ghost use Rattle.scan_base.specs.Predicate.{names_only};
 ghost use Rattle.scan_base.specs.View.{pred_of};
@@ -10,6 +10,7 @@ ghost use Rattle.table_versions.specs.Stored.{TableAt, table_of};
 ghost use Rattle.typed_plan.specs.Typed.{has_columns};
 ghost use Rattle.opened_batches.specs.Listed.{AreLists, IsListOf};
 ghost use Rattle.opened_batches.specs.Opened.{batches_in, given_width, judged_count, opened_numbers};
+ghost use Rattle.work_watch.specs.Told.{ToldAtLeast};
 ghost use Rattle.opened_batches.specs.inside.Judged.{judged_before};
 
 use crate::conjuncts::where_parts;
@@ -64,7 +65,7 @@ pub fn opened_lists<W: Watches>(
     ensures kept { IfOk result (λ _. All (λ (table : TableAt). IsKept table (length (table_of table).rows)) plan.now.tables) }
     ensures ready { OnOk result (W.ready watch.new) }
     ensures watched { W.watched watch.old watch.new }
-    ensures told { OnOk result ((count : ℕ) × (64 * judged_count range.start range.end plan.now.tables ≤ count) × W.told count watch.old watch.new) }
+    ensures told { OnOk result (ToldAtLeast W.told (64 * judged_count range.start range.end plan.now.tables) watch.old watch.new) }
 {
     let conjuncts = where_parts(alloc, plan.plan())?;
     let scans = scans_of(alloc, plan.plan())?;
@@ -121,8 +122,8 @@ fn place_list<W: Watches>(
     ensures kept { IfOk result (λ _. IsKept read.now.table.now (length (table_of read.now.table.now).rows)) }
     ensures ready { OnOk result (W.ready watch.new) }
     ensures watched { W.watched watch.old watch.new }
-    ensures told { OnOk result ((count : ℕ) × (64 * length (batches_in read.now.from read.now.to read.now.table.now.batches) ≤ count)
-        × W.told count watch.old watch.new) }
+    ensures told { OnOk result (ToldAtLeast W.told (64 * length (batches_in read.now.from read.now.to read.now.table.now.batches))
+        watch.old watch.new) }
 {
     batches_are_rows();
     let TableRows { table, from, to } = *read;

@@ -1,6 +1,6 @@
 use Rattle.std.proofs.Common.{◌≤◌, ◌-◌, length}
 use Rattle.hash_join.specs.Seen.{AreOpen}
-use Rattle.hash_join.specs.Watched.{ToldAtLeast}
+use Rattle.work_watch.specs.Told.{ToldAtLeast}
 use Rattle.hash_join.proofs.chains.OpenChains.link_all.Given as goal
 
 -- the watch was told of the rows that are linked
