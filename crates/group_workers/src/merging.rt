@@ -109,7 +109,7 @@ fn merge_parts<'t, P: Answers<Result<FedPart<'t>, Fault>>, L: Watches>(
     };
     let mut groups = first;
     while let Some(part) = next_groups(alloc, work, answers, &mut untold, watch)? {
-        groups.merge(alloc, part)?;
+        groups.merge(alloc, part, watch)?;
     }
     Ok(groups)
 }

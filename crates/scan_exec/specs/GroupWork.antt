@@ -104,10 +104,6 @@ pub record IsSamePart (before after : PartAt) : Type 0 where
   pub rows : after.rows ≡ before.rows
   pub left : after.left ≤ before.left
 
--- who watches was told of so many rows at least
-abbrev pub ToldAtLeast : {W : Type 0} → (ℕ → W → W → Type 0) → ℕ → W → W → Type 0
-ToldAtLeast told rows old new = (count : ℕ) × (rows ≤ count) × told count old new
-
 -- Inside: the rows of the batches from one up to, not with, another, and behind them the first rows of that one.
 abbrev pub rows_so_far : ℕ → ℕ → ℕ → List BatchAt → List Row
 rows_so_far from at row batches = flat_map rows_of (batches_between from at batches) ++ take row (rows_of (batch_at batches at))

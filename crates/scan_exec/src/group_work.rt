@@ -6,7 +6,8 @@ ghost use Rattle.array_select.specs.Room.{most_batch_rows};
 ghost use Rattle.grouping.specs.Fed.{HasFed, batch_at};
 ghost use Rattle.row_sources.specs.Picking.{IsPick, chosen_rows, pick_of};
 ghost use Rattle.scan_base.specs.Limits.{most_rows};
-ghost use Rattle.scan_exec.specs.GroupWork.{CanBeGrouped, GroupWorkAt, GroupsOfAll, GroupsOfPart, IsPartOf, IsSamePart, ToldAtLeast, part_at, rows_between, work_at};
+ghost use Rattle.scan_exec.specs.GroupWork.{CanBeGrouped, GroupWorkAt, GroupsOfAll, GroupsOfPart, IsPartOf, IsSamePart, part_at, rows_between, work_at};
+ghost use Rattle.work_watch.specs.Told.{ToldAtLeast};
 
 use array_select::Selection;
 use grouping::{Grouping, Groups};

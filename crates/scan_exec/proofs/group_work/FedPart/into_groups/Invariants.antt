@@ -1,5 +1,6 @@
 use Rattle.std.specs.Prelude.{◌-◌}
-use Rattle.scan_exec.specs.GroupWork.{IsSamePart, ToldAtLeast}
+use Rattle.work_watch.specs.Told.{ToldAtLeast}
+use Rattle.scan_exec.specs.GroupWork.{IsSamePart}
 use Rattle.scan_exec.proofs.group_work.FedPart.into_groups.Given as goal
 
 -- the watch was told of the rows so far, and maybe of more

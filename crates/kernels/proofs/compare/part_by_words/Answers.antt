@@ -4,7 +4,7 @@ use Rattle.scan_base.specs.declared.value.ValueRef.{ValueRef}
 use Rattle.scan_base.specs.Comparison.{compared}
 use Rattle.scan_base.specs.Value.{value_of}
 use Rattle.kernels.specs.Parts.{said_of}
-use Rattle.kernels.proofs.compare.compare_part.Goals as goal
+use Rattle.kernels.proofs.compare.part_by_words.Goals as goal
 
 pub returns-in-Null : goal.returns-in-Null
 returns-in-Null c =
