@@ -23,10 +23,7 @@ const MOST_MADE: usize = 16;
 
 const MOST_MADE_BYTES: usize = 8_388_608;
 
-// How many turns of a stream are one turn of making ahead at most, and for how many rows each has patience. So it looks at no more
-// than 1,048,576 rows.
-const TURNS_AHEAD: usize = 8;
-
+// For how many rows a turn of the stream has patience, of those that make parcels ahead.
 const ROWS_AHEAD: usize = 65_536;
 
 // So many turns of a stream, and the patience of each.
@@ -160,16 +157,16 @@ impl<'s> Ahead<'s> {
         make_more(&turns, &mut self.made, &mut self.bytes, &mut self.rest);
     }
 
-    /// Makes parcels ahead for a while, until there are 16 or they have 8,388,608 bytes: it looks at 1,048,576 rows at most.
-    /// Whether there is more to be made ahead then. The same is still to come. What refuses a parcel is answered behind those
+    /// Makes parcels ahead for so many turns of the stream at most (`Morsels::turns_ahead`), until there are 16 or they have 8,388,608
+    /// bytes. A turn looks at 65,536 rows, and the rest of a piece. Whether there is more to be made ahead then. The same is still to come. What refuses a parcel is answered behind those
     /// that were made before.
-    pub fn go_on(&mut self, alloc: Global) -> bool
+    pub fn go_on(&mut self, alloc: Global, turns: usize) -> bool
         ensures { self.new ≡ self.old }
     {
         let turns = Turns {
             alloc,
             patience: Patience::Rows(ROWS_AHEAD),
-            most: TURNS_AHEAD,
+            most: turns,
         };
         make_more(&turns, &mut self.made, &mut self.bytes, &mut self.rest)
     }

@@ -17,6 +17,7 @@ pub mod parcel;
 pub mod payload;
 mod source;
 pub mod stream;
+mod work;
 
 pub use crate::ahead::Ahead;
 pub use crate::executor::{Execution, Executor, OneWorker, Payloads, ReadsPayloads};

@@ -25,8 +25,14 @@ pub struct Morsels<'s> {
     scan: &'s Scan,
     count: usize,
     begun: bool,
-    // What the hashes of texts begin with.
-    seed: HashSeed,
+    making: MakingMorsels,
+}
+
+// What the hashes of texts begin with, and how many turns of a morsel's stream are one turn of making ahead.
+#[derive(Clone, Copy, Drop)]
+pub(crate) struct MakingMorsels {
+    pub(crate) seed: HashSeed,
+    pub(crate) turns: usize,
 }
 
 impl<'s> Model for Morsels<'s> {
@@ -47,14 +53,19 @@ impl<'s> Drop for Morsels<'s> {
             scan: _,
             count: _,
             begun: _,
-            seed: _,
+            making: _,
         } = self;
     }
 }
 
 impl<'s> Morsels<'s> {
     // The morsels of a scan that falls into so many, of whose schema a payload has told or not.
-    pub(crate) fn new(scan: &'s Scan, count: usize, begun: bool, seed: HashSeed) -> Morsels<'s>
+    pub(crate) fn new(
+        scan: &'s Scan,
+        count: usize,
+        begun: bool,
+        making: MakingMorsels,
+    ) -> Morsels<'s>
         requires { FallsInto scan.now count }
         ensures { result ≡ morsels_at scan.now count begun }
     {
@@ -62,7 +73,7 @@ impl<'s> Morsels<'s> {
             scan,
             count,
             begun,
-            seed,
+            making,
         }
     }
 
@@ -78,6 +89,12 @@ impl<'s> Morsels<'s> {
         ensures { result ≡ self.now.begun }
     {
         self.begun
+    }
+
+    /// How many turns of a morsel's stream are one turn of making ahead (`Ahead::go_on`): fewer where the filters compare much.
+    /// Contracts say nothing of it.
+    pub fn turns_ahead(&self) -> usize {
+        self.making.turns
     }
 
     /// The payload of the schema.
@@ -100,7 +117,7 @@ impl<'s> Morsels<'s> {
         let scan = self.scan;
         let writing = Writing {
             alloc,
-            seed: self.seed,
+            seed: self.making.seed,
         };
         let rest = morsel_rest(writing, scan, number);
         made_ahead(alloc, scan, number, rest)

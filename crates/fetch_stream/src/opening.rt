@@ -19,6 +19,7 @@ use crate::message::said_schema;
 use crate::payload::Payload;
 use crate::source::Source;
 use crate::stream::FetchStream;
+use crate::work::Work;
 use arrays::Batch;
 use arrow_schema::Schema;
 use endpoint_split::{Handle, Range};
@@ -31,8 +32,8 @@ use scan_exec::Scan;
 use std::alloc::{AllocError, Global};
 use std::marker::Model;
 use table_versions::{CatalogVersion, Snapshot};
-use typed_plan::{Output, TypedPlan};
-use work_watch::{Unwatched, Watches};
+use typed_plan::{Output, Plan, TypedPlan};
+use work_watch::{Unwatched, Watches, comparisons_in};
 
 // How many rows of a place are joined or grouped in no time that shows.
 const FEW_ROWS: usize = 64;
@@ -81,9 +82,8 @@ impl Drop for Meaning {
 /// of which nothing was given.
 pub struct Opening {
     meaning: Meaning,
-    // How many workers may make payloads, and how many rows the range has (`FetchStream`).
-    workers: usize,
-    rows: usize,
+    // How its payloads may be made.
+    work: Work,
 }
 
 impl Model for Opening {
@@ -102,8 +102,7 @@ impl Drop for Opening {
     fn drop(self) {
         let Opening {
             meaning: _,
-            workers: _,
-            rows: _,
+            work: _,
         } = self;
     }
 }
@@ -116,25 +115,16 @@ impl Opening {
     {
         Opening {
             meaning,
-            workers: 1,
-            rows: 0,
+            work: Work::alone(),
         }
     }
 
-    // The same, with so many workers, of a range of so many rows.
-    fn with_work(self, workers: usize, rows: usize) -> Opening
+    // The same, whose payloads may be made so.
+    fn with_work(self, work: Work) -> Opening
         ensures { result ≡ self }
     {
-        let Opening {
-            meaning,
-            workers: _,
-            rows: _,
-        } = self;
-        Opening {
-            meaning,
-            workers,
-            rows,
-        }
+        let Opening { meaning, work: _ } = self;
+        Opening { meaning, work }
     }
 
     /// What a handle means at a version of the catalog. The list of tables has a row for each table of this
@@ -157,7 +147,12 @@ impl Opening {
         ensures first { may_mean (handle_seen handle.now) ≡ false → result ≡ Err BadTicket }
     {
         let opening = open(alloc, snapshot.catalog(), handle)?;
-        Ok(opening.with_work(workers, rows_asked(handle)))
+        let work = Work {
+            workers,
+            rows: rows_asked(handle),
+            comparisons: opening.meaning.comparisons(),
+        };
+        Ok(opening.with_work(work))
     }
 
     /// The payload of the schema, behind which the stream is `FetchStream::behind_schema`.
@@ -207,17 +202,21 @@ impl Opening {
         ensures ready { OnOk result (W.ready watch.new) }
         ensures watched { W.watched watch.old watch.new }
     {
-        let Opening {
-            meaning,
-            workers,
-            rows,
-        } = self;
+        let Opening { meaning, work } = self;
         let stream = meaning.stream(alloc, watch)?;
-        Ok(stream.with_work(workers, rows))
+        Ok(stream.with_work(work))
     }
 }
 
 impl Meaning {
+    // How many comparisons all its filters make for a row at most.
+    fn comparisons(&self) -> usize {
+        match self {
+            Meaning::Planned(scan) => comparisons_of(scan.plan.plan()),
+            Meaning::Listed(_) => 0,
+        }
+    }
+
     // The stream of it, watched.
     fn stream<W: Watches>(self, alloc: Global, watch: &mut W) -> Result<FetchStream, AllocError>
         requires meaning { IsMeaning self }
@@ -282,6 +281,19 @@ fn schema_of(meaning: &Meaning) -> &Schema
     match meaning {
         Meaning::Planned(scan) => scan.plan.schema(),
         Meaning::Listed(stream) => stream.schema(),
+    }
+}
+
+// How many comparisons all filters of a plan make for a row at most.
+fn comparisons_of(plan: &Plan) -> usize {
+    match plan {
+        Plan::Scan { .. } => 0,
+        Plan::Filter { predicate, input } => {
+            comparisons_in(predicate).saturating_add(comparisons_of(input))
+        }
+        Plan::Join { left, right, .. } => {
+            comparisons_of(left).saturating_add(comparisons_of(right))
+        }
     }
 }
 

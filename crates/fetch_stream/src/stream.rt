@@ -20,10 +20,11 @@ ghost use Rattle.fetch_stream.specs.inside.Steps.{GivesFirst, Refills, GivesRows
 
 use crate::cutter::Cutter;
 use crate::message::{Writing, schema_payload};
-use crate::morsels::Morsels;
+use crate::morsels::{MakingMorsels, Morsels};
 use crate::opening::Opening;
 use crate::parcel::Parcel;
 use crate::source::Source;
+use crate::work::Work;
 use arrays::Batch;
 use arrays::laws::batch_slices_keep_rows;
 use arrow_schema::Schema;
@@ -47,10 +48,8 @@ pub struct FetchStream {
     refused: Option<Fault>,
     // What the hashes of texts begin with.
     seed: HashSeed,
-    // How many workers may make payloads, and how many rows the range has. Contracts see nothing of them: the answer is the
-    // same for any numbers.
-    workers: usize,
-    rows: usize,
+    // How the payloads may be made.
+    work: Work,
 }
 
 impl Model for FetchStream {
@@ -80,8 +79,7 @@ impl Drop for FetchStream {
             source: _,
             refused: _,
             seed: _,
-            workers: _,
-            rows: _,
+            work: _,
         } = self;
     }
 }
@@ -109,13 +107,12 @@ impl FetchStream {
             source,
             refused: None,
             seed,
-            workers: 1,
-            rows: 0,
+            work: Work::alone(),
         }
     }
 
-    // The same stream, with so many workers, of a range of so many rows.
-    pub(crate) fn with_work(self, workers: usize, rows: usize) -> FetchStream
+    // The same stream, whose payloads may be made so.
+    pub(crate) fn with_work(self, work: Work) -> FetchStream
         ensures { result ≡ self }
     {
         let FetchStream {
@@ -124,8 +121,7 @@ impl FetchStream {
             source,
             refused,
             seed,
-            workers: _,
-            rows: _,
+            work: _,
         } = self;
         FetchStream {
             begun,
@@ -133,8 +129,7 @@ impl FetchStream {
             source,
             refused,
             seed,
-            workers,
-            rows,
+            work,
         }
     }
 
@@ -148,8 +143,7 @@ impl FetchStream {
             source,
             refused,
             seed,
-            workers,
-            rows,
+            work,
         } = self;
         FetchStream {
             begun: true,
@@ -157,8 +151,7 @@ impl FetchStream {
             source,
             refused,
             seed,
-            workers,
-            rows,
+            work,
         }
     }
 
@@ -187,13 +180,13 @@ impl FetchStream {
 
     /// How many workers may make its payloads at most.
     pub fn workers(&self) -> usize {
-        self.workers
+        self.work.workers
     }
 
     /// How many rows of its first place the answer comes of at most: 0 for the list of tables. Contracts say nothing of it: it
     /// tells how much work there is.
     pub fn rows(&self) -> usize {
-        self.rows
+        self.work.rows
     }
 
     // The schema of the answer.
@@ -238,7 +231,11 @@ impl FetchStream {
             return None;
         }
         let count = scan.morsels()?;
-        Some(Morsels::new(scan, count, self.begun, self.seed))
+        let making = MakingMorsels {
+            seed: self.seed,
+            turns: self.work.turns_ahead(),
+        };
+        Some(Morsels::new(scan, count, self.begun, making))
     }
 
     /// The same stream, whose groups are made, if it makes groups. Who watches may end it.
@@ -266,8 +263,7 @@ impl FetchStream {
             source,
             refused,
             seed,
-            workers,
-            rows,
+            work,
         } = self;
         let source = source.readied(alloc, by, watch)?;
         Ok(FetchStream {
@@ -276,8 +272,7 @@ impl FetchStream {
             source,
             refused,
             seed,
-            workers,
-            rows,
+            work,
         })
     }
 

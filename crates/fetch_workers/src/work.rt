@@ -38,6 +38,6 @@ impl<'s> Work for MorselWork<'s> {
     }
 
     fn go_on(&self, alloc: Global, answer: &mut Ahead<'s>) -> bool {
-        answer.go_on(alloc)
+        answer.go_on(alloc, self.morsels.turns_ahead())
     }
 }
