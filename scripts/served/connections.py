@@ -488,6 +488,58 @@ def gone_while_ordering(run: Run) -> str:
     return f"at most {longest:.2f} s"
 
 
+SINGLES = 40_000  # batches of one row of 0, of which none can have a 1
+ONES = "OR ".join(["a=1"] * 2_700)
+JUDGED = [fetch_of(1, 0, SINGLES, text) for text in (
+    f"SELECT a FROM t WHERE {ONES}", f"SELECT COUNT(*) FROM t WHERE {ONES}",
+    f"SELECT x.a FROM t AS x JOIN t AS y ON x.a=y.a WHERE {'OR '.join(['y.a=1'] * 2_000)}")]
+FIRST_WORK = 0.5  # seconds of work within which the schema has to be there, and then the seat free: to judge all takes ten times as long
+
+
+@case("clients that go away while 2,000 comparisons and more are asked of 40,000 batches of one row: each has the schema at once, and its only seat "
+      "is free at once, as the work of the server tells")
+def gone_while_judging(run: Run) -> str:
+    single = trees.batch(1, (0, b"", bytes(8)))
+    put = put_of_messages([(trees.schema(trees.field("a", trees.integer(64, True), False)), b"")] + [single] * SINGLES)
+    most = [0.0, 0.0]
+    with one_seat(run, "1", put, SINGLES) as server:
+        for records in JUDGED:
+            for leave in WAYS:
+                most = [max(*pair) for pair in zip(most, work_until_free(server, records, leave))]
+                same(f"{most[0]:.2f} s of work before the schema, and {most[1]:.2f} s behind the client", True, max(most) < FIRST_WORK)
+    return f"at most {most[0]:.2f} s of work before the schema, and {most[1]:.2f} s behind the client"
+
+
+WORDS, PIECE, PIECES = 128, 65_536, 4  # texts of each of two columns; rows of a batch, each with another pair of them; batches
+EQUAL = " OR ".join(["s=u"] * 2_000)  # each row is told by all, and none is kept
+DEAR = [f"SELECT v FROM t WHERE {EQUAL}", f"SELECT COUNT(*) FROM t WHERE {EQUAL}", f"SELECT v, COUNT(*) FROM t WHERE {EQUAL} GROUP BY v"]
+PIECE_WORK = 4  # seconds of work of a worker within which the schema has to be there, and then the seat free: a batch takes ten times as long
+
+
+def pairs_put() -> bytes:
+    """A put of batches of which each row has another pair of two texts of 8,192 bytes, which differ in their last ones."""
+    coded = [trees.field(name, trees.UTF8, dictionary=trees.encoding(id, trees.integer(8, True))) for id, name in enumerate("su")]
+    fields = trees.schema(*coded, trees.field("v", trees.integer(64, True))), b""
+    words = [trees.dictionary(id, trees.batch(WORDS, (0, b"", *trees.texts([b"%s%03d%s" % (b"x" * 8_188, number, end) for number in range(WORDS)]))))
+             for id, end in enumerate((b"a", b"b"))]
+    codes = bytes(row % WORDS for row in range(PIECE)), bytes(row // WORDS % WORDS for row in range(PIECE))
+    rows = trees.batch(PIECE, *((0, b"", part) for part in codes), (0, b"", struct.pack(f"<{PIECE}q", *range(PIECE))))
+    return put_of_messages([fields, *words, *[rows] * PIECES])
+
+
+@case("clients that go away while 2,000 equalities of texts tell the rows or groups of one batch, of 1 worker and of 4: each has the schema, and then its "
+      "only seat is free, long before its batch ends, as the work of a worker tells")
+def gone_while_filtering(run: Run) -> str:
+    most = [0.0, 0.0]
+    for workers in ("1", "4"):
+        with one_seat(run, workers, pairs_put(), PIECES * PIECE) as server:
+            for text in DEAR:
+                taken = (work / int(workers) for work in work_until_free(server, fetch_of(1, 0, PIECES * PIECE, text)))
+                most = [max(*pair) for pair in zip(most, taken)]
+                same(f"{most[0]:.1f} s of work before the schema, and {most[1]:.1f} s behind the client", True, max(most) < PIECE_WORK)
+    return f"at most {most[0]:.1f} s of work before the schema, and {most[1]:.1f} s behind the client"
+
+
 @case("a client that waits before it calls: with --idle 0 its connection stays")
 def patient_server(run: Run) -> None:
     with run.serving("--idle", "0") as server:
