@@ -111,12 +111,12 @@ def many_texts(count):
     return long_texts(count, 16, lambda row: (row % 16, row // 16 % 16))
 
 
-def windows(count):
+def windows(count, table=b"t"):
     """A table of so many rows: their numbers, and 63 columns of small numbers, which are windows on the same bytes."""
     head = schema(field("k", INT32, False), *(field(f"c{number}", INT8, False) for number in range(COLUMNS - 1)))
     body = struct.pack(f"<{count}i", *range(count)) + bytes(row % 100 for row in range(count + 8 * COLUMNS))
     buffers = [(0, 0), (0, 4 * count)] + [place for number in range(COLUMNS - 1) for place in ((0, 0), (4 * count + 8 * number, count))]
-    return put(b"t", [(head, b""), placed(count, [(count, 0)] * COLUMNS, buffers, body)])
+    return put(table, [(head, b""), placed(count, [(count, 0)] * COLUMNS, buffers, body)])
 
 
 # ---- cases
@@ -159,11 +159,14 @@ def cases(rows, keys):
     singles, groups = rows // FEWER, "16,777,216 groups"
     sums, columns = ", ".join(f"SUM(c{number})" for number in range(COLUMNS - 1)), ", ".join(f"c{number}" for number in range(COLUMNS - 1))
     joins = "".join(f" JOIN t AS {place} ON x.k = {place}.k" for place in "yzw")
+    on = " AND ".join(f"u.{column} = t.{column}" for column in ["k", *columns.split(", ")])
     never = f"SELECT x.v FROM t AS x{joins} WHERE x.v < w.v"  # it names the first place and the last one, so it stands above all joins
     return [
         *tickets(rows),
         Case("four places of equal keys, of which no row is kept", [equal_keys(keys)], never, keys, keys**4, "joined row", MOST_KEYS**4, "1,000 keys",
              False),
+        Case("a further place that is hashed by 64 columns", [windows(rows), windows(1, b"u")], f"SELECT u.k FROM u JOIN t ON {on}", 1, rows, "row",
+             MOST_ROWS, "16,777,216 rows"),
         Case("63 sums of a group for each row", [windows(rows)], f"SELECT {sums} FROM t GROUP BY k", rows, rows, "group", MOST_ROWS, groups),
         Case("groups by 63 columns and a number", [windows(rows)], f"SELECT COUNT(*) FROM t GROUP BY {columns}, k", rows, rows, "group", MOST_ROWS, groups),
         Case("a put of batches of one row of 64 columns", [single_rows(b"t", COLUMNS, singles)], None, singles, singles, "row", MOST_ROWS, "16,777,216 rows"),

@@ -255,7 +255,8 @@ def of_text_columns():
 
 
 # BETWEEN and IN of three columns and a literal.
-THREE = [("s", "r", "e", "a"), ("e", "c", "r", "Z"), ("c", "e", "s", "x"), ("i8", "i64", "u8", 1), ("u32", "i16", "d", 2)]
+THREE = [("s", "r", "e", "a"), ("e", "c", "r", "Z"), ("c", "e", "s", "x"), ("i8", "i64", "u8", 1), ("u32", "i16", "d", 2),
+         ("f", "g", "f", True)]
 
 
 def of_lists():

@@ -24,6 +24,7 @@ use arrow_schema::Schema;
 use endpoint_split::{Handle, Range};
 use flight_info::{Planned, plan_text, tables_batch, tables_schema};
 use hash_seed::HashSeed;
+use opened_batches::judging_rows;
 use row_sources::Reading;
 use scan_base::Fault;
 use scan_exec::Scan;
@@ -35,6 +36,9 @@ use work_watch::{Unwatched, Watches};
 
 // How many rows of a place are joined or grouped in no time that shows.
 const FEW_ROWS: usize = 64;
+
+// Behind how many rows who watches long work looks at the client.
+const LOOKED_ROWS: usize = 1_048_576;
 
 // A query that is planned, the range of its first place that is scanned, and what the hashes of its keys begin with.
 pub(crate) struct PlannedScan {
@@ -73,7 +77,8 @@ impl Drop for Meaning {
 }
 
 /// What a handle means, before a row of it is read. Its first payload can be told at once, and making its stream may take long:
-/// the further places of a join are read and hashed then. A contract sees the stream, of which nothing was given.
+/// batches are judged by their statistics then, and the further places of a join are read and hashed. A contract sees the stream,
+/// of which nothing was given.
 pub struct Opening {
     meaning: Meaning,
     // How many workers may make payloads, and how many rows the range has (`FetchStream`).
@@ -167,8 +172,8 @@ impl Opening {
         said_schema(alloc, schema_of(&self.meaning))
     }
 
-    /// Whether its second payload may come late: it joins or makes groups, and a place has more than 64 rows. Contracts say
-    /// nothing of it.
+    /// Whether its second payload may come late. It joins or makes groups, and a place has more than 64 rows; or the judging of its
+    /// batches counts as more than 1,048,576 rows. Contracts say nothing of it.
     pub fn takes_long(&self) -> bool {
         match &self.meaning {
             Meaning::Planned(scan) => scan.takes_long(),
@@ -176,7 +181,7 @@ impl Opening {
         }
     }
 
-    /// The stream. The further places of a join are read here.
+    /// The stream. Batches are judged by their statistics here, and the further places of a join are read.
     ///
     /// # Errors
     ///
@@ -187,7 +192,7 @@ impl Opening {
         self.stream_watched(alloc, &mut Unwatched)
     }
 
-    /// The same, watched: who watches may end it while the further places of a join are read.
+    /// The same, watched: who watches may end it while batches are judged, and while the further places of a join are read.
     ///
     /// # Errors
     ///
@@ -248,8 +253,13 @@ impl PlannedScan {
         Ok(FetchStream::of(seed, nothing, Source::Scanned(scan)))
     }
 
-    // Whether it joins or makes groups, and a place has more than a few rows.
+    // Whether its batches are judged for long, or it joins or makes groups, and a place has more than a few rows.
     fn takes_long(&self) -> bool {
+        judging_rows(&self.plan) > LOOKED_ROWS || self.makes_much()
+    }
+
+    // Whether it joins or makes groups, and a place has more than a few rows.
+    fn makes_much(&self) -> bool {
         let tables = self.plan.tables();
         if tables.len() < 2 && !matches!(self.plan.output(), Output::Groups { .. }) {
             return false;

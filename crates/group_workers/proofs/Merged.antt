@@ -15,8 +15,8 @@ use Rattle.row_sources.specs.Picking.{PickAt, holds}
 use Rattle.group_workers.specs.Merging.{IsPartAt}
 use Rattle.group_workers.specs.Parts.{batches_before}
 use Rattle.group_workers.proofs.Parting.{before_next, none_before}
-use Rattle.scan_exec.specs.GroupWork.{AreGroupsOf, GroupWorkAt, IsPartOf, PartAt, batches_between, part_at, passing}
-use Rattle.scan_exec.proofs.Grouping.{begun_part, between_few, from_first, passing_few}
+use Rattle.scan_exec.specs.GroupWork.{AreGroupsOf, GroupWorkAt, IsPartOf, PartAt, batches_between, part_at, passing, rows_between}
+use Rattle.scan_exec.proofs.Feeding.{begun_part, between_few, from_first, passing_few}
 
 -- groups of the same batches, by the same, are alike
 pub are_alike : (work : GroupWorkAt) (groups other : GroupsAt) (some rows : List Row) → AreGroupsOf work some groups → AreGroupsOf work rows other → IsAlike groups other
@@ -113,8 +113,8 @@ new_are work parts groups none all new = record {
 
 -- a part that is begun is that of its number
 pub begun_at : (work : GroupWorkAt) (parts number from to : ℕ) (result : Result PartAt Fault) → from ≡ batches_before (length work.batches) parts number →
-    to ≡ batches_before (length work.batches) parts (number + 1) → IfOk result (λ part. part ≡ part_at work from from to) → IsPartAt work parts number result
+    to ≡ batches_before (length work.batches) parts (number + 1) → IfOk result (λ part. part ≡ part_at work from to (rows_between from to work.batches)) → IsPartAt work parts number result
 begun_at work parts number from to (Err fault) first last is = tt
 begun_at work parts number from to (Ok part) first last is =
     subst (λ (n : ℕ). IsPartOf work n (batches_before (length work.batches) parts (number + 1)) part) first
-    (subst (λ (n : ℕ). IsPartOf work from n part) last (begun_part work from from to part is))
+    (subst (λ (n : ℕ). IsPartOf work from n part) last (begun_part work from to (rows_between from to work.batches) part is))

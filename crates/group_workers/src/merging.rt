@@ -16,7 +16,7 @@ use work_watch::{Watches, tell};
 // has no more to do, a turn is over too, so no more rows are told than count.
 const TURN_ROWS: usize = 1_048_576;
 
-// Parts of the batches as morsels, each answered by its groups. A worker feeds some of its batches ahead, turn by turn.
+// Parts of the batches as morsels, each answered by its groups. A worker feeds some of its rows ahead, turn by turn.
 #[derive(Clone, Copy, Drop)]
 pub(crate) struct PartGroups<'w, 't> {
     pub(crate) work: &'w GroupWork<'t>,
@@ -109,7 +109,7 @@ fn merge_parts<'t, P: Answers<Result<FedPart<'t>, Fault>>, L: Watches>(
     };
     let mut groups = first;
     while let Some(part) = next_groups(alloc, work, answers, &mut untold, watch)? {
-        groups.merge(alloc, part)?;
+        groups.merge(alloc, part, watch)?;
     }
     Ok(groups)
 }

@@ -1,6 +1,6 @@
 //! Groups of rows.
 
-ghost use Rattle.std.specs.Prelude.{◌≡◌, ◌≤◌, ◌+◌, ◌<◌, All, IfOk, length, map};
+ghost use Rattle.std.specs.Prelude.{◌≡◌, ◌≤◌, ◌+◌, ◌<◌, All, IfOk, OnOk, length, map};
 ghost use Rattle.std.specs.Option.{ForNone};
 ghost use Rattle.scan_base.specs.Limits.{most_rows};
 ghost use Rattle.arrays.specs.Batch.{row_of};
@@ -8,7 +8,7 @@ ghost use Rattle.grouping.specs.Answers.{Finishes};
 ghost use Rattle.grouping.specs.Fed.{AreTyped, HasItems, IsAlike, IsNew, Feeds, Merges, batch_at};
 
 use crate::answers::Answers;
-use crate::kept::{Kept, add, blank, found_count, join};
+use crate::kept::{Kept, add, blank, found_count};
 use crate::known::SPREAD;
 use crate::seen::SeenBatch;
 use crate::table::Chosen;
@@ -21,6 +21,7 @@ use scan_base::Fault;
 use std::alloc::{AllocError, Global};
 use std::marker::Model;
 use typed_plan::Aggregate;
+use work_watch::Watches;
 
 /// What is grouped: batches, the types of their columns, the numbers of those that are the key, and the items that are
 /// wanted of each group.
@@ -154,15 +155,25 @@ impl<'t> Groups<'t> {
         self.kept.known = Vec::new(*self.kept.known.allocator());
     }
 
-    /// Takes the groups of other rows of the same batches behind the own: each joins that of its key, or stands last.
+    /// Takes the groups of other rows of the same batches behind the own: each joins that of its key, or stands last. Who watches is
+    /// told of the other groups, and may end it: behind each 65,536, where each counts as often as the key has columns, and again
+    /// behind the tallies of each item.
     ///
     /// # Errors
     ///
-    /// What refused either; F21 (`Fault::OutOfMemory`) where memory is refused. It is answered from then on.
-    pub fn merge(&mut self, alloc: Global, other: Groups<'t>) -> Result<(), Fault>
+    /// What refused either; F21 (`Fault::OutOfMemory`) where memory is refused, or who watches ends it. It is answered from then on.
+    pub fn merge<W: Watches>(
+        &mut self,
+        alloc: Global,
+        other: Groups<'t>,
+        watch: &mut W,
+    ) -> Result<(), Fault>
         requires alike { IsAlike self.old other }
         requires few { ForNone self.old.refused (ForNone other.refused (self.old.count + other.count ≤ most_rows)) }
-        ensures { Merges self.old other.entry result self.new }
+        requires ready { W.ready watch.old }
+        ensures merged { Merges self.old other.entry result self.new }
+        ensures ready { OnOk result (W.ready watch.new) }
+        ensures watched { W.watched watch.old watch.new }
     {
         if let Some(fault) = self.refused {
             return Err(fault);
@@ -171,7 +182,7 @@ impl<'t> Groups<'t> {
             self.refused = Some(fault);
             return Err(fault);
         }
-        match join(alloc, &self.shape, &mut self.kept, &other.kept) {
+        match self.kept.join(alloc, &self.shape, &other.kept, watch) {
             Ok(()) => Ok(()),
             Err(_) => {
                 self.refused = Some(Fault::OutOfMemory);

@@ -17,90 +17,126 @@ use first_rows::FirstRows;
 use group_slots::{ItemTallies, Tally, widened};
 use std::alloc::{AllocError, Global};
 use typed_plan::Aggregate;
+use work_watch::{Watches, tell};
 
-/// The tallies of other groups, the group that each joins, and how many rows were fed here and there.
+// Behind so many groups that joined, who watches is told of them.
+const PIECE_GROUPS: usize = 65_536;
+
+/// The tallies of other groups, and the group that each joins. How many groups were found in all, and how many rows were fed here
+/// and there.
 #[derive(Clone, Copy, Drop)]
 pub(crate) struct Others<'p> {
     pub(crate) tallies: &'p [ItemTallies],
     pub(crate) groups: &'p [usize],
+    pub(crate) found: usize,
     pub(crate) fed: usize,
     pub(crate) more: usize,
 }
 
-/// The group that each of other first rows joins, or opens behind all others; without columns there is one group.
+impl<'t> Grouping<'t> {
+    /// The group that each of other first rows joins, or opens behind all others; without columns there is one group. Behind each
+    /// 65,536 groups who watches is told of them, and may end it. A group counts as often as the key has columns.
+    ///
+    /// # Errors
+    ///
+    /// `AllocError` where memory is refused, or who watches ends it.
+    pub(crate) fn join_firsts<W: Watches>(
+        &self,
+        alloc: Global,
+        firsts: &mut FirstRows<'t>,
+        others: &FirstRows<'t>,
+        watch: &mut W,
+    ) -> Result<Vec<usize>, AllocError>
+        requires others { All (IsFirst self.now.batches.now self.now.keys.now) others.now.keys }
+        requires ready { W.ready watch.old }
+        ensures found { OnOk result (found_by self.now.keys.now firsts.new.keys
+            ≡ insert_all same_key (found_by self.now.keys.now firsts.old.keys) (found_by self.now.keys.now others.now.keys)) }
+        ensures joined { IfOk result (λ groups. AreJoined (found_by self.now.keys.now firsts.new.keys) (found_by self.now.keys.now others.now.keys) groups.items
+            (length (found_by self.now.keys.now others.now.keys))) }
+        ensures firsts { OnOk result (FirstsJoin firsts.old.keys others.now.keys firsts.new.keys) }
+        ensures ready { OnOk result (W.ready watch.new) }
+        ensures watched { W.watched watch.old watch.new }
+    {
+        if self.keys.is_empty() {
+            let mut groups = Vec::with_capacity(alloc, 1)?;
+            groups.push(0)?;
+            return Ok(groups);
+        }
+        self.join_each(alloc, firsts, others, watch)
+    }
+
+    // The group that each of these first rows joins, or opens behind all others. A text is looked at once for its code in a batch.
+    fn join_each<W: Watches>(
+        &self,
+        alloc: Global,
+        firsts: &mut FirstRows<'t>,
+        others: &FirstRows<'t>,
+        watch: &mut W,
+    ) -> Result<Vec<usize>, AllocError>
+        requires others { All (IsFirst self.now.batches.now self.now.keys.now) others.now.keys }
+        requires ready { W.ready watch.old }
+        ensures found { OnOk result (map key_of firsts.new.keys ≡ insert_all same_key (map key_of firsts.old.keys) (map key_of others.now.keys)) }
+        ensures joined { IfOk result (λ groups. AreJoined (map key_of firsts.new.keys) (map key_of others.now.keys) groups.items (length (map key_of others.now.keys))) }
+        ensures firsts { OnOk result (FirstsJoin firsts.old.keys others.now.keys firsts.new.keys) }
+        ensures ready { OnOk result (W.ready watch.new) }
+        ensures watched { W.watched watch.old watch.new }
+    {
+        let columns = self.keys.len();
+        let mut seen = SeenBatch::new(alloc, firsts.seed(), columns);
+        let mut groups = Vec::with_capacity(alloc, others.len())?;
+        for place in 0..others.len() {
+            let other = others.get(place);
+            seen.turn_to(other.number);
+            groups.push(firsts.insert_seen(&mut seen.numbers, other)?)?;
+            tell_piece(watch, place, columns)?;
+        }
+        Ok(groups)
+    }
+}
+
+// Tells who watches of a piece of groups, where the group at this place is the last one of it. Each counts so often.
+fn tell_piece<W: Watches>(watch: &mut W, place: usize, weight: usize) -> Result<(), AllocError>
+    requires ready { W.ready watch.old }
+    ensures ready { OnOk result (W.ready watch.new) }
+    ensures watched { W.watched watch.old watch.new }
+{
+    if place % PIECE_GROUPS == PIECE_GROUPS - 1 {
+        return tell(watch, weight.saturating_mul(PIECE_GROUPS));
+    }
+    Ok(())
+}
+
+/// Adds each of other tallies to the tally of its group, for each item. Behind each item who watches is told of as many rows as there
+/// are other groups, and may end it.
 ///
 /// # Errors
 ///
-/// `AllocError` where memory is refused.
-pub(crate) fn join_firsts<'t>(
-    alloc: Global,
-    shape: &Grouping<'t>,
-    firsts: &mut FirstRows<'t>,
-    others: &FirstRows<'t>,
-) -> Result<Vec<usize>, AllocError>
-    requires others { All (IsFirst shape.now.batches.now shape.now.keys.now) others.now.keys }
-    ensures found { OnOk result (found_by shape.now.keys.now firsts.new.keys
-        ≡ insert_all same_key (found_by shape.now.keys.now firsts.old.keys) (found_by shape.now.keys.now others.now.keys)) }
-    ensures joined { IfOk result (λ groups. AreJoined (found_by shape.now.keys.now firsts.new.keys) (found_by shape.now.keys.now others.now.keys) groups.items
-        (length (found_by shape.now.keys.now others.now.keys))) }
-    ensures firsts { OnOk result (FirstsJoin firsts.old.keys others.now.keys firsts.new.keys) }
-{
-    if shape.keys.is_empty() {
-        let mut groups = Vec::with_capacity(alloc, 1)?;
-        groups.push(0)?;
-        return Ok(groups);
-    }
-    join_each(alloc, shape, firsts, others)
-}
-
-// The group that each of these first rows joins, or opens behind all others. A text is looked at once for its code in a batch.
-fn join_each<'t>(
-    alloc: Global,
-    shape: &Grouping<'t>,
-    firsts: &mut FirstRows<'t>,
-    others: &FirstRows<'t>,
-) -> Result<Vec<usize>, AllocError>
-    requires others { All (IsFirst shape.now.batches.now shape.now.keys.now) others.now.keys }
-    ensures found { OnOk result (map key_of firsts.new.keys ≡ insert_all same_key (map key_of firsts.old.keys) (map key_of others.now.keys)) }
-    ensures joined { IfOk result (λ groups. AreJoined (map key_of firsts.new.keys) (map key_of others.now.keys) groups.items (length (map key_of others.now.keys))) }
-    ensures firsts { OnOk result (FirstsJoin firsts.old.keys others.now.keys firsts.new.keys) }
-{
-    let mut seen = SeenBatch::new(alloc, firsts.seed(), shape.keys.len());
-    let mut groups = Vec::with_capacity(alloc, others.len())?;
-    for place in 0..others.len() {
-        let other = others.get(place);
-        seen.turn_to(other.number);
-        groups.push(firsts.insert_seen(&mut seen.numbers, other)?)?;
-    }
-    Ok(groups)
-}
-
-/// Adds each of other tallies to the tally of its group, of so many groups that were found, for each item.
-///
-/// # Errors
-///
-/// `AllocError` where memory is refused.
-pub(crate) fn join_all(
+/// `AllocError` where memory is refused, or who watches ends it.
+pub(crate) fn join_all<W: Watches>(
     tallies: &mut [ItemTallies],
     items: &[Aggregate],
     others: &Others<'_>,
-    found: usize,
+    watch: &mut W,
 ) -> Result<(), AllocError>
-    requires grouped { All (λ group. group < found) others.now.groups.now }
+    requires grouped { All (λ group. group < others.now.found) others.now.groups.now }
     requires few { others.now.fed + others.now.more ≤ most_rows }
-    requires kept { (before : ℕ) × (before ≤ found) × IsKept items.now before others.now.fed (lists_of tallies.old) }
+    requires kept { (before : ℕ) × (before ≤ others.now.found) × IsKept items.now before others.now.fed (lists_of tallies.old) }
     requires others { IsKept items.now (length others.now.groups.now) others.now.more (lists_of others.now.tallies.now) }
-    ensures joined { OnOk result (AllJoined others.now.groups.now (lists_of others.now.tallies.now) found (others.now.fed + others.now.more)
+    requires ready { W.ready watch.old }
+    ensures joined { OnOk result (AllJoined others.now.groups.now (lists_of others.now.tallies.now) others.now.found (others.now.fed + others.now.more)
         (lists_of tallies.old) (lists_of tallies.new) (length items.now)) }
-    ensures kept { OnOk result (IsKept items.now found (others.now.fed + others.now.more) (lists_of tallies.new)) }
+    ensures kept { OnOk result (IsKept items.now others.now.found (others.now.fed + others.now.more) (lists_of tallies.new)) }
+    ensures ready { OnOk result (W.ready watch.new) }
+    ensures watched { W.watched watch.old watch.new }
 {
     for item in 0..items.len() {
         join_item(
             &mut tallies[item],
             &others.tallies[item],
             others.groups,
-            found,
+            others.found,
         )?;
+        tell(watch, others.groups.len())?;
     }
     Ok(())
 }

@@ -18,7 +18,7 @@ ghost use Rattle.grouping.specs.inside.Seeing.{AreSeenOf};
 
 use crate::coded::place_by_codes;
 use crate::groups::Grouping;
-use crate::joined::{Others, join_all, join_firsts};
+use crate::joined::{Others, join_all};
 use crate::known::{Known, know_nothing, known_count};
 use crate::seen::SeenBatch;
 use crate::table::{Chosen, groups_of};
@@ -26,6 +26,7 @@ use first_rows::FirstRows;
 use group_slots::{ItemTallies, Part, add_all};
 use std::alloc::{AllocError, Global};
 use typed_plan::Aggregate;
+use work_watch::Watches;
 
 // For fewer rows no entries are made.
 const LEAST_ROWS: usize = 16;
@@ -129,43 +130,50 @@ fn make_known(known: &mut Vec<Known>, found: usize, rows: usize) -> Result<(), A
     Ok(())
 }
 
-/// Takes in what is kept of other rows: each group joins that of its key, or stands last.
-///
-/// # Errors
-///
-/// `AllocError` where memory is refused.
-pub(crate) fn join<'t>(
-    alloc: Global,
-    shape: &Grouping<'t>,
-    kept: &mut Kept<'t>,
-    other: &Kept<'t>,
-) -> Result<(), AllocError>
-    requires few { kept.old.count + other.now.count ≤ most_rows }
-    requires firsts { All (IsFirst shape.now.batches.now shape.now.keys.now) other.now.firsts.keys }
-    requires kept { IsKept shape.now.items.now (length (found_by shape.now.keys.now kept.old.firsts.keys)) kept.old.count (lists_of kept.old.tallies.items) }
-    requires other { IsKept shape.now.items.now (length (found_by shape.now.keys.now other.now.firsts.keys)) other.now.count (lists_of other.now.tallies.items) }
-    ensures merged { OnOk result (IsMerged (found_by shape.now.keys.now kept.old.firsts.keys) (found_by shape.now.keys.now other.now.firsts.keys)
-        (found_by shape.now.keys.now kept.new.firsts.keys) (length shape.now.items.now) (kept.old.count + other.now.count)
-        (lists_of other.now.tallies.items) (lists_of kept.old.tallies.items) (lists_of kept.new.tallies.items)) }
-    ensures count { OnOk result (kept.new.count ≡ kept.old.count + other.now.count) }
-    ensures kept { OnOk result (IsKept shape.now.items.now (length (found_by shape.now.keys.now kept.new.firsts.keys)) kept.new.count (lists_of kept.new.tallies.items)) }
-    ensures firsts { OnOk result (FirstsJoin kept.old.firsts.keys other.now.firsts.keys kept.new.firsts.keys) }
-    ensures known { OnOk result (AreKnown value_tagged (map key_of kept.new.firsts.keys) kept.new.known.items) }
-    ensures seen { OnOk result (kept.new.seen.numbers.places.items ≡ []) }
-{
-    kept.seen.numbers.forget();
-    know_nothing(&mut kept.known, 0)?;
-    let groups = join_firsts(alloc, shape, &mut kept.firsts, &other.firsts)?;
-    let found = found_count(shape.keys, &kept.firsts);
-    let others = Others {
-        tallies: other.tallies.as_slice(),
-        groups: groups.as_slice(),
-        fed: kept.count,
-        more: other.count,
-    };
-    join_all(kept.tallies.as_mut_slice(), shape.items, &others, found)?;
-    kept.count += other.count;
-    Ok(())
+impl<'t> Kept<'t> {
+    /// Takes in what is kept of other rows: each group joins that of its key, or stands last. Who watches may end it.
+    ///
+    /// # Errors
+    ///
+    /// `AllocError` where memory is refused, or who watches ends it.
+    pub(crate) fn join<W: Watches>(
+        &mut self,
+        alloc: Global,
+        shape: &Grouping<'t>,
+        other: &Kept<'t>,
+        watch: &mut W,
+    ) -> Result<(), AllocError>
+        requires few { self.old.count + other.now.count ≤ most_rows }
+        requires firsts { All (IsFirst shape.now.batches.now shape.now.keys.now) other.now.firsts.keys }
+        requires kept { IsKept shape.now.items.now (length (found_by shape.now.keys.now self.old.firsts.keys)) self.old.count (lists_of self.old.tallies.items) }
+        requires other { IsKept shape.now.items.now (length (found_by shape.now.keys.now other.now.firsts.keys)) other.now.count (lists_of other.now.tallies.items) }
+        requires ready { W.ready watch.old }
+        ensures merged { OnOk result (IsMerged (found_by shape.now.keys.now self.old.firsts.keys) (found_by shape.now.keys.now other.now.firsts.keys)
+            (found_by shape.now.keys.now self.new.firsts.keys) (length shape.now.items.now) (self.old.count + other.now.count)
+            (lists_of other.now.tallies.items) (lists_of self.old.tallies.items) (lists_of self.new.tallies.items)) }
+        ensures count { OnOk result (self.new.count ≡ self.old.count + other.now.count) }
+        ensures kept { OnOk result (IsKept shape.now.items.now (length (found_by shape.now.keys.now self.new.firsts.keys)) self.new.count (lists_of self.new.tallies.items)) }
+        ensures firsts { OnOk result (FirstsJoin self.old.firsts.keys other.now.firsts.keys self.new.firsts.keys) }
+        ensures known { OnOk result (AreKnown value_tagged (map key_of self.new.firsts.keys) self.new.known.items) }
+        ensures seen { OnOk result (self.new.seen.numbers.places.items ≡ []) }
+        ensures ready { OnOk result (W.ready watch.new) }
+        ensures watched { W.watched watch.old watch.new }
+    {
+        self.seen.numbers.forget();
+        know_nothing(&mut self.known, 0)?;
+        let groups = shape.join_firsts(alloc, &mut self.firsts, &other.firsts, watch)?;
+        let found = found_count(shape.keys, &self.firsts);
+        let others = Others {
+            tallies: other.tallies.as_slice(),
+            groups: groups.as_slice(),
+            found,
+            fed: self.count,
+            more: other.count,
+        };
+        join_all(self.tallies.as_mut_slice(), shape.items, &others, watch)?;
+        self.count += other.count;
+        Ok(())
+    }
 }
 
 /// How many groups there are.

@@ -1,11 +1,13 @@
 -- Inside: rows that were seen, each with the bucket of its key.
 use Rattle.std.specs.Prelude.{◌≡◌, ◌≤◌, ◌<◌, ℕ, List, All, Option, Some, length}
 use Rattle.hash_join.specs.declared.chains.OpenChains.{OpenChains}
+use Rattle.hash_join.specs.declared.chains.OpenRepeats.{OpenRepeats}
 use Rattle.hash_join.specs.declared.digests.SeenDigest.{SeenDigest}
 use Rattle.hash_join.specs.declared.rights.Rights.{Rights}
 use Rattle.hash_join.specs.declared.seen.SeenRow.{SeenRow}
 use Rattle.hash_join.specs.declared.seen.SeenRows.{SeenRows}
-use Rattle.hash_join.specs.Chains.{HasLinked}
+use Rattle.hash_join.specs.Chains.{AreRepeats, HasLinked}
+use Rattle.hash_join.specs.Compared.{HaveCompared}
 use Rattle.hash_join.specs.Hashes.{last_of}
 use Rattle.hash_join.specs.Rights.{bucket_at, digest_at}
 
@@ -31,3 +33,8 @@ pub record AreKept (buckets : ℕ → Option ℕ) (last count : ℕ) (digests : 
 pub record AreOpen (rights : Rights) (chains : OpenChains) (from : ℕ) : Type 0 where
   pub linked : HasLinked rights chains.heads.items chains.links.items from
   pub seen : AreKept (bucket_at rights) (last_of rights.buckets) (length rights.places.items) (digest_at rights) chains.seen
+
+-- the rows that say so have the key of the next, and what is kept of right rows that were compared is so
+pub record AreOpenRepeats (rights : Rights) (links : List ℕ) (found : OpenRepeats) : Type 0 where
+  pub repeats : AreRepeats rights links found.repeats.items
+  pub compared : HaveCompared rights found.compared

@@ -1,10 +1,11 @@
 //! The right side of a join, and the left rows that look for theirs in it.
 
-ghost use Rattle.std.specs.Prelude.{◌≡◌, ◌≤◌, ◌<◌, ◌++◌, ◌^◌, [], All, IfOk, IsTrue, OnErr, length, nat_lt};
+ghost use Rattle.std.specs.Prelude.{◌≡◌, ◌≤◌, ◌<◌, ◌++◌, ◌^◌, [], All, IfOk, IsTrue, OnErr, OnOk, length, nat_lt};
 ghost use Rattle.std.specs.List.{list_all};
 ghost use Rattle.scan_base.specs.Limits.{most_rows};
 ghost use Rattle.arrays.specs.Batch.{BatchAt};
 ghost use Rattle.hash_join.specs.Pairs.{places, pairs_ahead};
+ghost use Rattle.work_watch.specs.Told.{ToldAtLeast};
 
 use crate::chains::Chains;
 use crate::compared::{Compared, Made};
@@ -15,6 +16,14 @@ use arrays::Batch;
 use hash_seed::HashSeed;
 use std::alloc::{AllocError, Global};
 use std::marker::Model;
+use work_watch::{Watches, tell};
+
+/// The batches of the right side of a join, and the numbers of the columns that are its key.
+#[derive(Drop)]
+pub struct RightSide {
+    pub batches: Vec<Batch>,
+    pub key: Vec<usize>,
+}
 
 /// The batches of the right side of a join, and its rows by the values of their key. A contract sees the batches and the
 /// numbers of the columns that are the key.
@@ -70,24 +79,31 @@ impl Probe {
 }
 
 impl Build {
-    /// The right side of these batches, whose rows join by these of their columns. Their hashes begin with the seed.
+    /// The right side of these batches, whose rows join by these of their columns. Their hashes begin with the seed. Who watches is
+    /// told of the rows, and may end it, behind each 65,536 rows at the latest. A row counts as often as the key has parts.
     ///
     /// # Errors
     ///
-    /// `AllocError` where memory is refused.
-    pub fn new(
+    /// `AllocError` where memory is refused, or who watches ends it.
+    pub fn new<W: Watches>(
         alloc: Global,
         seed: HashSeed,
-        batches: Vec<Batch>,
-        key: Vec<usize>,
+        right: RightSide,
+        watch: &mut W,
     ) -> Result<Build, AllocError>
-        requires there { All (λ (batch : BatchAt). IsTrue (list_all (λ column. nat_lt column (length batch.columns)) key.items)) batches.items }
-        requires few { length (places batches.items) ≤ most_rows }
-        requires counted { length batches.items ≤ most_rows }
-        ensures { IfOk result (λ build. build ≡ record { batches = batches.items; key = key.items }) }
+        requires there { All (λ (batch : BatchAt). IsTrue (list_all (λ column. nat_lt column (length batch.columns)) right.key.items)) right.batches.items }
+        requires few { length (places right.batches.items) ≤ most_rows }
+        requires counted { length right.batches.items ≤ most_rows }
+        requires ready { W.ready watch.old }
+        ensures build { IfOk result (λ build. build ≡ record { batches = right.batches.items; key = right.key.items }) }
+        ensures ready { OnOk result (W.ready watch.new) }
+        ensures watched { W.watched watch.old watch.new }
+        ensures told { OnOk result (ToldAtLeast W.told (length (places right.batches.items)) watch.old watch.new) }
     {
+        let RightSide { batches, key } = right;
         let rights = Rights::new(alloc, seed, batches, key)?;
-        let chains = Chains::new(alloc, &rights)?;
+        tell(watch, rights.places.len())?;
+        let chains = Chains::new(alloc, &rights, watch)?;
         Ok(Build { rights, chains })
     }
 

@@ -1,14 +1,20 @@
 //! Chains of the right rows whose keys are of one bucket.
 
-ghost use Rattle.std.specs.Prelude.{◌≡◌, ◌+◌, ◌<◌, IfOk, false, length, replicate};
+ghost use Rattle.std.specs.Prelude.{◌≡◌, ◌+◌, ◌≤◌, ◌<◌, IfOk, OnOk, false, length, replicate};
 ghost use Rattle.hash_join.specs.Rights.{AreRights};
 ghost use Rattle.hash_join.specs.Chains.{AreRepeats, HasChains};
-ghost use Rattle.hash_join.specs.Seen.{AreOpen};
+ghost use Rattle.hash_join.specs.Seen.{AreOpen, AreOpenRepeats};
+ghost use Rattle.work_watch.specs.Told.{ToldAtLeast};
 
+use crate::compared::Compared;
 use crate::right_rows::RightRows;
 use crate::rights::Rights;
 use crate::seen::SeenRows;
 use std::alloc::{AllocError, Global};
+use work_watch::{Watches, tell};
+
+// Behind so many rows who watches may end the work.
+const WATCHED_ROWS: usize = 65_536;
 
 // For each bucket the first row of its chain, and for each row the next of its chain, in rising order; the number of rows
 // where there is none. A row with a null in its key stands in no chain. For each row also whether the next of its chain surely
@@ -31,27 +37,27 @@ impl Drop for Chains {
 }
 
 impl Chains {
-    // The chains of all rows. They are linked from the last one down, so that each chain rises.
-    pub(crate) fn new(alloc: Global, rights: &Rights) -> Result<Chains, AllocError>
-        requires { AreRights rights.now }
-        ensures { IfOk result (λ chains. HasChains rights.now chains) }
+    // The chains of all rows, watched.
+    pub(crate) fn new<W: Watches>(
+        alloc: Global,
+        rights: &Rights,
+        watch: &mut W,
+    ) -> Result<Chains, AllocError>
+        requires whole { AreRights rights.now }
+        requires ready { W.ready watch.old }
+        ensures chains { IfOk result (λ chains. HasChains rights.now chains) }
+        ensures ready { OnOk result (W.ready watch.new) }
+        ensures watched { W.watched watch.old watch.new }
+        ensures told { OnOk result (ToldAtLeast W.told (length rights.now.places.items) watch.old watch.new) }
     {
-        let rows = rights.places.len();
-        let mut heads = Vec::new(alloc);
-        heads.resize(rights.buckets.last() + 1, rows as u32)?;
-        let mut links = Vec::new(alloc);
-        links.resize(rows, 0u32)?;
-        let seen = rights.seen_rows(alloc)?;
-        let mut chains = OpenChains { heads, links, seen };
-        for row in (0..rows).rev() {
-            chains.link_row(rights, row);
-        }
+        let mut chains = OpenChains::new(alloc, rights)?;
+        chains.link_all(rights, watch)?;
         let OpenChains {
             heads,
             links,
             seen: _,
         } = chains;
-        let repeats = repeats_of(alloc, rights, &links)?;
+        let repeats = repeats_of(alloc, rights, &links, watch)?;
         Ok(Chains {
             heads,
             links,
@@ -60,22 +66,33 @@ impl Chains {
     }
 }
 
-// For each row whether the one that its link names surely has the same key. Only keys that are hashed are looked at: those of
-// numbers are soon compared.
-fn repeats_of(alloc: Global, rights: &Rights, links: &[u32]) -> Result<Vec<bool>, AllocError>
+// For each row whether the one that its link names surely has the same key, watched. Only keys that are hashed are looked at: those
+// of numbers are soon compared.
+fn repeats_of<W: Watches>(
+    alloc: Global,
+    rights: &Rights,
+    links: &[u32],
+    watch: &mut W,
+) -> Result<Vec<bool>, AllocError>
     requires whole { AreRights rights.now }
     requires all { length links.now ≡ length rights.now.places.items }
-    ensures { IfOk result (λ repeats. AreRepeats rights.now links.now repeats.items) }
+    requires ready { W.ready watch.old }
+    ensures repeats { IfOk result (λ repeats. AreRepeats rights.now links.now repeats.items) }
+    ensures ready { OnOk result (W.ready watch.new) }
+    ensures watched { W.watched watch.old watch.new }
+    ensures told { OnOk result (ToldAtLeast W.told 0 watch.old watch.new) }
 {
-    let rows = rights.places.len();
-    let mut repeats = no_repeats(alloc, rows)?;
-    if !rights.are_hashed() {
-        return Ok(repeats);
+    let mut open = OpenRepeats {
+        repeats: no_repeats(alloc, rights.places.len())?,
+        compared: rights.compared(alloc),
+    };
+    if rights.are_hashed() {
+        open.look_at_all(rights, links, watch)?;
     }
-    let mut compared = rights.compared(alloc);
-    for row in 0..rows {
-        repeats[row] = rights.is_repeat(row, links[row] as usize, &mut compared);
-    }
+    let OpenRepeats {
+        repeats,
+        compared: _,
+    } = open;
     Ok(repeats)
 }
 
@@ -96,6 +113,53 @@ struct OpenChains {
 }
 
 impl OpenChains {
+    // Chains without a row yet.
+    fn new(alloc: Global, rights: &Rights) -> Result<OpenChains, AllocError>
+        requires { AreRights rights.now }
+        ensures { IfOk result (λ chains. AreOpen rights.now chains (length rights.now.places.items)) }
+    {
+        let rows = rights.places.len();
+        let mut heads = Vec::new(alloc);
+        heads.resize(rights.buckets.last() + 1, rows as u32)?;
+        let mut links = Vec::new(alloc);
+        links.resize(rows, 0u32)?;
+        let seen = rights.seen_rows(alloc)?;
+        Ok(OpenChains { heads, links, seen })
+    }
+
+    // Links all rows, from the last one down, so that each chain rises. Behind each piece of them who watches may end it.
+    fn link_all<W: Watches>(&mut self, rights: &Rights, watch: &mut W) -> Result<(), AllocError>
+        requires whole { AreRights rights.now }
+        requires none { AreOpen rights.now self.old (length rights.now.places.items) }
+        requires ready { W.ready watch.old }
+        ensures linked { OnOk result (AreOpen rights.now self.new 0) }
+        ensures ready { OnOk result (W.ready watch.new) }
+        ensures watched { W.watched watch.old watch.new }
+        ensures told { OnOk result (ToldAtLeast W.told (length rights.now.places.items) watch.old watch.new) }
+    {
+        let mut from = rights.places.len();
+        while from > 0 {
+            let to = from;
+            from = to.saturating_sub(WATCHED_ROWS);
+            self.link_rows(rights, from, to);
+            tell(watch, rights.weighted_rows(to - from))?;
+        }
+        Ok(())
+    }
+
+    // Links the rows from one up to, not with, another, of which the last is linked first.
+    fn link_rows(&mut self, rights: &Rights, from: usize, to: usize)
+        requires whole { AreRights rights.now }
+        requires ordered { from ≤ to }
+        requires within { to ≤ length rights.now.places.items }
+        requires linked { AreOpen rights.now self.old to }
+        ensures { AreOpen rights.now self.new from }
+    {
+        for row in (from..to).rev() {
+            self.link_row(rights, row);
+        }
+    }
+
     // Links a row, where it has a bucket, before those after it.
     fn link_row(&mut self, rights: &Rights, row: usize)
         requires whole { AreRights rights.now }
@@ -107,6 +171,55 @@ impl OpenChains {
         if let Some(bucket) = self.seen.bucket(&rows, row) {
             self.links[row] = self.heads[bucket];
             self.heads[bucket] = row as u32;
+        }
+    }
+}
+
+// Which rows were found to have the key of the next of their chain, and what was compared for that.
+#[derive(Drop)]
+struct OpenRepeats {
+    repeats: Vec<bool>,
+    compared: Compared,
+}
+
+impl OpenRepeats {
+    // Looks at all rows. Behind each piece of them who watches may end it.
+    fn look_at_all<W: Watches>(
+        &mut self,
+        rights: &Rights,
+        links: &[u32],
+        watch: &mut W,
+    ) -> Result<(), AllocError>
+        requires whole { AreRights rights.now }
+        requires all { length links.now ≡ length rights.now.places.items }
+        requires repeats { AreOpenRepeats rights.now links.now self.old }
+        requires ready { W.ready watch.old }
+        ensures repeats { AreOpenRepeats rights.now links.now self.new }
+        ensures ready { OnOk result (W.ready watch.new) }
+        ensures watched { W.watched watch.old watch.new }
+        ensures told { OnOk result (ToldAtLeast W.told (length rights.now.places.items) watch.old watch.new) }
+    {
+        let rows = rights.places.len();
+        let mut to = 0;
+        while to < rows {
+            let from = to;
+            to = rows.min(from + WATCHED_ROWS);
+            self.look_at_rows(rights, links, from, to);
+            tell(watch, rights.weighted_rows(to - from))?;
+        }
+        Ok(())
+    }
+
+    // Looks at the rows from one up to, not with, another.
+    fn look_at_rows(&mut self, rights: &Rights, links: &[u32], from: usize, to: usize)
+        requires whole { AreRights rights.now }
+        requires all { length links.now ≡ length rights.now.places.items }
+        requires within { to ≤ length rights.now.places.items }
+        requires repeats { AreOpenRepeats rights.now links.now self.old }
+        ensures { AreOpenRepeats rights.now links.now self.new }
+    {
+        for row in from..to {
+            self.repeats[row] = rights.is_repeat(row, links[row] as usize, &mut self.compared);
         }
     }
 }

@@ -26,5 +26,5 @@ mod sieve;
 mod spans;
 mod walk;
 
-pub use crate::build::{Build, LeftSide, Probe};
+pub use crate::build::{Build, LeftSide, Probe, RightSide};
 pub use crate::pair::Pair;

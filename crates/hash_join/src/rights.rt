@@ -108,6 +108,13 @@ impl Rights {
         }
     }
 
+    // What so many rows count as where they are hashed: a row counts once for each part of its key, and once at least.
+    pub(crate) fn weighted_rows(&self, rows: usize) -> usize
+        ensures { rows ≤ result }
+    {
+        rows.saturating_mul(self.key.len().max(1))
+    }
+
     // Tables for the buckets and the digests of rows that are seen, without a row yet. They have places where keys are hashed, and
     // some batch has codes.
     pub(crate) fn seen_rows(&self, alloc: Global) -> Result<SeenRows, AllocError>

@@ -1,12 +1,13 @@
 //! Joins of left batches with the rows of a right side.
 
-ghost use Rattle.std.specs.Prelude.{◌≡◌, ◌≤◌, ◌<◌, [], All, IfOk, IsTrue, false, length, nat_lt, true};
+ghost use Rattle.std.specs.Prelude.{◌≡◌, ◌≤◌, ◌<◌, [], All, IfOk, IsTrue, OnOk, false, length, nat_lt, true};
 ghost use Rattle.std.specs.Arc.{arc_value};
 ghost use Rattle.std.specs.List.{list_all, flat_map, range_with_len};
 ghost use Rattle.scan_base.specs.Limits.{most_rows};
 ghost use Rattle.arrays.specs.Batch.{BatchAt, rows_of};
 ghost use Rattle.arrays.specs.Typed.{AreOf};
 ghost use Rattle.hash_join.specs.Pairs.{places};
+ghost use Rattle.work_watch.specs.Told.{ToldAtLeast};
 ghost use Rattle.array_select.specs.Room.{most_batch_rows};
 ghost use Rattle.join_batches.specs.Built.{AreBuilt, unfed};
 ghost use Rattle.join_batches.specs.Joiner.{JoinsNext, JoinsShown, joined_of, joined_types};
@@ -17,11 +18,12 @@ use array_select::MOST_BATCH_ROWS;
 use arrays::Batch;
 use arrow_schema::DataType;
 use batch_room::{next_most, tried_rows};
-use hash_join::{Build, Probe};
+use hash_join::{Build, Probe, RightSide};
 use hash_seed::HashSeed;
 use std::alloc::{AllocError, Global};
 use std::marker::Model;
 use std::sync::Arc;
+use work_watch::Watches;
 
 /// The types of the columns of a side of a join, and the numbers of those that are the key.
 #[derive(Drop)]
@@ -35,6 +37,13 @@ pub struct JoinSide {
 pub struct JoinSides {
     pub left: JoinSide,
     pub right: JoinSide,
+}
+
+/// Both sides of a join, and the seed with which the hashes of their keys begin.
+#[derive(Drop)]
+pub struct SeededSides {
+    pub sides: JoinSides,
+    pub seed: HashSeed,
 }
 
 // What never changes of a join: the types of both sides, their keys, and the right rows by their keys. Joiners share it.
@@ -60,8 +69,9 @@ impl Drop for BuiltSides {
 pub struct Joiner {
     sides: Arc<BuiltSides>,
     left: LeftPairs,
-    // As many rows as the next batch is tried with.
+    // As many rows as the next batch is tried with, and as any batch has at most.
     most: usize,
+    bound: usize,
 }
 
 // Written out, so that dropping it is one call (docs/DECISIONS.md).
@@ -71,6 +81,7 @@ impl Drop for Joiner {
             sides: _,
             left: _,
             most: _,
+            bound: _,
         } = self;
     }
 }
@@ -89,35 +100,40 @@ impl Model for Joiner {
 
 impl Joiner {
     /// The join of left batches with the rows of the right batches, in order, by the keys of both sides. No left batch
-    /// is there yet. The hashes begin with the seed.
+    /// is there yet. Who watches is told of the right rows while they are hashed, and may end it.
     ///
     /// # Errors
     ///
-    /// `AllocError` where memory is refused.
-    pub fn new(
+    /// `AllocError` where memory is refused, or who watches ends it.
+    pub fn new<W: Watches>(
         alloc: Global,
-        seed: HashSeed,
-        sides: JoinSides,
+        seeded: SeededSides,
         batches: Vec<Batch>,
+        watch: &mut W,
     ) -> Result<Joiner, AllocError>
-        requires typed { All (λ (batch : BatchAt). AreOf sides.right.types.items batch.columns) batches.items }
+        requires typed { All (λ (batch : BatchAt). AreOf seeded.sides.right.types.items batch.columns) batches.items }
         requires few { length (places batches.items) ≤ most_rows }
         requires counted { length batches.items ≤ most_rows }
-        requires alike { length sides.left.key.items ≡ length sides.right.key.items }
-        requires left { IsTrue (list_all (λ column. nat_lt column (length sides.left.types.items)) sides.left.key.items) }
-        requires right { IsTrue (list_all (λ column. nat_lt column (length sides.right.types.items)) sides.right.key.items) }
-        ensures { IfOk result (λ joiner. joiner ≡ record {
-          left_types = sides.left.types.items;
-          right_types = sides.right.types.items;
-          left_key = sides.left.key.items;
-          right_key = sides.right.key.items;
+        requires alike { length seeded.sides.left.key.items ≡ length seeded.sides.right.key.items }
+        requires left { IsTrue (list_all (λ column. nat_lt column (length seeded.sides.left.types.items)) seeded.sides.left.key.items) }
+        requires right { IsTrue (list_all (λ column. nat_lt column (length seeded.sides.right.types.items)) seeded.sides.right.key.items) }
+        requires ready { W.ready watch.old }
+        ensures joiner { IfOk result (λ joiner. joiner ≡ record {
+          left_types = seeded.sides.left.types.items;
+          right_types = seeded.sides.right.types.items;
+          left_key = seeded.sides.left.key.items;
+          right_key = seeded.sides.right.key.items;
           rights = flat_map rows_of batches.items;
           ahead = [];
         }) }
+        ensures ready { OnOk result (W.ready watch.new) }
+        ensures watched { W.watched watch.old watch.new }
+        ensures told { OnOk result (ToldAtLeast W.told (length (places batches.items)) watch.old watch.new) }
     {
+        let SeededSides { sides, seed } = seeded;
         let JoinSides { left, right } = sides;
         let JoinSide { types, key } = right;
-        let build = Build::new(alloc, seed, batches, key)?;
+        let build = Build::new(alloc, seed, RightSide { batches, key }, watch)?;
         let sides = BuiltSides {
             left,
             right_types: types,
@@ -159,7 +175,16 @@ impl Joiner {
                 given: 0,
             },
             most: MOST_BATCH_ROWS,
+            bound: MOST_BATCH_ROWS,
         }
+    }
+
+    /// From now on a batch has no more than so many joined rows, or one where that is none. Without this call it is 65,536. What is
+    /// to be given stays.
+    pub fn bound_rows(&mut self, most: usize)
+        ensures { self.new ≡ self.old }
+    {
+        self.bound = most;
     }
 
     /// Joins a left batch next: all joined rows of the one before were given.
@@ -230,7 +255,8 @@ impl Joiner {
             rights: built.build.batches(),
             right_types: built.right_types.as_slice(),
         };
-        let tried = tried_rows(pairs.len(), shown.len(), self.most);
+        let most = self.most.min(self.bound);
+        let tried = tried_rows(pairs.len(), shown.len(), most);
         let joined = sides.joined(alloc, shown, &pairs[..tried])?;
         self.left.given += joined.rows();
         self.most = next_most(self.most, tried, joined.rows());

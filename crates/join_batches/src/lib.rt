@@ -6,4 +6,4 @@ mod left;
 mod placed;
 mod sides;
 
-pub use crate::joiner::{JoinSide, JoinSides, Joiner};
+pub use crate::joiner::{JoinSide, JoinSides, Joiner, SeededSides};

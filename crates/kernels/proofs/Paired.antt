@@ -1,13 +1,14 @@
--- Numbers of two columns, compared 64 at a time.
-use Rattle.std.proofs.Common.{◌≡◌, ℤ, Bool, true, false, not, ◌&&◌, if◌then◌else◌, cond, int_lt, refl, sym, ap, ◌∙◌}
-use Rattle.std.specs.Ordering.{int_cmp, int_eq, is_eq, is_ne, is_lt, is_gt, is_le, is_ge}
+-- Numbers and truth values of two columns, compared 64 at a time.
+use Rattle.std.proofs.Common.{◌≡◌, ℤ, Bool, true, false, not, ◌&&◌, ◌||◌, if◌then◌else◌, cond, int_lt, refl, sym, ap, ◌∙◌}
+use Rattle.std.specs.Ordering.{bool_cmp, int_cmp, int_eq, is_eq, is_ne, is_lt, is_gt, is_le, is_ge}
 use Rattle.std.specs.declared.cmp.Ordering.TheVariants.{Less, Equal, Greater}
 use Rattle.scan_base.specs.declared.comparison.Comparison.{Comparison}
 use Rattle.scan_base.specs.declared.truth.Truth.TheVariants.{Unknown}
-use Rattle.scan_base.specs.declared.value.Value.TheVariants.{Null, Int}
+use Rattle.scan_base.specs.declared.value.Value.TheVariants.{Null, Int, Bool as Flag}
 use Rattle.scan_base.specs.Comparison.{compared, satisfies}
 use Rattle.scan_base.specs.Truth.{truth_from}
 use Rattle.kernels.specs.Words.{by_bits}
+use Rattle.kernels.proofs.Bits.{xor}
 use Rattle.kernels.proofs.Orders.{apart, at_least_by, at_most_by, equal_range, le_not_lt, other_range}
 use Rattle.kernels.proofs.TypeEnds.{equal_within}
 
@@ -55,3 +56,49 @@ pair_row comparison passes true true x y is = when_known passes ∙ ap truth_fro
 pair_row comparison passes true false x y is = when_not passes
 pair_row comparison passes false true x y is = when_not passes
 pair_row comparison passes false false x y is = when_not passes
+
+pub flag_row : (comparison : Comparison) (passes left right x y : Bool) → passes ≡ satisfies comparison (bool_cmp x y) →
+    by_bits passes (left && right) ≡ compared comparison (if left then Flag x else Null) (if right then Flag y else Null)
+flag_row comparison passes true true x y is = when_known passes ∙ ap truth_from is
+flag_row comparison passes true false x y is = when_not passes
+flag_row comparison passes false true x y is = when_not passes
+flag_row comparison passes false false x y is = when_not passes
+
+-- truth values by their bits, where FALSE is below TRUE
+pub flag_equal : (x y : Bool) → not (xor x y) ≡ is_eq (bool_cmp x y)
+unfolding xor
+flag_equal true true = refl
+flag_equal true false = refl
+flag_equal false true = refl
+flag_equal false false = refl
+
+pub flag_other : (x y : Bool) → xor x y ≡ is_ne (bool_cmp x y)
+unfolding xor
+flag_other true true = refl
+flag_other true false = refl
+flag_other false true = refl
+flag_other false false = refl
+
+pub flag_less : (x y : Bool) → (not x && y) ≡ is_lt (bool_cmp x y)
+flag_less true true = refl
+flag_less true false = refl
+flag_less false true = refl
+flag_less false false = refl
+
+pub flag_at_most : (x y : Bool) → (not x || y) ≡ is_le (bool_cmp x y)
+flag_at_most true true = refl
+flag_at_most true false = refl
+flag_at_most false true = refl
+flag_at_most false false = refl
+
+pub flag_greater : (x y : Bool) → (x && not y) ≡ is_gt (bool_cmp x y)
+flag_greater true true = refl
+flag_greater true false = refl
+flag_greater false true = refl
+flag_greater false false = refl
+
+pub flag_at_least : (x y : Bool) → (x || not y) ≡ is_ge (bool_cmp x y)
+flag_at_least true true = refl
+flag_at_least true false = refl
+flag_at_least false true = refl
+flag_at_least false false = refl

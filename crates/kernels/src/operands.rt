@@ -1,11 +1,10 @@
 //! Operands that are compared: columns, literals and dates. BETWEEN and IN by their comparisons.
 
-ghost use Rattle.std.specs.Prelude.{◌≡◌, ℕ, IsTrue, length, nat_lt, IfOk, IfSome};
+ghost use Rattle.std.specs.Prelude.{◌≡◌, ℕ, IsTrue, length, nat_lt, IfOk};
 ghost use Rattle.std.specs.List.{list_all};
 ghost use Rattle.scan_base.specs.Comparison.{compared};
 ghost use Rattle.scan_base.specs.Predicate.{any_equal, operand_names, operand_value, within};
-ghost use Rattle.scan_base.specs.Value.{value_of};
-ghost use Rattle.scan_base.specs.declared.value.Value.{Value};
+ghost use Rattle.kernels.specs.Leaves.{IsSideOf};
 ghost use Rattle.kernels.specs.Parts.{AreRows, cell_of, said_in};
 
 use crate::compare::{compare_part, compare_parts, exchanged};
@@ -15,84 +14,72 @@ use crate::same::values_compared;
 use scan_base::{Comparison, Operand, Truth, ValueRef};
 use std::alloc::{AllocError, Global};
 
-/// The truths of `left comparison right`, where a kernel knows the columns.
+/// `left comparison right`.
+#[derive(Clone, Copy, Drop)]
+pub(crate) struct Compared<'a> {
+    pub(crate) comparison: Comparison,
+    pub(crate) left: &'a Operand<usize>,
+    pub(crate) right: &'a Operand<usize>,
+}
+
+/// The ends of a BETWEEN.
+#[derive(Clone, Copy, Drop)]
+pub(crate) struct Bounds<'a> {
+    pub(crate) low: &'a Operand<usize>,
+    pub(crate) high: &'a Operand<usize>,
+}
+
+/// A side of a comparison: the number of a column, or the value in each row.
+#[derive(Clone, Copy, Drop)]
+enum Side<'a> {
+    Column(usize),
+    Value(ValueRef<'a>),
+}
+
+fn side_of(operand: &Operand<usize>) -> Side<'_>
+    ensures { IsSideOf operand.now result }
+{
+    match operand {
+        Operand::Column(number) => Side::Column(*number),
+        Operand::Literal(value) => Side::Value(value.borrowed()),
+        Operand::Date(day) => Side::Value(ValueRef::Int(i128::from(*day))),
+    }
+}
+
+/// The truths of a comparison.
 ///
 /// # Errors
 ///
 /// `AllocError` where memory is refused.
 pub(crate) fn compare_leaf(
     alloc: Global,
-    comparison: Comparison,
-    left: &Operand<usize>,
-    right: &Operand<usize>,
+    leaf: &Compared<'_>,
     rows: &RowRange<'_>,
-) -> Result<Option<Mask>, AllocError>
+) -> Result<Mask, AllocError>
     requires there { AreRows rows.now }
-    requires left { IsTrue (operand_names (λ column. nat_lt column (length rows.now.columns.read.now)) left.now) }
-    requires right { IsTrue (operand_names (λ column. nat_lt column (length rows.now.columns.read.now)) right.now) }
-    ensures { IfOk result (λ found. IfSome found (λ mask. mask
-        ≡ said_in (λ row. compared comparison (operand_value (cell_of rows.now row) left.now) (operand_value (cell_of rows.now row) right.now)) rows.now)) }
+    requires left { IsTrue (operand_names (λ column. nat_lt column (length rows.now.columns.read.now)) leaf.now.left.now) }
+    requires right { IsTrue (operand_names (λ column. nat_lt column (length rows.now.columns.read.now)) leaf.now.right.now) }
+    ensures { IfOk result (λ mask. mask
+        ≡ said_in (λ row. compared leaf.now.comparison (operand_value (cell_of rows.now row) leaf.now.left.now) (operand_value (cell_of rows.now row) leaf.now.right.now)) rows.now) }
 {
-    match (left, right) {
-        (Operand::Column(number), Operand::Literal(value)) => {
-            compare_part(alloc, &rows.part(*number), comparison, value.borrowed())
+    let comparison = leaf.comparison;
+    match (side_of(leaf.left), side_of(leaf.right)) {
+        (Side::Column(number), Side::Value(value)) => {
+            compare_part(alloc, &rows.part(number), comparison, value)
         }
-        (Operand::Literal(value), Operand::Column(number)) => {
-            compare_part(
-                alloc,
-                &rows.part(*number),
-                exchanged(comparison),
-                value.borrowed(),
-            )
+        (Side::Value(value), Side::Column(number)) => {
+            compare_part(alloc, &rows.part(number), exchanged(comparison), value)
         }
-        (Operand::Column(number), Operand::Date(day)) => {
-            let day = ValueRef::Int(i128::from(*day));
-            compare_part(alloc, &rows.part(*number), comparison, day)
+        (Side::Column(left), Side::Column(right)) => {
+            compare_parts(alloc, comparison, &rows.part(left), &rows.part(right))
         }
-        (Operand::Date(day), Operand::Column(number)) => {
-            let day = ValueRef::Int(i128::from(*day));
-            compare_part(alloc, &rows.part(*number), exchanged(comparison), day)
+        (Side::Value(left), Side::Value(right)) => {
+            values_compared(alloc, comparison, left, right, rows)
         }
-        (Operand::Column(left), Operand::Column(right)) => {
-            compare_parts(alloc, comparison, &rows.part(*left), &rows.part(*right))
-        }
-        _ => constants_compared(alloc, comparison, left, right, rows),
     }
 }
 
-// The same of two literals or dates: one truth for all rows.
-fn constants_compared(
-    alloc: Global,
-    comparison: Comparison,
-    left: &Operand<usize>,
-    right: &Operand<usize>,
-    rows: &RowRange<'_>,
-) -> Result<Option<Mask>, AllocError>
-    requires there { AreRows rows.now }
-    ensures { IfOk result (λ found. IfSome found (λ mask. mask
-        ≡ said_in (λ row. compared comparison (operand_value (cell_of rows.now row) left.now) (operand_value (cell_of rows.now row) right.now)) rows.now)) }
-{
-    match (constant(left), constant(right)) {
-        (Some(left), Some(right)) => {
-            let mask = values_compared(alloc, comparison, left, right, rows)?;
-            Ok(Some(mask))
-        }
-        _ => Ok(None),
-    }
-}
-
-// The value that an operand has in each row, if it is a literal or a date.
-fn constant(operand: &Operand<usize>) -> Option<ValueRef<'_>>
-    ensures { IfSome result (λ value. (cell : ℕ → Value) → operand_value cell operand.now ≡ value_of value) }
-{
-    match operand {
-        Operand::Literal(value) => Some(value.borrowed()),
-        Operand::Date(day) => Some(ValueRef::Int(i128::from(*day))),
-        Operand::Column(_) => None,
-    }
-}
-
-/// The truths of `operand >= low AND operand <= high`, where a kernel knows both.
+/// The truths of `operand >= low AND operand <= high`.
 ///
 /// # Errors
 ///
@@ -100,29 +87,32 @@ fn constant(operand: &Operand<usize>) -> Option<ValueRef<'_>>
 pub(crate) fn both_compared(
     alloc: Global,
     operand: &Operand<usize>,
-    low: &Operand<usize>,
-    high: &Operand<usize>,
+    bounds: &Bounds<'_>,
     rows: &RowRange<'_>,
-) -> Result<Option<Mask>, AllocError>
+) -> Result<Mask, AllocError>
     requires there { AreRows rows.now }
     requires named { IsTrue (operand_names (λ column. nat_lt column (length rows.now.columns.read.now)) operand.now) }
-    requires low { IsTrue (operand_names (λ column. nat_lt column (length rows.now.columns.read.now)) low.now) }
-    requires high { IsTrue (operand_names (λ column. nat_lt column (length rows.now.columns.read.now)) high.now) }
-    ensures { IfOk result (λ found. IfSome found (λ mask. mask
+    requires low { IsTrue (operand_names (λ column. nat_lt column (length rows.now.columns.read.now)) bounds.now.low.now) }
+    requires high { IsTrue (operand_names (λ column. nat_lt column (length rows.now.columns.read.now)) bounds.now.high.now) }
+    ensures { IfOk result (λ mask. mask
         ≡ said_in (λ row. within (operand_value (cell_of rows.now row) operand.now)
-        (operand_value (cell_of rows.now row) low.now) (operand_value (cell_of rows.now row) high.now)) rows.now)) }
+        (operand_value (cell_of rows.now row) bounds.now.low.now) (operand_value (cell_of rows.now row) bounds.now.high.now)) rows.now) }
 {
-    let above = compare_leaf(alloc, Comparison::GreaterOrEqual, operand, low, rows)?;
-    let Some(above) = above else {
-        return Ok(None);
+    let above = Compared {
+        comparison: Comparison::GreaterOrEqual,
+        left: operand,
+        right: bounds.low,
     };
-    match compare_leaf(alloc, Comparison::LessOrEqual, operand, high, rows)? {
-        Some(below) => Ok(Some(above.and(&below))),
-        None => Ok(None),
-    }
+    let below = Compared {
+        comparison: Comparison::LessOrEqual,
+        left: operand,
+        right: bounds.high,
+    };
+    let mask = compare_leaf(alloc, &above, rows)?;
+    Ok(mask.and(&compare_leaf(alloc, &below, rows)?))
 }
 
-/// The OR of the truths of `operand = item`, where a kernel knows each.
+/// The OR of the truths of `operand = item`.
 ///
 /// # Errors
 ///
@@ -132,20 +122,21 @@ pub(crate) fn any_compared(
     operand: &Operand<usize>,
     items: &[Operand<usize>],
     rows: &RowRange<'_>,
-) -> Result<Option<Mask>, AllocError>
+) -> Result<Mask, AllocError>
     requires there { AreRows rows.now }
     requires named { IsTrue (operand_names (λ column. nat_lt column (length rows.now.columns.read.now)) operand.now) }
     requires items { IsTrue (list_all (operand_names (λ column. nat_lt column (length rows.now.columns.read.now))) items.now) }
-    ensures { IfOk result (λ found. IfSome found (λ mask. mask
-        ≡ said_in (λ row. any_equal (cell_of rows.now row) (operand_value (cell_of rows.now row) operand.now) items.now) rows.now)) }
+    ensures { IfOk result (λ mask. mask
+        ≡ said_in (λ row. any_equal (cell_of rows.now row) (operand_value (cell_of rows.now row) operand.now) items.now) rows.now) }
 {
     let mut mask = Mask::of(alloc, Truth::False, rows.len)?;
     for index in (0..items.len()).rev() {
-        let equal = compare_leaf(alloc, Comparison::Equal, operand, &items[index], rows)?;
-        let Some(equal) = equal else {
-            return Ok(None);
+        let equal = Compared {
+            comparison: Comparison::Equal,
+            left: operand,
+            right: &items[index],
         };
-        mask = equal.or(&mask);
+        mask = compare_leaf(alloc, &equal, rows)?.or(&mask);
     }
-    Ok(Some(mask))
+    Ok(mask)
 }

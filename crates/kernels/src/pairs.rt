@@ -1,14 +1,16 @@
-//! Columns of numbers that are compared with each other.
+//! Columns that are compared with each other: 64 numbers or truth values at once, and other values one after another.
 
 ghost use Rattle.std.specs.Prelude.{◌≡◌, ◌≤◌, ◌<◌, ◌+◌, ◌*◌, ◌^◌, ℕ, pos, int_lt, FitsSigned, length, get_or, IfSome};
 ghost use Rattle.std.specs.Int.{w128};
 ghost use Rattle.std.specs.Ordering.{int_cmp, int_eq};
-ghost use Rattle.scan_base.specs.Comparison.{satisfies};
+ghost use Rattle.scan_base.specs.Comparison.{compared, satisfies};
+ghost use Rattle.arrays.specs.Column.{slot_of};
 ghost use Rattle.arrays.specs.Number.{element_at, integer_at};
 ghost use Rattle.kernels.specs.Pairs.{HasNumbers};
 ghost use Rattle.kernels.specs.Parts.{IsPart};
-ghost use Rattle.kernels.specs.Words.{bit};
+ghost use Rattle.kernels.specs.Words.{bit, HasTruths};
 
+use crate::flag_pairs::{compared_bits, flag_word};
 use crate::kernel::{Kernel, Slots, slot_by_slot};
 use crate::longs::valid_word;
 use crate::pack::pack;
@@ -55,14 +57,32 @@ impl<'a> Kernel for Pairs<'a> {
         let mut lefts = [0i128; 64];
         let mut rights = [0i128; 64];
         let Some(left) = fill_numbers(self.left, from, &mut lefts) else {
-            return slot_by_slot(self, from, 64);
+            return self.other_word(from);
         };
         let Some(right) = fill_numbers(self.right, from, &mut rights) else {
-            return slot_by_slot(self, from, 64);
+            return self.other_word(from);
         };
         Word {
             truths: compared_block(self.comparison, &lefts, &rights),
             knowns: left & right,
+        }
+    }
+}
+
+impl<'a> Pairs<'a> {
+    // The truths of the 64 slots from `from` on, where not both columns hold numbers: of truth values by words, and of others
+    // one by one.
+    fn other_word(&self, from: usize) -> Word
+        requires { from + 64 ≤ self.now.count }
+        ensures { HasTruths (λ row. compared self.now.comparison (slot_of self.now.left.now row) (slot_of self.now.right.now row)) from 64 result }
+    {
+        let _count = self.count;
+        match (flag_word(self.left, from), flag_word(self.right, from)) {
+            (Some(left), Some(right)) => Word {
+                truths: compared_bits(self.comparison, left.truths, right.truths),
+                knowns: left.knowns & right.knowns,
+            },
+            _ => slot_by_slot(self, from, 64),
         }
     }
 }
@@ -88,14 +108,6 @@ pub(crate) fn pairs_of<'a>(
         right: right.column,
         comparison,
         count: left.from + left.len,
-    }
-}
-
-/// Whether a column holds numbers.
-pub(crate) fn has_numbers(column: &Column) -> bool {
-    match column.layout() {
-        Layout::Integers(_) | Layout::Decimals(_) => true,
-        _ => false,
     }
 }
 

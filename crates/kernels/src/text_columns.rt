@@ -1,8 +1,7 @@
 //! Columns of texts, row by row.
 
 ghost use Rattle.std.specs.Prelude.{◌≡◌, ◌≤◌, ◌<◌, ◌+◌, ◌^◌, ℕ, true, length, IfSome};
-ghost use Rattle.scan_base.specs.Value.{value_of};
-ghost use Rattle.arrays.specs.Column.{ColumnAt, slot_of};
+ghost use Rattle.arrays.specs.Column.{slot_of};
 ghost use Rattle.arrays.specs.Indices.{index_stands};
 ghost use Rattle.arrays.specs.declared.layout.Layout.TheVariants.{Texts as TextsLayout, Indices as IndicesLayout};
 ghost use Rattle.kernels.specs.Ranges.{validity_count};
@@ -11,19 +10,9 @@ ghost use Rattle.kernels.specs.TextPairs.{indices_into, value_of_code};
 use crate::among::Packed;
 use crate::dictionaries::packed_indices;
 use crate::longs::is_valid;
+use crate::row_values::RowValues;
 use arrays::{Cells, Column, Dictionary, Indices, TextsRef};
 use scan_base::ValueRef;
-
-/// A column of texts.
-pub(crate) trait TextColumn {
-    /// The column.
-    ghost column: { Self → ColumnAt };
-
-    /// The text of a row, or null.
-    fn value_at(&self, row: usize) -> ValueRef<'_>
-        requires { row < (column self.now).len }
-        ensures { value_of result ≡ slot_of (column self.now) row };
-}
 
 /// A column whose texts are its own.
 #[derive(Drop)]
@@ -52,10 +41,10 @@ impl<'a> PlainTexts<'a> {
     }
 }
 
-impl<'a> TextColumn for PlainTexts<'a> {
+impl<'a> RowValues for PlainTexts<'a> {
     ghost column = { λ s. s.column.now };
 
-    fn value_at(&self, row: usize) -> ValueRef<'_> {
+    fn value_in(&self, row: usize) -> ValueRef<'_> {
         let place = self.first + row;
         if !is_valid(self.cells.validity(), place) {
             return ValueRef::Null;
@@ -106,10 +95,10 @@ impl<'a> CodedTexts<'a> {
     }
 }
 
-impl<'a> TextColumn for CodedTexts<'a> {
+impl<'a> RowValues for CodedTexts<'a> {
     ghost column = { λ s. s.column.now };
 
-    fn value_at(&self, row: usize) -> ValueRef<'_> {
+    fn value_in(&self, row: usize) -> ValueRef<'_> {
         match self.code(row) {
             Some(code) => self.dictionary.get(code).unwrap_or(ValueRef::Null),
             None => ValueRef::Null,

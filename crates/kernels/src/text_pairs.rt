@@ -9,7 +9,8 @@ ghost use Rattle.kernels.specs.Parts.{IsPart};
 use crate::kernel::{Kernel, Slots, mask_by, slot_by_slot};
 use crate::mask::Mask;
 use crate::part::ColumnPart;
-use crate::text_columns::{CodedTexts, PlainTexts, TextColumn};
+use crate::row_values::RowValues;
+use crate::text_columns::{CodedTexts, PlainTexts};
 use crate::word::Word;
 use arrays::{Cells, Layout};
 use scan_base::{Comparison, Truth};
@@ -17,7 +18,7 @@ use std::alloc::{AllocError, Global};
 
 /// Two columns of texts; each text of the one is compared with that of the same row of the other.
 #[derive(Drop)]
-pub(crate) struct TextPairs<'a, L: TextColumn, R: TextColumn> {
+pub(crate) struct TextPairs<'a, L: RowValues, R: RowValues> {
     pub(crate) left: &'a L,
     pub(crate) right: &'a R,
     pub(crate) comparison: Comparison,
@@ -26,7 +27,7 @@ pub(crate) struct TextPairs<'a, L: TextColumn, R: TextColumn> {
     ghost rights: { count ≤ (R.column right.now).len },
 }
 
-impl<'a, L: TextColumn, R: TextColumn> Slots for TextPairs<'a, L, R> {
+impl<'a, L: RowValues, R: RowValues> Slots for TextPairs<'a, L, R> {
     ghost use Rattle.scan_base.specs.Comparison.{compared};
     ghost use Rattle.arrays.specs.Column.{slot_of};
 
@@ -36,12 +37,12 @@ impl<'a, L: TextColumn, R: TextColumn> Slots for TextPairs<'a, L, R> {
 
     fn truth(&self, place: usize) -> Truth {
         let _count = self.count;
-        let left = self.left.value_at(place);
-        left.compare(self.comparison, self.right.value_at(place))
+        let left = self.left.value_in(place);
+        left.compare(self.comparison, self.right.value_in(place))
     }
 }
 
-impl<'a, L: TextColumn, R: TextColumn> Kernel for TextPairs<'a, L, R> {
+impl<'a, L: RowValues, R: RowValues> Kernel for TextPairs<'a, L, R> {
     type Cell = &'a str;
 
     fn word(&self, from: usize) -> Word {

@@ -15,7 +15,7 @@ use Rattle.typed_plan.specs.Plan.{Tree, scan, filtered, joined}
 use Rattle.typed_plan.specs.Typed.{IsTypedTree, has_columns}
 use Rattle.opened_batches.specs.declared.opened.OpenedList.{OpenedList}
 use Rattle.opened_batches.specs.Listed.{AreLists, AreWhole, IsListOf}
-use Rattle.opened_batches.specs.Opened.{first_numbers, further_numbers, given_width, numbers_behind, place_opened, scans_of}
+use Rattle.opened_batches.specs.Opened.{batches_in, first_numbers, further_numbers, given_width, judged_count, numbers_behind, place_opened, scans_of, whole_count}
 
 -- each scan gives columns of its table
 abbrev pub Fit : List Columns → List Schema → Type 0
@@ -122,6 +122,31 @@ module _ (parts : List (Pred ℕ)) (from to : ℕ) where
   drop_at (first ∷ xs) (suc i) x h is =
       let e : suc (i + 1) ≡ suc i + 1 = omega arith in
       drop_at xs i x (omega (arith, h)) is ∙ ap (λ (n : ℕ). x ∷ drop n (first ∷ xs)) e
+
+  -- how many batches of the places from this one on have a row that is read
+  abbrev pub count_from : ℕ → List TableAt → ℕ
+  count_from place [] = 0
+  count_from place (table ∷ tables) = length (batches_in (begin_at place) (end_at place table) table.batches) + count_from (suc place) tables
+
+  pub count_next : (tables : List TableAt) (place : ℕ) (table : TableAt) → place < length tables → table ≡ get_or tables place table →
+      count_from place (drop place tables)
+      ≡ length (batches_in (begin_at place) (end_at place table) table.batches) + count_from (place + 1) (drop (place + 1) tables)
+  count_next tables place table there is =
+      let e : suc place ≡ place + 1 = omega arith in
+      ap (count_from place) (drop_at tables place table there is)
+      ∙ ap (λ (n : ℕ). length (batches_in (begin_at place) (end_at place table) table.batches) + count_from n (drop (place + 1) tables)) e
+
+  pub count_none : (tables : List TableAt) (place : ℕ) → length tables ≤ place → count_from place (drop place tables) ≡ 0
+  count_none tables place h = ap (count_from place) (drop_all place tables h)
+
+  count_whole : (place : ℕ) (tables : List TableAt) → count_from (suc place) tables ≡ whole_count tables
+  count_whole place [] = refl
+  count_whole place (table ∷ tables) =
+      ap (λ (n : ℕ). length (batches_in 0 (length (table_of table).rows) table.batches) + n) (count_whole (suc place) tables)
+
+  pub count_all : (tables : List TableAt) → count_from 0 tables ≡ judged_count from to tables
+  count_all [] = refl
+  count_all (table ∷ tables) = ap (λ (n : ℕ). length (batches_in from to table.batches) + n) (count_whole 0 tables)
 
   -- one place more
   pub begun_more : (scans : List Columns) (tables : List TableAt) (place first : ℕ) (lists news : List OpenedList) (columns : Columns) (table : TableAt) (list : OpenedList) →

@@ -1,6 +1,6 @@
 -- The list of the batches that are opened, as it grows.
-use Rattle.std.proofs.Common.{◌≡◌, ◌≤◌, ◌<◌, ◌⊎◌, inl, inr, ℕ, ◌+◌, ◌-◌, ◌==◌, ◌&&◌, ◌++◌, Bool, true, false, if◌then◌else◌, List, [], ◌∷◌, length, max, min, nat_lt, slice_get, Option, Some, refl, sym, ap, ◌∙◌, arith}
-use Rattle.std.specs.List.{flat_map, list_all}
+use Rattle.std.proofs.Common.{◌≡◌, ◌≤◌, ◌<◌, ◌⊎◌, inl, inr, ℕ, ◌+◌, ◌-◌, ◌==◌, ◌&&◌, ◌++◌, Bool, true, false, if◌then◌else◌, List, [], ◌∷◌, length, max, min, nat_lt, slice_get, Option, Some, refl, sym, ap, ◌∙◌, arith, length-append}
+use Rattle.std.specs.List.{filter, flat_map, list_all, range_with_len}
 use Rattle.std.specs.Option.{option_to_list}
 use Rattle.std.proofs.lemmas.Bool.{and_from, lt-ltb, le-ltb}
 use Rattle.std.proofs.Math.Dec.{eqb-suc-zero}
@@ -17,7 +17,7 @@ use Rattle.opened_batches.specs.declared.opened.OpenedList.{OpenedList}
 use Rattle.opened_batches.specs.Chosen.{are_within}
 use Rattle.opened_batches.specs.Listed.{IsListOf}
 use Rattle.opened_batches.specs.Narrow.{batches_at, narrowed_from, narrowed_to}
-use Rattle.opened_batches.specs.Opened.{given_columns, has_row_in}
+use Rattle.opened_batches.specs.Opened.{batches_in, given_columns, has_row_in}
 use Rattle.opened_batches.specs.inside.Judged.{all_can, is_judged, judged_before}
 use Rattle.opened_batches.proofs.Judging.{passes, fails, none_behind, none_before}
 use Rattle.opened_batches.proofs.Standing.{grows, in_all, batch_is, start_next, start_few}
@@ -51,6 +51,12 @@ module _ (batches : List BatchAt) where
       narrowed_to to batches (numbers ++ i ∷ []) ≡ narrowed_to to batches numbers + (min (rows_before batches (i + 1)) to - rows_before batches i)
   to_last to [] i = omega arith
   to_last to (number ∷ numbers) i = omega (arith, to_last to numbers i)
+
+-- ---- the batches that are judged
+
+-- how many of the batches before this one have a row that is read
+abbrev pub read_before : ℕ → ℕ → TableAt → ℕ → ℕ
+read_before begin end table index = length (filter (has_row_in begin end table.batches) (range_with_len 0 index))
 
 -- ---- the list up to a batch
 
@@ -99,6 +105,17 @@ module _ (parts : List (Pred ℕ)) (first : ℕ) (columns : Columns) (begin end 
       ap (λ (b : Bool). b && list_all (λ (batch : BatchAt). all_can parts first (given_columns columns batch.columns)) (option_to_list (slice_get table.batches k)))
       (le-ltb (max (rows_before table.batches k) begin) (min (rows_before table.batches (k + 1)) end) (omega (arith, h, within)))))
 
+  -- nor one before the range, nor any of an empty one
+  pub unread : (index : ℕ) → rows_before table.batches index ≤ begin → read_before begin end table index ≡ 0
+  unread index h = ap length (none_before (has_row_in begin end table.batches) index
+      (λ k high. let order = grows table.batches (k + 1) index (omega (arith, high)) in
+      le-ltb (max (rows_before table.batches k) begin) (min (rows_before table.batches (k + 1)) end) (omega (arith, order, h))))
+
+  pub none_read : min end (length (table_of table).rows) ≤ begin → length (batches_in begin end table.batches) ≡ 0
+  none_read h = ap length (none_before (has_row_in begin end table.batches) (length table.batches)
+      (λ k high. let within = in_all table.batches (k + 1) (omega (arith, high)) in
+      le-ltb (max (rows_before table.batches k) begin) (min (rows_before table.batches (k + 1)) end) (omega (arith, h, within))))
+
   module _ (standing : BatchesAreRows) (index start last : ℕ) (list : OpenedList) (so_far : IsSoFar parts first columns begin end table index start list)
       (is_last : last ≡ min end (length (table_of table).rows)) where
     module _ (batch : BatchAt) (there : slice_get table.batches index ≡ Some batch) (some : 0 < batch.rows) (before : begin < last) (more : start < last) where
@@ -126,6 +143,12 @@ module _ (parts : List (Pred ℕ)) (first : ℕ) (columns : Columns) (begin end 
               (omega (arith, h, next, so_far.at, more, some, is_last))
           by (inr h) = lt-ltb (max (rows_before table.batches index) begin) (min (rows_before table.batches (index + 1)) end)
               (omega (arith, h, next, so_far.at, more, some, is_last, before))
+
+      -- one more is judged
+      pub one_read : read_before begin end table (index + 1) ≡ read_before begin end table index + 1
+      one_read =
+          ap length (passes (has_row_in begin end table.batches) index touched)
+          ∙ length-append (filter (has_row_in begin end table.batches) (range_with_len 0 index)) (index ∷ [])
 
       judged : (truth : Bool) → truth ≡ all_can parts first (given_columns columns batch.columns) → is_judged parts first columns begin end table index ≡ (truth && true)
       judged truth e =
@@ -182,6 +205,11 @@ module _ (parts : List (Pred ℕ)) (first : ℕ) (columns : Columns) (begin end 
           by olds n e news is = e ∙ sym (ap (narrowed_to end table.batches) is)
 
     -- behind the last one
+    pub all_read : last ≤ start → length (batches_in begin end table.batches) ≡ read_before begin end table index
+    all_read done = ap length (none_behind (has_row_in begin end table.batches) index (length table.batches) so_far.inside
+        (λ k low high. let order = grows table.batches index k low in let within = in_all table.batches (k + 1) (omega (arith, high)) in
+        le-ltb (max (rows_before table.batches k) begin) (min (rows_before table.batches (k + 1)) end) (omega (arith, order, within, so_far.at, done, is_last))))
+
     pub all_listed : last ≤ start → length (table_of table).rows ≤ most_rows →
         (list.numbers.items ≡ judged_before parts first columns begin end table (length table.batches)) × IsListOf begin end table list
     all_listed done few =

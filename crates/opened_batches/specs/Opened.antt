@@ -102,3 +102,13 @@ abbrev pub opened_numbers : BoundAt → ℕ → ℕ → List (List ℕ)
 opened_numbers bound from to =
     let tree = (plan_of bound).tree in
     first_numbers (where_parts tree) from to (scans_of tree) bound.tables ∷ further_numbers (where_parts tree) (scans_of tree) bound.tables
+
+-- how many batches of these tables have a row
+abbrev pub whole_count : List TableAt → ℕ
+whole_count [] = 0
+whole_count (table ∷ tables) = length (batches_in 0 (length (table_of table).rows) table.batches) + whole_count tables
+
+-- how many batches have a row that is read: of the first table one of the rows `from` up to, not with, `to`, of each other one any
+abbrev pub judged_count : ℕ → ℕ → List TableAt → ℕ
+judged_count from to [] = 0
+judged_count from to (table ∷ tables) = length (batches_in from to table.batches) + whole_count tables

@@ -5,5 +5,7 @@ mod conjuncts;
 pub mod opened;
 mod place_filter;
 mod scans;
+pub mod weight;
 
 pub use crate::opened::{OpenedList, opened_lists};
+pub use crate::weight::judging_rows;

@@ -1,6 +1,6 @@
 //! Which batches are opened.
 
-ghost use Rattle.std.specs.Prelude.{◌≡◌, ◌<◌, ◌≤◌, ◌+◌, ◌-◌, ◌^◌, ◌==◌, ◌∷◌, ◌++◌, [], if◌then◌else◌, All, IfOk, IsTrue, OnOk, length, map, min};
+ghost use Rattle.std.specs.Prelude.{◌≡◌, ◌<◌, ◌≤◌, ◌+◌, ◌-◌, ◌*◌, ◌^◌, ◌==◌, ◌∷◌, ◌++◌, [], if◌then◌else◌, All, IfOk, IsTrue, OnOk, length, map, min};
 ghost use Rattle.std.specs.List.{list_all};
 ghost use Rattle.scan_base.specs.Predicate.{names_only};
 ghost use Rattle.scan_base.specs.View.{pred_of};
@@ -9,16 +9,19 @@ ghost use Rattle.table_versions.specs.Kept.{IsKept};
 ghost use Rattle.table_versions.specs.Stored.{TableAt, table_of};
 ghost use Rattle.typed_plan.specs.Typed.{has_columns};
 ghost use Rattle.opened_batches.specs.Listed.{AreLists, IsListOf};
-ghost use Rattle.opened_batches.specs.Opened.{given_width, opened_numbers};
+ghost use Rattle.opened_batches.specs.Opened.{batches_in, given_width, judged_count, opened_numbers};
+ghost use Rattle.work_watch.specs.Told.{ToldAtLeast};
 ghost use Rattle.opened_batches.specs.inside.Judged.{judged_before};
 
 use crate::conjuncts::where_parts;
 use crate::place_filter::{PlaceColumns, PlaceFilter};
 use crate::scans::{given_width, scans_of};
 use std::alloc::{AllocError, Global};
+use std::ops::Range;
 use table_versions::laws::batches_are_rows;
 use table_versions::{BatchPlace, TableVersion};
 use typed_plan::TypedPlan;
+use work_watch::{Watches, tell};
 
 /// What is read of a place.
 #[derive(Drop)]
@@ -33,21 +36,36 @@ pub struct OpenedList {
     pub to: usize,
 }
 
-/// What a plan reads of its places, over the rows `from` up to, not with, `to` of the first one. A batch is left out where a
-/// conjunct of WHERE that names no column of another place can be true in none of its rows, by the statistics of its columns.
+// The rows `from` up to, not with, `to` of a table.
+#[derive(Clone, Copy, Drop)]
+struct TableRows<'a> {
+    table: &'a TableVersion,
+    from: usize,
+    to: usize,
+}
+
+/// What a plan reads of its places, over the rows `range.start` up to, not with, `range.end` of the first one. A batch is left out
+/// where a conjunct of WHERE that names no column of another place can be true in none of its rows, by the statistics of its
+/// columns. Who watches is told of each batch that is judged: of 64 rows for each comparison that these conjuncts make for a row, and
+/// of 64 where they make none.
 ///
 /// # Errors
 ///
-/// `AllocError` where memory is refused: that of the numbers of the batches, and some for each conjunct and place.
-pub fn opened_lists(
+/// `AllocError` where memory is refused: that of the numbers of the batches, and some for each conjunct and place. Also where who
+/// watches ends it.
+pub fn opened_lists<W: Watches>(
     alloc: Global,
     plan: &TypedPlan,
-    from: usize,
-    to: usize,
+    range: Range<usize>,
+    watch: &mut W,
 ) -> Result<Vec<OpenedList>, AllocError>
-    ensures numbers { IfOk result (λ lists. map (λ list. list.numbers.items) lists.items ≡ opened_numbers plan.now from to) }
-    ensures lists { IfOk result (λ lists. AreLists from to plan.now.tables lists.items) }
+    requires ready { W.ready watch.old }
+    ensures numbers { IfOk result (λ lists. map (λ list. list.numbers.items) lists.items ≡ opened_numbers plan.now range.start range.end) }
+    ensures lists { IfOk result (λ lists. AreLists range.start range.end plan.now.tables lists.items) }
     ensures kept { IfOk result (λ _. All (λ (table : TableAt). IsKept table (length (table_of table).rows)) plan.now.tables) }
+    ensures ready { OnOk result (W.ready watch.new) }
+    ensures watched { W.watched watch.old watch.new }
+    ensures told { OnOk result (ToldAtLeast W.told (64 * judged_count range.start range.end plan.now.tables) watch.old watch.new) }
 {
     let conjuncts = where_parts(alloc, plan.plan())?;
     let scans = scans_of(alloc, plan.plan())?;
@@ -67,9 +85,10 @@ pub fn opened_lists(
                 width,
             },
         )?;
-        let end = if place == 0 { to } else { table.rows() };
-        let from = if place == 0 { from } else { 0 };
-        lists.push(place_list(alloc, table, &filter, from, end)?)?;
+        let to = if place == 0 { range.end } else { table.rows() };
+        let from = if place == 0 { range.start } else { 0 };
+        let read = TableRows { table, from, to };
+        lists.push(place_list(alloc, &read, &filter, watch)?)?;
         first = column_behind(first, width)?;
     }
     Ok(lists)
@@ -82,26 +101,32 @@ fn column_behind(first: usize, width: usize) -> Result<usize, AllocError>
     first.checked_add(width).ok_or(AllocError)
 }
 
-// The batches of a table with one of the rows `from` up to, not with, `to` in which each conjunct of a filter can be true. The
-// first is looked for by halves.
-fn place_list(
+// The batches of a table with a row that is read in which each conjunct of a filter can be true. The first is looked for by halves.
+// Who watches is told of each batch that is judged.
+fn place_list<W: Watches>(
     alloc: Global,
-    table: &TableVersion,
+    read: &TableRows<'_>,
     filter: &PlaceFilter<'_>,
-    from: usize,
-    to: usize,
+    watch: &mut W,
 ) -> Result<OpenedList, AllocError>
     requires own { IsTrue (list_all (names_only (is_between filter.now.place.first filter.now.place.width))
         (map (λ part. pred_of part.now) filter.now.parts.items)) }
-    requires fit { IsTrue (has_columns (length table.now.schema.fields) filter.now.place.columns.now) }
-    requires wide { filter.now.place.width ≡ given_width filter.now.place.columns.now (length table.now.schema.fields) }
+    requires fit { IsTrue (has_columns (length read.now.table.now.schema.fields) filter.now.place.columns.now) }
+    requires wide { filter.now.place.width ≡ given_width filter.now.place.columns.now (length read.now.table.now.schema.fields) }
+    requires weight { 64 ≤ filter.now.weight }
+    requires ready { W.ready watch.old }
     ensures numbers { IfOk result (λ list. list.numbers.items
         ≡ judged_before (map (λ part. pred_of part.now) filter.now.parts.items) filter.now.place.first filter.now.place.columns.now
-        from to table.now (length table.now.batches)) }
-    ensures list { IfOk result (λ list. IsListOf from to table.now list) }
-    ensures kept { IfOk result (λ _. IsKept table.now (length (table_of table.now).rows)) }
+        read.now.from read.now.to read.now.table.now (length read.now.table.now.batches)) }
+    ensures list { IfOk result (λ list. IsListOf read.now.from read.now.to read.now.table.now list) }
+    ensures kept { IfOk result (λ _. IsKept read.now.table.now (length (table_of read.now.table.now).rows)) }
+    ensures ready { OnOk result (W.ready watch.new) }
+    ensures watched { W.watched watch.old watch.new }
+    ensures told { OnOk result (ToldAtLeast W.told (64 * length (batches_in read.now.from read.now.to read.now.table.now.batches))
+        watch.old watch.new) }
 {
     batches_are_rows();
+    let TableRows { table, from, to } = *read;
     let mut list = OpenedList {
         numbers: Vec::new(alloc),
         rows: 0,
@@ -118,6 +143,7 @@ fn place_list(
         if filter.can_hold(table, place.index) {
             list.push(place, rows, from, end)?;
         }
+        tell(watch, filter.weight)?;
         place.start += rows;
         place.index += 1;
     }

@@ -1,6 +1,6 @@
 //! Which batches of a place can hold a row that is kept.
 
-ghost use Rattle.std.specs.Prelude.{◌≡◌, ◌<◌, IfOk, IsTrue, length, map};
+ghost use Rattle.std.specs.Prelude.{◌≡◌, ◌<◌, ◌≤◌, IfOk, IsTrue, length, map};
 ghost use Rattle.std.specs.List.{filter, list_all};
 ghost use Rattle.scan_base.specs.Predicate.{names_only, operand_names};
 ghost use Rattle.scan_base.specs.View.{pred_of};
@@ -9,12 +9,14 @@ ghost use Rattle.typed_plan.specs.Typed.{has_columns};
 ghost use Rattle.opened_batches.specs.Opened.{given_columns, given_width};
 ghost use Rattle.opened_batches.specs.inside.Judged.{all_can, batch_columns};
 
+use crate::weight::batch_weight;
 use batch_skipping::{Measured, may_hold};
 use batch_stats::{Beginnings, Side};
 use scan_base::{Operand, Predicate};
 use std::alloc::{AllocError, Global};
 use table_versions::TableVersion;
 use typed_plan::Columns;
+use work_watch::comparisons_in;
 
 // The columns of a place that its scan gives: how many they are, and the number of the first among those of all places.
 #[derive(Clone, Copy, Drop)]
@@ -76,11 +78,12 @@ impl PlaceColumns<'_> {
     }
 }
 
-// Conjuncts that name no column of another place.
+// Conjuncts that name no column of another place. A batch that is judged by them counts as `weight` rows.
 #[derive(Drop)]
 pub(crate) struct PlaceFilter<'a> {
     pub(crate) parts: Vec<&'a Predicate<usize>>,
     pub(crate) place: PlaceColumns<'a>,
+    pub(crate) weight: usize,
 }
 
 impl<'a> PlaceFilter<'a> {
@@ -93,14 +96,22 @@ impl<'a> PlaceFilter<'a> {
         ensures parts { IfOk result (λ made. map (λ part. pred_of part.now) made.parts.items
             ≡ filter (names_only (is_between place.entry.first place.entry.width)) (map (λ part. pred_of part.now) conjuncts.now)) }
         ensures place { IfOk result (λ made. made.place ≡ place.entry) }
+        ensures weight { IfOk result (λ made. 64 ≤ made.weight) }
     {
         let mut parts = Vec::new(alloc);
+        let mut comparisons = 0usize;
         for conjunct in conjuncts {
             if place.has_all_of(conjunct) {
                 parts.push(*conjunct)?;
+                comparisons = comparisons.saturating_add(comparisons_in(conjunct));
             }
         }
-        Ok(PlaceFilter { parts, place })
+        let weight = batch_weight(comparisons);
+        Ok(PlaceFilter {
+            parts,
+            place,
+            weight,
+        })
     }
 
     // Whether each conjunct can be true in a batch of the place's table.

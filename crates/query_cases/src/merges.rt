@@ -16,6 +16,7 @@ use hash_seed::HashSeed;
 use scan_base::Fault;
 use std::alloc::{AllocError, Global};
 use typed_plan::Aggregate;
+use work_watch::Unwatched;
 
 static TYPES: [DataType; 2] = [
     DataType::Integer(IntegerType::Int64),
@@ -147,7 +148,7 @@ fn merged_of(alloc: Global, seed: HashSeed, shape: Grouping<'_>) -> Result<Optio
 {
     let mut groups = groups_of(alloc, seed, shape, 0)?;
     let others = groups_of(alloc, seed, shape, 1)?;
-    groups.merge(alloc, others)?;
+    groups.merge(alloc, others, &mut Unwatched)?;
     let mut answers = groups.finish(alloc)?;
     Ok(answers.next(alloc, shape.batches)?)
 }

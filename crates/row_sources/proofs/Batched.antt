@@ -9,7 +9,6 @@ use Rattle.table_versions.proofs.Places.{split_at}
 use Rattle.table_versions.proofs.Rowing.{length-rows_of, rows-cons}
 use Rattle.typed_plan.specs.Joined.{rows_between}
 use Rattle.row_sources.specs.Parts.{parts, numbered_rows}
-use Rattle.array_select.specs.Room.{most_batch_rows}
 
 take_none : {X : Type 0} (n : ℕ) (xs : List X) → xs ≡ [] → take n xs ≡ []
 take_none zero xs e = refl
@@ -106,10 +105,10 @@ cut_next i a b c rows first rest low high r =
 -- the first rows of what is left of a batch are next
 pub rows_next : (from to start i : ℕ) (batches : List BatchAt) (batch : BatchAt) → slice_get batches i ≡ Some batch → i < length batches →
     start ≡ rows_before batches i → start ≤ from → from < start + batch.rows →
-    (last : ℕ) → last ≡ min (min batch.rows (to - start)) (from - start + most_batch_rows) → from < to →
+    (most last : ℕ) → last ≡ min (min batch.rows (to - start)) (from - start + most) → from < to →
     (rows : List Row) → rows ≡ rows_between (from - start) last (rows_of batch) →
     numbered_from 0 from to batches ≡ map (λ row. (i, row)) rows ++ numbered_from 0 (start + last) to batches
-rows_next from to start i batches batch there within s low high last l more rows r =
+rows_next from to start i batches batch there within s low high most last l more rows r =
     let c = to - start in
     let rest = numbered_from (i + 1) 0 (c - batch.rows) (drop (i + 1) batches) in
     in_batch from to start i (from - start) 0 c batches batch there within s low refl (omega (arith, high)) refl

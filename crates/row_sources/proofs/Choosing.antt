@@ -2,7 +2,6 @@
 use Rattle.std.proofs.Common.{◌≡◌, ℕ, ◌-◌, ◌+◌, min, sym, ap, ◌∙◌}
 use Rattle.std.specs.List.{filter, range_with_len}
 use Rattle.arrays.specs.Batch.{BatchAt, row_of}
-use Rattle.array_select.specs.Room.{most_batch_rows}
 use Rattle.table_versions.specs.Stored.{TableAt}
 use Rattle.row_sources.specs.declared.cursor.Cursor.{Cursor}
 use Rattle.row_sources.specs.declared.part.Part.{Part}
@@ -16,7 +15,7 @@ same_chosen table cursor pick one other is that =
     let batch : one.batch.now ≡ other.batch.now = let e = sym is.batch ∙ that.batch in cc in
     let from : one.from ≡ other.from = is.from ∙ sym that.from in
     let to : one.to ≡ other.to =
-    is.to ∙ ap (λ (b : BatchAt). min (min b.rows (cursor.to - cursor.start)) (cursor.at - cursor.start + most_batch_rows)) batch ∙ sym that.to in
+    is.to ∙ ap (λ (b : BatchAt). min (min b.rows (cursor.to - cursor.start)) (cursor.at - cursor.start + cursor.most)) batch ∙ sym that.to in
     ap (λ (b : BatchAt). filter (λ row. holds pick (row_of b.columns row)) (range_with_len one.from (one.to - one.from))) batch
     ∙ ap (λ (n : ℕ). filter (λ row. holds pick (row_of other.batch.now.columns row)) (range_with_len n (one.to - n))) from
     ∙ ap (λ (n : ℕ). filter (λ row. holds pick (row_of other.batch.now.columns row)) (range_with_len other.from (n - other.from))) to

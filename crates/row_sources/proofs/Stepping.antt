@@ -59,9 +59,9 @@ module _ (table : TableAt) (cursor : Cursor) (is : IsPlaced table cursor) (more 
     abbrev first_in : ℕ
     first_in = max cursor.start cursor.from
 
-    module _ (last : ℕ) (l : last ≡ min (min batch.rows (cursor.to - cursor.start)) (cursor.at - cursor.start + most_batch_rows)) where
+    module _ (last : ℕ) (l : last ≡ min (min batch.rows (cursor.to - cursor.start)) (cursor.at - cursor.start + cursor.most)) where
       pub forth : cursor.at < cursor.start + last
-      forth = omega (arith, l, high, more, behind)
+      forth = omega (arith, l, high, more, behind, is.looks)
 
       within_batch : last ≤ batch.rows
       within_batch = omega (arith, l)
@@ -96,6 +96,7 @@ module _ (table : TableAt) (cursor : Cursor) (is : IsPlaced table cursor) (more 
         batch = number;
         start = start;
         opened = opened;
+        most = cursor.most;
       }
 
       counted : (opened : ℕ) → Counts opened → opened ≡ length (batches_in cursor.from (cursor.start + last) table.batches)
@@ -132,6 +133,8 @@ module _ (table : TableAt) (cursor : Cursor) (is : IsPlaced table cursor) (more 
         opened = counted opened counts;
         fresh = λ none. absurd (begun opened counts none);
         each = is.each;
+        looks = is.looks;
+        bounded = is.bounded;
       }
       placed_after number start opened (inr whole) counts = record {
         begun = omega (arith, forth, is.begun);
@@ -144,6 +147,8 @@ module _ (table : TableAt) (cursor : Cursor) (is : IsPlaced table cursor) (more 
         opened = counted opened counts;
         fresh = λ none. absurd (begun opened counts none);
         each = is.each;
+        looks = is.looks;
+        bounded = is.bounded;
       }
 
       part_rows : BatchSlicesKeepRows → rows_of (cut_batch batch (cursor.at - cursor.start) last) ≡ rows_between (cursor.at - cursor.start) last (rows_of batch)
@@ -154,9 +159,10 @@ module _ (table : TableAt) (cursor : Cursor) (is : IsPlaced table cursor) (more 
       opens keep part b f t number start opened = record {
         from = refl;
         to = refl;
+        most = refl;
         forth = forth;
         rows =
-            rows_next cursor.at cursor.to cursor.start cursor.batch table.batches batch there batch_there is.start behind high last l more
+            rows_next cursor.at cursor.to cursor.start cursor.batch table.batches batch there batch_there is.start behind high cursor.most last l more
             (rows_of (cut_batch part.batch.now part.from part.to))
             (rw (b, f, t) (part_rows keep));
         latest = latest_is;
@@ -169,7 +175,7 @@ module _ (table : TableAt) (cursor : Cursor) (is : IsPlaced table cursor) (more 
           record {
             some = low;
             within = rw b (omega (arith, t, within_batch));
-            short = omega (arith, f, t, l);
+            short = omega (arith, f, t, l, is.bounded);
             few = rw b (omega (arith, ends, few));
             wide = rw b wide;
             typed = rw b typed;
@@ -178,7 +184,7 @@ module _ (table : TableAt) (cursor : Cursor) (is : IsPlaced table cursor) (more 
 -- before the first row of a range
 pub placed_first : (table : TableAt) (from to : ℕ) → from ≤ to → (from < to → to ≤ length (table_of table).rows) → BeginsInFirst from table.batches →
     batches_in from to table.batches ≡ range_with_len 0 (length table.batches) →
-    IsPlaced table (record { from = from; to = to; at = from; batch = 0; start = 0; opened = 0 })
+    IsPlaced table (record { from = from; to = to; at = from; batch = 0; start = 0; opened = 0; most = most_batch_rows })
 placed_first table from to ordered few first each = record {
   begun = omega arith;
   ordered = ordered;
@@ -190,4 +196,6 @@ placed_first table from to ordered few first each = record {
   opened = ap length (sym (none_in from from table.batches (omega arith)));
   fresh = λ _. refl;
   each = each;
+  looks = omega arith;
+  bounded = omega arith;
 }

@@ -15,7 +15,8 @@ use Rattle.opened_batches.specs.Opened.{batches_in}
 use Rattle.array_select.specs.Room.{most_batch_rows}
 
 -- Where a cursor stands: between the range's ends, in its batch or at its begin, behind the batches that were opened. Each
--- batch before its own has a row, and each of the table has one of the range.
+-- batch before its own has a row, and each of the table has one of the range. One row at least is looked at at once, and not
+-- too many are.
 pub record IsPlaced (table : TableAt) (cursor : Cursor) : Type 0 where
   pub begun : cursor.from ≤ cursor.at
   pub ordered : cursor.at ≤ cursor.to
@@ -27,6 +28,8 @@ pub record IsPlaced (table : TableAt) (cursor : Cursor) : Type 0 where
   pub opened : cursor.opened ≡ length (batches_in cursor.from cursor.at table.batches)
   pub fresh : cursor.opened ≡ 0 → cursor.at ≡ cursor.from
   pub each : batches_in cursor.from cursor.to table.batches ≡ range_with_len 0 (length table.batches)
+  pub looks : 1 ≤ cursor.most
+  pub bounded : cursor.most ≤ most_batch_rows
 
 -- before the first row of a range
 pub record Begins (from to : ℕ) (cursor : Cursor) : Type 0 where
@@ -34,7 +37,7 @@ pub record Begins (from to : ℕ) (cursor : Cursor) : Type 0 where
   pub to_is : cursor.to ≡ to
   pub at_is : cursor.at ≡ from
 
--- rows of a batch of a table, one or more, as many as are looked at at once
+-- rows of a batch of a table, one or more, no more than are ever looked at at once
 pub record IsPart (table : TableAt) (part : Part) : Type 0 where
   pub some : part.from < part.to
   pub within : part.to ≤ part.batch.now.rows
@@ -47,16 +50,17 @@ pub record IsPart (table : TableAt) (part : Part) : Type 0 where
 pub record IsNextPart (table : TableAt) (cursor : Cursor) (part : Part) : Type 0 where
   pub batch : slice_get table.batches cursor.batch ≡ Some part.batch.now
   pub from : part.from ≡ cursor.at - cursor.start
-  pub to : part.to ≡ min (min part.batch.now.rows (cursor.to - cursor.start)) (cursor.at - cursor.start + most_batch_rows)
+  pub to : part.to ≡ min (min part.batch.now.rows (cursor.to - cursor.start)) (cursor.at - cursor.start + cursor.most)
 
 -- the rows that a cursor has still to look at
 abbrev pub rows_ahead : TableAt → Cursor → List (ℕ × Row)
 rows_ahead table cursor = numbered_rows (numbered_parts cursor.at cursor.to table.batches)
 
--- a part is what is next of the range
+-- a part is what is next of the range; as many rows are looked at at once as before
 pub record Opens (table : TableAt) (before : Cursor) (part : Part) (after : Cursor) : Type 0 where
   pub from : after.from ≡ before.from
   pub to : after.to ≡ before.to
+  pub most : after.most ≡ before.most
   pub forth : before.at < after.at
   pub rows : rows_ahead table before
       ≡ map (λ row. (before.batch, row)) (rows_of (cut_batch part.batch.now part.from part.to)) ++ rows_ahead table after

@@ -25,6 +25,8 @@ pub(crate) struct Cursor {
     pub(crate) start: usize,
     // How many batches were opened.
     pub(crate) opened: usize,
+    // How many rows are looked at at once.
+    pub(crate) most: usize,
 }
 
 impl Cursor {
@@ -45,6 +47,7 @@ impl Cursor {
             batch: 0,
             start: 0,
             opened: 0,
+            most: MOST_BATCH_ROWS,
         }
     }
 
@@ -59,10 +62,7 @@ impl Cursor {
         let _most = table.rows();
         let batch = table.batch(self.batch);
         let from = self.at - self.start;
-        let to = batch
-            .rows()
-            .min(self.to - self.start)
-            .min(from + MOST_BATCH_ROWS);
+        let to = batch.rows().min(self.to - self.start).min(from + self.most);
         Part { batch, from, to }
     }
 

@@ -13,13 +13,12 @@ use crate::build::Sourced;
 use crate::collected::collect_watched;
 use crate::columns::numbers_below;
 use crate::rows::{Joining, Source};
-use arrays::Batch;
 use arrow_schema::DataType;
 use hash_seed::HashSeed;
-use join_batches::{JoinSide, JoinSides, Joiner};
+use join_batches::{JoinSide, JoinSides, Joiner, SeededSides};
 use std::alloc::{AllocError, Global};
 use typed_plan::JoinKey;
-use work_watch::{Watches, tell};
+use work_watch::Watches;
 
 // What gives the rows of both sides of a join.
 #[derive(Drop)]
@@ -48,7 +47,7 @@ pub(crate) fn join_source<W: Watches>(
     let Sides { left, right } = sides;
     let types = copied_types(alloc, left.types.as_slice(), right.types.as_slice())?;
     let sides = join_sides(alloc, left.types.as_slice(), right.types.as_slice(), on)?;
-    let joiner = joiner_of(alloc, seed, sides, right, watch)?;
+    let joiner = joiner_of(alloc, SeededSides { sides, seed }, right, watch)?;
     joined(alloc, left, joiner, types)
 }
 
@@ -93,34 +92,23 @@ fn join_sides(
 // The join with all rows of the right side, which are read and hashed here, watched.
 fn joiner_of<W: Watches>(
     alloc: Global,
-    seed: HashSeed,
-    sides: JoinSides,
+    seeded: SeededSides,
     right: Sourced,
     watch: &mut W,
 ) -> Result<Joiner, AllocError>
     requires right { IsSourced right }
     requires unopened { (sourced_at right).opened ≡ [] }
     requires few { length (sourced_at right).ahead ≤ most_rows }
-    requires typed { sides.right.types.items ≡ (sourced_at right).types }
-    requires keys { HasKeys sides }
+    requires typed { seeded.sides.right.types.items ≡ (sourced_at right).types }
+    requires keys { HasKeys seeded.sides }
     requires ready { W.ready watch.old }
-    ensures joiner { IfOk result (λ joiner. joiner ≡ joiner_with sides (plain_rows (sourced_at right).ahead)) }
+    ensures joiner { IfOk result (λ joiner. joiner ≡ joiner_with seeded.sides (plain_rows (sourced_at right).ahead)) }
     ensures ready { OnOk result (W.ready watch.new) }
     ensures watched { W.watched watch.old watch.new }
 {
     let mut rows = right.rows(alloc)?;
     let batches = collect_watched(alloc, &mut rows, watch)?;
-    tell(watch, rows_in(batches.as_slice()))?;
-    Joiner::new(alloc, seed, sides, batches)
-}
-
-// How many rows batches have.
-fn rows_in(batches: &[Batch]) -> usize {
-    let mut rows = 0usize;
-    for batch in batches {
-        rows = rows.saturating_add(batch.rows());
-    }
-    rows
+    Joiner::new(alloc, seeded, batches, watch)
 }
 
 // What gives the joined rows of left ones, in columns of these types.

@@ -96,7 +96,7 @@ impl RowSource {
         RowSource::watched(alloc, plan, tables, reading, &mut Unwatched)
     }
 
-    /// The same, watched: who watches may end it behind each batch of a further place that is read, and before the rows of one are
+    /// The same, watched: who watches may end it behind each batch of a further place that is read, and while the rows of one are
     /// hashed.
     ///
     /// # Errors

@@ -1,7 +1,8 @@
 //! Rows, piece by piece: those of a place, or joined ones.
 
-ghost use Rattle.std.specs.Prelude.{◌≡◌, ◌≢◌, ◌<◌, [], IfOk, length};
+ghost use Rattle.std.specs.Prelude.{◌≡◌, ◌≢◌, ◌≤◌, ◌<◌, [], IfOk, length};
 ghost use Rattle.std.specs.Arc.{arc_value};
+ghost use Rattle.array_select.specs.Room.{most_batch_rows};
 ghost use Rattle.join_batches.specs.Joiner.{joined_types};
 ghost use Rattle.row_sources.specs.Joined.{FeedsNext, IsJoined, IsSource, TakesLeft, joined_at, source_at};
 ghost use Rattle.row_sources.specs.Parting.{ComeInOrder, part_of};
@@ -121,13 +122,31 @@ impl Rows {
     }
 }
 
+impl Source {
+    // From now on no more than so many of its rows are looked at at once. The same rows are to come.
+    fn bound_rows(&mut self, most: usize)
+        requires some { 1 ≤ most }
+        requires few { most ≤ most_batch_rows }
+        requires source { IsSource self.old }
+        ensures source { IsSource self.new }
+        ensures same { source_at self.new ≡ source_at self.old }
+    {
+        match self {
+            Source::Place(place) => place.cursor.most = most,
+            Source::Joined(_, joining) => joining.joiner.bound_rows(most),
+        }
+    }
+}
+
 impl Rows {
-    // What is picked of a source.
+    // What is picked of a source, of which as many rows are looked at at once as the filters allow.
     pub(crate) fn new(alloc: Global, source: Source, picker: Arc<Picker>) -> Rows
         requires source { IsSource source }
         requires pick { IsPick (length (source_at source).types) (pick_of (arc_value picker)) }
         ensures { result ≡ picked_of (pick_of (arc_value picker)) (source_at source) }
     {
+        let mut source = source;
+        source.bound_rows(picker.most_rows());
         Rows {
             source,
             picker,

@@ -1,13 +1,14 @@
 -- What is grouped, and the groups of it.
-use Rattle.std.specs.Prelude.{◌≡◌, ◌≤◌, ℕ, ◌+◌, ◌-◌, All, List, length, take, drop, None, Result, IfOk}
+use Rattle.std.specs.Prelude.{◌≡◌, ◌≤◌, ◌<◌, ℕ, ◌-◌, All, List, ◌++◌, length, take, drop, None, Result, IfOk}
 use Rattle.std.specs.List.{filter, flat_map}
 use Rattle.arrow_schema.specs.declared.data_type.DataType.{DataType}
 use Rattle.arrays.specs.Batch.{BatchAt, rows_of}
+use Rattle.array_select.specs.Room.{most_batch_rows}
 use Rattle.scan_base.specs.Limits.{most_rows}
 use Rattle.scan_base.specs.declared.fault.Fault.{Fault}
 use Rattle.table_versions.specs.Table.{Row}
 use Rattle.typed_plan.specs.declared.plan.Aggregate.{Aggregate}
-use Rattle.grouping.specs.Fed.{GroupsAt, HasItems, Holds}
+use Rattle.grouping.specs.Fed.{GroupsAt, HasItems, Holds, batch_at}
 use Rattle.row_sources.specs.Collected.{IsBatchOf}
 use Rattle.row_sources.specs.Picking.{PickAt, IsPick, holds, pick_of}
 use Rattle.scan_exec.specs.declared.group_work.GroupWork.{GroupWork}
@@ -66,29 +67,24 @@ GroupsOfPart work from to result = IfOk result (AreGroupsOf work (passing work.p
 abbrev pub GroupsOfAll : GroupWorkAt → Result GroupsAt Fault → Type 0
 GroupsOfAll work result = IfOk result (AreGroupsOf work (passing work.pick (flat_map rows_of work.batches)))
 
--- a part of the batches, from one up to, not with, another, of which those before `at` were fed, and its rows that the filters let
--- through
+-- a part of the batches: its rows that the filters let through, and how many of its rows are still to be fed
 pub record PartAt : Type 0 where
   pub batches : List BatchAt
   pub types : List DataType
   pub keys : List ℕ
   pub items : List Aggregate
   pub rows : List Row
-  pub from : ℕ
-  pub at : ℕ
-  pub to : ℕ
+  pub left : ℕ
 
--- what is seen of a part of what is grouped
+-- the part of what is grouped from one batch up to, not with, another, of which so many rows are still to be fed
 abbrev pub part_at : GroupWorkAt → ℕ → ℕ → ℕ → PartAt
-part_at work from at to = record {
+part_at work from to left = record {
   batches = work.batches;
   types = work.types;
   keys = work.keys;
   items = work.items;
   rows = passing work.pick (flat_map rows_of (batches_between from to work.batches));
-  from = from;
-  at = at;
-  to = to;
+  left = left;
 }
 
 -- it is the part of what is grouped that begins and ends at these batches
@@ -99,27 +95,31 @@ pub record IsPartOf (work : GroupWorkAt) (from to : ℕ) (part : PartAt) : Type 
   pub items : part.items ≡ work.items
   pub rows : part.rows ≡ passing work.pick (flat_map rows_of (batches_between from to work.batches))
 
--- it is the same part, of which other batches may have been fed
+-- it is the same part, of which more rows may have been fed
 pub record IsSamePart (before after : PartAt) : Type 0 where
   pub batches : after.batches ≡ before.batches
   pub types : after.types ≡ before.types
   pub keys : after.keys ≡ before.keys
   pub items : after.items ≡ before.items
   pub rows : after.rows ≡ before.rows
-  pub to : after.to ≡ before.to
+  pub left : after.left ≤ before.left
 
--- who watches was told of so many rows at least
-abbrev pub ToldAtLeast : {W : Type 0} → (ℕ → W → W → Type 0) → ℕ → W → W → Type 0
-ToldAtLeast told rows old new = (count : ℕ) × (rows ≤ count) × told count old new
+-- Inside: the rows of the batches from one up to, not with, another, and behind them the first rows of that one.
+abbrev pub rows_so_far : ℕ → ℕ → ℕ → List BatchAt → List Row
+rows_so_far from at row batches = flat_map rows_of (batches_between from at batches) ++ take row (rows_of (batch_at batches at))
 
--- Inside: the groups are those of the batches that were fed, and the others can be fed.
-pub record IsPartFed (work : GroupWorkAt) (from at to : ℕ) (groups : GroupsAt) : Type 0 where
+-- Inside: the groups are those of the rows before the row `row` of the batch `at`, and the others can be fed.
+pub record IsPartFed (work : GroupWorkAt) (from at row to : ℕ) (groups : GroupsAt) : Type 0 where
   pub can : CanBeGrouped work
   pub begun : from ≤ at
   pub ordered : at ≤ to
   pub there : to ≤ length work.batches
-  pub fed : AreGroupsOf work (passing work.pick (flat_map rows_of (batches_between from at work.batches))) groups
+  pub within : at < to → row < (batch_at work.batches at).rows
+  pub whole : at ≡ to → row ≡ 0
+  pub fed : AreGroupsOf work (passing work.pick (rows_so_far from at row work.batches)) groups
 
--- Inside: the next batch of the part has so many rows.
-abbrev pub CountsNext : PartAt → ℕ → Type 0
-CountsNext part rows = (first : ℕ) → first ≤ part.at → rows_between first (part.at + 1) part.batches ≡ rows_between first part.at part.batches + rows
+-- Inside: as how many rows one counts, and how many are looked at at once.
+pub record IsPace (weight rows : ℕ) : Type 0 where
+  pub counts : 1 ≤ weight
+  pub some : 1 ≤ rows
+  pub few : rows ≤ most_batch_rows

@@ -1,9 +1,9 @@
 -- Inside: rows that are grouped, and what is given of their groups.
 use Rattle.std.specs.Prelude.{◌≡◌, ◌≤◌, ℕ, List, [], length, map, take, None}
-use Rattle.std.specs.List.{filter, flat_map, range_with_len}
+use Rattle.std.specs.List.{flat_map}
 use Rattle.arrow_schema.specs.Answer.{copied_type}
 use Rattle.arrow_schema.specs.declared.data_type.DataType.{DataType}
-use Rattle.arrays.specs.Batch.{BatchAt, row_of, rows_of}
+use Rattle.arrays.specs.Batch.{BatchAt, rows_of}
 use Rattle.scan_base.specs.Limits.{most_rows}
 use Rattle.table_versions.specs.Table.{Row}
 use Rattle.typed_plan.specs.Plan.{answered, groups_by}
@@ -17,12 +17,8 @@ use Rattle.scan_exec.specs.declared.grouped.Wanted.{Wanted}
 use Rattle.row_sources.specs.Collected.{plain_rows}
 use Rattle.scan_exec.specs.Giving.{GivingAt}
 use Rattle.scan_exec.specs.GroupWork.{passing}
-use Rattle.row_sources.specs.Picking.{PickAt, IsPick, holds, pick_of}
+use Rattle.row_sources.specs.Picking.{IsPick, pick_of}
 use Rattle.row_sources.specs.Running.{RowsAt}
-
--- those rows before one of a batch that the filters let through
-abbrev pub passing_before : PickAt → BatchAt → ℕ → List Row
-passing_before pick batch end = map (row_of batch.columns) (filter (λ row. holds pick (row_of batch.columns row)) (range_with_len 0 end))
 
 -- the types of what is wanted of each group
 abbrev pub wanted_types : Wanted → List DataType

@@ -1,20 +1,28 @@
 //! What is grouped, and who groups it.
 
-ghost use Rattle.std.specs.Prelude.{◌≡◌, ◌≤◌, ◌<◌, ◌+◌, ℕ, IfOk, Ok, OnOk, length};
-ghost use Rattle.scan_exec.specs.GroupWork.{CanBeGrouped, CountsNext, GroupWorkAt, GroupsOfAll, GroupsOfPart, IsPartOf, IsSamePart, ToldAtLeast, part_at, rows_between, work_at};
+ghost use Rattle.std.specs.Prelude.{◌≡◌, ◌≤◌, ◌<◌, ◌+◌, ◌-◌, ℕ, IfOk, None, Ok, OnOk, length, map};
+ghost use Rattle.arrays.specs.Batch.{row_of};
+ghost use Rattle.array_select.specs.Room.{most_batch_rows};
+ghost use Rattle.grouping.specs.Fed.{HasFed, batch_at};
+ghost use Rattle.row_sources.specs.Picking.{IsPick, chosen_rows, pick_of};
+ghost use Rattle.scan_base.specs.Limits.{most_rows};
+ghost use Rattle.scan_exec.specs.GroupWork.{CanBeGrouped, GroupWorkAt, GroupsOfAll, GroupsOfPart, IsPartOf, IsSamePart, part_at, rows_between, work_at};
+ghost use Rattle.work_watch.specs.Told.{ToldAtLeast};
 
-use crate::grouped::{Feeding, feed_batch};
 use array_select::Selection;
 use grouping::{Grouping, Groups};
 use hash_seed::HashSeed;
-use row_sources::Picker;
+use row_sources::{Part, Picker};
 use scan_base::Fault;
 use std::alloc::Global;
 use std::marker::Model;
 use work_watch::{Watches, tell};
 
-// How many rows a turn of feeding looks at, and behind them those of the batch in hand.
+// How many rows a turn of feeding looks at, and behind them those of the slice in hand.
 const TURN_ROWS: usize = 1_048_576;
+
+// How many rows of a batch are looked at at once, at most: those that are chosen, and their groups, lie in a near cache.
+const FED_ROWS: usize = 16_384;
 
 /// What is grouped: those rows of batches that filters let through.
 #[derive(Clone, Copy, Drop)]
@@ -27,26 +35,36 @@ pub struct GroupWork<'t> {
     pub picker: &'t Picker,
 }
 
-/// A part of the batches, from one up to, not with, another, with the groups of those before `at`, which were fed. A contract sees
-/// what is grouped, and where the part begins, stands and ends.
+// As how many rows one counts that is fed, and how many are looked at at once.
+#[derive(Clone, Copy, Drop)]
+struct Pace {
+    weight: usize,
+    rows: usize,
+}
+
+/// A part of the batches, from one up to, not with, another, with the groups of its first rows, which were fed. They are those of the
+/// batches before `at`, and the first `row` ones of that batch. A contract sees what is grouped, and how many rows are left.
 pub struct FedPart<'t> {
     work: GroupWork<'t>,
     groups: Groups<'t>,
     from: usize,
     at: usize,
+    row: usize,
     to: usize,
+    pace: Pace,
     // The rows that were chosen last. Its memory is used again.
     selection: Selection,
 }
 
 impl<'t> Model for FedPart<'t> {
-    ghost use Rattle.scan_exec.specs.GroupWork.{IsPartFed, PartAt, part_at, work_at};
+    ghost use Rattle.std.specs.Prelude.{◌-◌};
+    ghost use Rattle.scan_exec.specs.GroupWork.{IsPace, IsPartFed, PartAt, part_at, rows_between, work_at};
 
     ghost Value = { PartAt };
 
-    ghost view = { λ p. part_at (work_at p.work) p.from p.at p.to };
+    ghost view = { λ p. part_at (work_at p.work) p.from p.to (rows_between p.at p.to p.work.shape.batches.now - p.row) };
 
-    ghost invariant = { λ p. IsPartFed (work_at p.work) p.from p.at p.to p.groups };
+    ghost invariant = { λ p. IsPartFed (work_at p.work) p.from p.at p.row p.to p.groups × IsPace p.pace.weight p.pace.rows };
 }
 
 // Written out, so that dropping it is one call (docs/DECISIONS.md).
@@ -57,7 +75,9 @@ impl<'t> Drop for FedPart<'t> {
             groups: _,
             from: _,
             at: _,
+            row: _,
             to: _,
+            pace: _,
             selection: _,
         } = self;
     }
@@ -103,7 +123,7 @@ impl GroupsBatches for InOneWalk {
 }
 
 impl<'t> GroupWork<'t> {
-    /// A part of the batches, of which none was fed yet.
+    /// A part of the batches, of which no row was fed yet.
     ///
     /// # Errors
     ///
@@ -112,7 +132,7 @@ impl<'t> GroupWork<'t> {
         requires can { CanBeGrouped (work_at self.now) }
         requires ordered { from ≤ to }
         requires there { to ≤ length self.now.shape.batches.now }
-        ensures { IfOk result (λ part. part ≡ part_at (work_at self.now) from from to) }
+        ensures { IfOk result (λ part. part ≡ part_at (work_at self.now) from to (rows_between from to self.now.shape.batches.now)) }
     {
         let groups = Groups::new(alloc, self.seed, self.shape)?;
         Ok(FedPart {
@@ -120,10 +140,46 @@ impl<'t> GroupWork<'t> {
             groups,
             from,
             at: from,
+            row: 0,
             to,
+            pace: Pace {
+                weight: self.picker.weight(),
+                rows: self.picker.most_rows().min(FED_ROWS),
+            },
             selection: Selection::new(alloc),
         })
     }
+}
+
+// Some rows of a batch that are fed, the number of the batch among all, and what chooses rows of it.
+#[derive(Clone, Copy, Drop)]
+struct Feeding<'a> {
+    number: usize,
+    slice: Part<'a>,
+    picker: &'a Picker,
+}
+
+// Feeds those rows of a slice that the filters let through. The selection's memory is used again.
+fn feed_slice(
+    alloc: Global,
+    groups: &mut Groups<'_>,
+    feeding: &Feeding<'_>,
+    selection: &mut Selection,
+) -> Result<(), Fault>
+    requires ready { groups.old.refused ≡ None }
+    requires there { feeding.now.number < length groups.old.batches }
+    requires is { batch_at groups.old.batches feeding.now.number ≡ feeding.now.slice.batch.now }
+    requires pick { IsPick (length feeding.now.slice.batch.now.columns) (pick_of feeding.now.picker.now) }
+    requires ordered { feeding.now.slice.from ≤ feeding.now.slice.to }
+    requires within { feeding.now.slice.to ≤ feeding.now.slice.batch.now.rows }
+    requires small { feeding.now.slice.to ≤ most_batch_rows }
+    requires few { groups.old.count + (feeding.now.slice.to - feeding.now.slice.from) ≤ most_rows }
+    ensures { OnOk result (HasFed groups.old groups.new
+        (map (row_of feeding.now.slice.batch.now.columns) (chosen_rows (pick_of feeding.now.picker.now) feeding.now.slice))) }
+{
+    selection.clear();
+    feeding.picker.select(alloc, &feeding.slice, selection)?;
+    groups.feed(alloc, feeding.number, selection)
 }
 
 // As how many rows these count, where each counts so often.
@@ -135,40 +191,57 @@ fn weighted_rows(rows: usize, weight: usize) -> usize
 }
 
 impl<'t> FedPart<'t> {
-    // The same part, with its next batch fed, and how many rows that has.
+    // The same part, with the next slice of a batch fed, and as how many rows its rows count.
     fn feed_next(self, alloc: Global) -> Result<(FedPart<'t>, usize), Fault>
-        requires more { self.at < self.to }
-        ensures next { IfOk result (λ fed. fed.0 ≡ record self.entry { at = self.entry.at + 1 }) }
-        ensures rows { IfOk result (λ fed. CountsNext self.entry fed.1) }
+        requires more { 0 < self.left }
+        ensures same { IfOk result (λ fed. fed.0 ≡ record self.entry { left = fed.0.left }) }
+        ensures less { IfOk result (λ fed. fed.0.left < self.entry.left) }
+        ensures counted { IfOk result (λ fed. self.entry.left ≤ fed.0.left + fed.1) }
     {
         let FedPart {
             work,
             mut groups,
             from,
             at,
+            row,
             to,
+            pace,
             mut selection,
         } = self;
         let batch = &work.shape.batches[at];
+        let end = batch.rows().min(row + pace.rows);
         let feeding = Feeding {
             number: at,
-            batch,
+            slice: Part {
+                batch,
+                from: row,
+                to: end,
+            },
             picker: work.picker,
         };
-        feed_batch(alloc, &mut groups, &feeding, &mut selection)?;
+        feed_slice(alloc, &mut groups, &feeding, &mut selection)?;
+        let counted = weighted_rows(end - row, pace.weight);
+        let (at, row) = if end < batch.rows() {
+            (at, end)
+        } else {
+            (at + 1, 0)
+        };
         let part = FedPart {
             work,
             groups,
             from,
-            at: at + 1,
+            at,
+            row,
             to,
+            pace,
             selection,
         };
-        Ok((part, batch.rows()))
+        Ok((part, counted))
     }
 
-    /// The same part, with batches of it fed for a turn: 1,048,576 rows, and behind them those of the batch in hand. A row counts as
-    /// often as filters compare in it (`Picker::weight`). Whether there are more: where not, its groups free their tables.
+    /// The same part, with slices of its batches fed for a turn: 1,048,576 rows, and behind them those of the slice in hand. A row
+    /// counts as often as filters compare in it (`Picker::weight`). A slice has as many rows as the filters look at at once
+    /// (`Picker::most_rows`), and 16,384 at most. Whether there are more: where not, its groups free their tables.
     ///
     /// # Errors
     ///
@@ -176,13 +249,12 @@ impl<'t> FedPart<'t> {
     pub fn feed_turn(self, alloc: Global) -> Result<(FedPart<'t>, bool), Fault>
         ensures { IfOk result (λ fed. IsSamePart self.entry fed.0) }
     {
-        let weight = self.work.picker.weight();
         let mut part = self;
         let mut rows = 0usize;
         while part.at < part.to && rows < TURN_ROWS {
-            let (next, more) = part.feed_next(alloc)?;
+            let (next, counted) = part.feed_next(alloc)?;
             part = next;
-            rows = rows.saturating_add(weighted_rows(more, weight));
+            rows = rows.saturating_add(counted);
         }
         let more = part.at < part.to;
         if !more {
@@ -191,8 +263,8 @@ impl<'t> FedPart<'t> {
         Ok((part, more))
     }
 
-    /// The groups of the part, once its other batches are fed. Who watches is told of the rows of each, and may end it behind each. A
-    /// row counts as often as filters compare in it.
+    /// The groups of the part, once its other rows are fed. Who watches is told of the rows of each slice, and may end it behind each.
+    /// A row counts as often as filters compare in it.
     ///
     /// # Errors
     ///
@@ -202,21 +274,20 @@ impl<'t> FedPart<'t> {
         ensures groups { (work : GroupWorkAt) (from to : ℕ) → IsPartOf work from to self.entry → GroupsOfPart work from to result }
         ensures ready { OnOk result (W.ready watch.new) }
         ensures watched { W.watched watch.old watch.new }
-        ensures told { OnOk result (ToldAtLeast W.told (rows_between self.entry.at self.entry.to self.entry.batches) watch.old watch.new) }
+        ensures told { OnOk result (ToldAtLeast W.told self.entry.left watch.old watch.new) }
     {
-        let weight = self.work.picker.weight();
         let mut part = self;
         while part.at < part.to {
-            let (next, rows) = part.feed_next(alloc)?;
+            let (next, counted) = part.feed_next(alloc)?;
             part = next;
-            tell(watch, weighted_rows(rows, weight))?;
+            tell(watch, counted)?;
         }
         Ok(part.groups())
     }
 
-    // The groups, where all batches were fed. They free their tables.
+    // The groups, where all rows were fed. They free their tables.
     fn groups(self) -> Groups<'t>
-        requires { self.at ≡ self.to }
+        requires { self.left ≡ 0 }
         ensures { (work : GroupWorkAt) (from to : ℕ) → IsPartOf work from to self.entry → GroupsOfPart work from to (Ok result) }
     {
         let FedPart {
@@ -224,7 +295,9 @@ impl<'t> FedPart<'t> {
             mut groups,
             from: _,
             at: _,
+            row: _,
             to: _,
+            pace: _,
             selection: _,
         } = self;
         groups.free_tables();

@@ -99,7 +99,8 @@ impl Scan {
         Scan::watched(alloc, plan, reading, &mut Unwatched)
     }
 
-    /// The same, watched: who watches may end it while the further places are read.
+    /// The same, watched: who watches may end it while batches are judged by their statistics, and while the further places are
+    /// read.
     ///
     /// # Errors
     ///
@@ -121,7 +122,7 @@ impl Scan {
         skipping_keeps_rows();
         let _typed = plan.plan();
         let _columns = plan.tables();
-        let lists = opened_lists(alloc, &plan, reading.from, reading.to)?;
+        let lists = opened_lists(alloc, &plan, reading.from..reading.to, watch)?;
         let mut batches = further_batches(alloc, lists.as_slice())?;
         let further = batches.len();
         let first = &lists[0];

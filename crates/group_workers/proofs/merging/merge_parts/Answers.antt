@@ -45,14 +45,14 @@ loop-groups-preserved g c =
     let parts = g.P.Answers.count c.args.answers.now in
     let n = g.P.Answers.given c.loop-groups.answers in
     let next = rw (c.in_ok-part.was, c.in-Some-2.is, inv.0) at c.next_groups-in-loop-groups.ensures.groups in
-    let has : HasMerged c.loop-groups.groups c.in-Some-2.part c.merge.new.self = rw (inv.3.refused, next.0.refused) at c.in_ok-merge.ensures in (
+    let has : HasMerged c.loop-groups.groups c.in-Some-2.part c.merge.new.self = rw (inv.3.refused, next.0.refused) at c.in_ok-merge.ensures.merged in (
       c.next_groups-in-loop-groups.ensures.count ∙ inv.0,
       c.next_groups-in-loop-groups.ensures.ready,
       omega (arith, next.1, next.2, c.next_groups-in-loop-groups.ensures.count, inv.0),
       subst (λ (m : ℕ). AreGroupsOf work (passing work.pick (flat_map rows_of (take (batches_before (length work.batches) parts m) work.batches))) c.merge.new.self) (sym next.2)
           (more_merged work parts n c.loop-groups.groups c.in-Some-2.part c.merge.new.self inv.3 next.0 has),
-      c.in_ok-part.ensures.watch,
-      g.met.L.Watches.again _ _ _ inv.5 c.next_groups-in-loop-groups.ensures.watched,
+      c.in_ok-merge.ensures.ready,
+      g.met.L.Watches.again _ _ _ (g.met.L.Watches.again _ _ _ inv.5 c.next_groups-in-loop-groups.ensures.watched) c.in_ok-merge.ensures.watched,
     )
 
 pub returns-in_default-clause-groups : goal.returns-in_default-clause-groups
@@ -74,4 +74,5 @@ pub returns-clause-watched : goal.returns-clause-watched
 returns-clause-watched g c = g.met.L.Watches.again _ _ _ c.loop-groups.invariant.5 c.next_groups-in-loop-groups.ensures.watched
 
 pub returns-in_err-merge-clause-watched : goal.returns-in_err-merge-clause-watched
-returns-in_err-merge-clause-watched g c = g.met.L.Watches.again _ _ _ c.loop-groups.invariant.5 c.next_groups-in-loop-groups.ensures.watched
+returns-in_err-merge-clause-watched g c =
+    g.met.L.Watches.again _ _ _ (g.met.L.Watches.again _ _ _ c.loop-groups.invariant.5 c.next_groups-in-loop-groups.ensures.watched) c.merge.ensures.watched

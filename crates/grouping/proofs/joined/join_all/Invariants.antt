@@ -4,5 +4,9 @@ use Rattle.grouping.specs.inside.Merging.{AllJoined}
 use Rattle.grouping.proofs.joined.join_all.Given as goal
 
 abbrev pub invariant-loop-item : goal.invariant-loop-item
-invariant-loop-item l = AllJoined l.others.groups.now (lists_of l.others.tallies.now) l.found (l.others.fed + l.others.more)
-    (lists_of l.initial.tallies) (lists_of l.tallies) l.item
+invariant-loop-item g l = record {
+  joined : AllJoined l.others.groups.now (lists_of l.others.tallies.now) l.others.found (l.others.fed + l.others.more)
+      (lists_of l.initial.tallies) (lists_of l.tallies) l.item;
+  ready : g.W.Watches.ready l.watch;
+  watched : g.W.Watches.watched l.fn.watch l.watch;
+}

@@ -11,6 +11,6 @@ loop-index-preserved c =
     let items = c.args.items.now in
     let index = c.loop-index.index - 1 in
     let next : c.loop-index.index ≡ index + 1 = omega (arith, c.loop-index-test.true) in
-    any_more rows c.args.operand.now c.index-items-index.result items index c.in-Some.equal c.loop-index.mask c.or-mask.result
-    (omega (arith, c.loop-index-test.true, c.loop-index.auto.index)) c.index-items-index.is (rw c.in-Some.is at c.in_ok-equal.ensures)
+    any_more rows c.args.operand.now c.index-items-index.result items index c.in_ok-compare_leaf.field-0 c.loop-index.mask c.or-mask.result
+    (omega (arith, c.loop-index-test.true, c.loop-index.auto.index)) c.index-items-index.is c.in_ok-compare_leaf.ensures
     (subst (λ (n : ℕ). c.loop-index.mask ≡ any_said rows c.args.operand.now items n) next c.loop-index.invariant) c.or-mask.ensures

@@ -10,12 +10,13 @@ use Rattle.scan_base.specs.Truth.{truth_and}
 use Rattle.kernels.specs.Parts.{cell_of}
 use Rattle.kernels.proofs.operands.both_compared.Goals as goal
 
-pub returns-in-Some-2 : goal.returns-in-Some-2
-returns-in-Some-2 c =
+pub returns : goal.returns
+returns c =
     let rows = c.args.rows.now in
+    let bounds = c.args.bounds.now in
     let value : Operand ℕ → ℕ → Value = λ operand row. operand_value (cell_of rows row) operand in
-    c.and.ensures
+    c.and-2.ensures
     ∙ zip2_of_maps truth_and
-    (λ (row : ℕ). compared GreaterOrEqual (value c.args.operand.now row) (value c.args.low.now row))
-    (λ (row : ℕ). compared LessOrEqual (value c.args.operand.now row) (value c.args.high.now row))
-    (range_with_len rows.from rows.len) (rw c.in-Some.is at c.in_ok-above.ensures) (rw c.in-Some-2.is at c.in_ok-below.ensures)
+    (λ (row : ℕ). compared GreaterOrEqual (value c.args.operand.now row) (value bounds.low.now row))
+    (λ (row : ℕ). compared LessOrEqual (value c.args.operand.now row) (value bounds.high.now row))
+    (range_with_len rows.from rows.len) c.in_ok-mask.ensures c.in_ok-compare_leaf.ensures

@@ -1,9 +1,17 @@
-use Rattle.std.proofs.Common.{map}
+use Rattle.std.proofs.Common.{◌≤◌, ◌+◌, ◌*◌, ℕ, drop, map}
 use Rattle.scan_base.specs.View.{pred_of}
-use Rattle.opened_batches.proofs.Places.{AreBegun}
+use Rattle.opened_batches.proofs.Places.{AreBegun, count_from}
 use Rattle.opened_batches.proofs.opened.opened_lists.Given as goal
 
--- the lists of the places before this one
+-- the lists of the places before this one, of whose batches who watches was told
 abbrev pub invariant-loop-place : goal.invariant-loop-place
-invariant-loop-place l =
-    AreBegun (map (λ part. pred_of part.now) l.conjuncts.items) l.fn.from l.to (map (λ columns. columns.now) l.scans.items) l.tables l.place l.first l.lists.items
+invariant-loop-place g l =
+    let parts = map (λ part. pred_of part.now) l.conjuncts.items in
+    let from = l.fn.range.start in
+    let to = l.fn.range.end in record {
+      begun : AreBegun parts from to (map (λ columns. columns.now) l.scans.items) l.tables l.place l.first l.lists.items;
+      ready : g.W.Watches.ready l.watch;
+      watched : g.W.Watches.watched l.fn.watch l.watch;
+      told : (count : ℕ) × (64 * count_from parts from to 0 l.tables ≤ count + 64 * count_from parts from to l.place (drop l.place l.tables))
+          × g.W.Watches.told count l.fn.watch l.watch;
+    }

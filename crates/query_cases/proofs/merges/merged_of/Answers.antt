@@ -18,6 +18,6 @@ merge-requires-clause-few c none other_none = omega (arith, c.in_ok-groups.ensur
 pub next-requires : goal.next-requires
 next-requires c =
     let has : HasMerged c.in_ok-groups.groups c.in_ok-others.others c.merge.new.self =
-    rw (c.in_ok-groups.ensures.ready, c.in_ok-others.ensures.ready) at c.in_ok-merge.ensures in
+    rw (c.in_ok-groups.ensures.ready, c.in_ok-others.ensures.ready) at c.in_ok-merge.ensures.merged in
     let is : IsAnswerOf c.merge.new.self c.in_ok-answers.answers = rw has.refused at c.in_ok-answers.ensures in
     subst (λ (batches : List BatchAt). IsOver batches c.in_ok-answers.answers) (has.alike.batches ∙ c.in_ok-groups.ensures.batches) is.over

@@ -47,7 +47,7 @@ pub returns-clause-joiner : goal.returns-clause-joiner
 returns-clause-joiner g c =
     let right = sourced_at c.args.right in
     let all = subst (λ (rows : RowsAt). AreCollected rows c.in_ok-batches.batches.items c.collect_watched.new.rows) c.in_ok-rows.ensures c.in_ok-batches.ensures.collected in
-    IfOk-weaker c.new.result (λ (joiner : JoinerAt). joiner ≡ joiner_with c.args.sides (flat_map rows_of c.in_ok-batches.batches.items))
-    (λ (joiner : JoinerAt). joiner ≡ joiner_with c.args.sides (plain_rows right.ahead))
-    (λ (joiner : JoinerAt) is. is ∙ ap (joiner_with c.args.sides) all.rows)
-    c.new.ensures
+    IfOk-weaker c.new.result (λ (joiner : JoinerAt). joiner ≡ joiner_with c.args.seeded.sides (flat_map rows_of c.in_ok-batches.batches.items))
+    (λ (joiner : JoinerAt). joiner ≡ joiner_with c.args.seeded.sides (plain_rows right.ahead))
+    (λ (joiner : JoinerAt) is. is ∙ ap (joiner_with c.args.seeded.sides) all.rows)
+    c.new.ensures.joiner

@@ -1,12 +1,8 @@
-use Rattle.std.proofs.Common.{◌≡◌, ℕ, List, subst, arith}
-use Rattle.hash_join.specs.Chains.{AreRepeats, HasLinked}
+use Rattle.std.proofs.Common.{◌+◌, arith}
 use Rattle.hash_join.proofs.chains.Chains.new.Goals as goal
 
-pub returns : goal.returns
-returns c =
-    let rights = c.args.rights.now in
-    let start : c.loop-row.row ≡ 0 = omega (arith, c.loop-row-test.false) in
-    record {
-      linked = subst (λ (row : ℕ). HasLinked rights c.loop-row.chains.heads.items c.loop-row.chains.links.items row) start c.loop-row.invariant.linked;
-      repeats = subst (λ (links : List ℕ). AreRepeats rights links c.in_ok-repeats.repeats.items) c.deref.ensures.value c.in_ok-repeats.ensures;
-    }
+pub returns-clause-told : goal.returns-clause-told
+returns-clause-told g c =
+    let linked = c.in_ok-link_all.ensures.told in
+    let repeats = c.in_ok-repeats.ensures.told in
+    (linked.0 + repeats.0, omega (arith, linked.1), g.met.W.Watches.told_again _ _ _ _ _ linked.2 repeats.2)

@@ -15,10 +15,10 @@ filled c = omega (arith, c.peek-part.ensures.part.some, c.peek-part.ensures.part
 -- the cursor with this batch, this first row of it and this count
 abbrev with : Cursor → ℕ → ℕ → ℕ → ℕ → Cursor
 with cursor last number start opened =
-    record { from = cursor.from; to = cursor.to; at = cursor.start + last; batch = number; start = start; opened = opened }
+    record { from = cursor.from; to = cursor.to; at = cursor.start + last; batch = number; start = start; opened = opened; most = cursor.most }
 
 abbrev opening : Cursor → ℕ → Cursor
-opening cursor opened = record { from = cursor.from; to = cursor.to; at = cursor.at; batch = cursor.batch; start = cursor.start; opened = opened }
+opening cursor opened = record { from = cursor.from; to = cursor.to; at = cursor.at; batch = cursor.batch; start = cursor.start; opened = opened; most = cursor.most }
 
 -- what holds of a cursor behind the part, in the same batch or at the next one, holds of this one
 module _ (c : Joined-self-max) (P : Cursor → Type 0)

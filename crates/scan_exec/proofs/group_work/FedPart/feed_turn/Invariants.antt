@@ -1,4 +1,3 @@
-use Rattle.std.proofs.Common.{◌-◌}
 use Rattle.scan_exec.specs.GroupWork.{IsSamePart}
 use Rattle.scan_exec.proofs.group_work.FedPart.feed_turn.Given as goal
 
@@ -6,4 +5,4 @@ abbrev pub invariant-loop-part : goal.invariant-loop-part
 invariant-loop-part l = IsSamePart l.fn.self l.part
 
 abbrev pub decreases-loop-part : goal.decreases-loop-part
-decreases-loop-part l = l.part.to - l.part.at
+decreases-loop-part l = l.part.left

@@ -1,0 +1,36 @@
+//! As how many rows the judging of batches counts.
+
+ghost use Rattle.std.specs.Prelude.{◌≤◌};
+
+use typed_plan::{Plan, TypedPlan};
+use work_watch::comparisons_in;
+
+// As how many rows a comparison counts that is judged in a batch.
+const COMPARISON_ROWS: usize = 64;
+
+// As how many rows a batch counts in which so many comparisons are judged. None counts as one.
+pub(crate) fn batch_weight(comparisons: usize) -> usize
+    ensures { 64 ≤ result }
+{
+    comparisons.max(1).saturating_mul(COMPARISON_ROWS)
+}
+
+/// As how many rows the judging of all batches of a plan's places counts at most ([`opened_lists`](crate::opened_lists)). It takes no
+/// memory, and the time of a walk over WHERE. Contracts say nothing of it: it tells whether the judging may take long.
+pub fn judging_rows(plan: &TypedPlan) -> usize {
+    let mut batches = 0usize;
+    for table in plan.tables() {
+        batches = batches.saturating_add(table.batch_count());
+    }
+    batches.saturating_mul(batch_weight(where_comparisons(plan.plan())))
+}
+
+// How many comparisons the outermost filters make.
+fn where_comparisons(plan: &Plan) -> usize {
+    match plan {
+        Plan::Filter { predicate, input } => {
+            comparisons_in(predicate).saturating_add(where_comparisons(input))
+        }
+        _ => 0,
+    }
+}
