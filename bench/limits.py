@@ -135,7 +135,7 @@ def tickets(rows):
     front, counted = "SELECT a FROM t WHERE ", "SELECT COUNT(*) FROM t WHERE "
     numbers = filled(front, "a IN (" + ",".join(str(2 * number + 1) for number in range(256)) + ")", " OR ")
     others, texts_of = (filled(counted, f"{column} IN({','.join([item] * 256)})", "OR ") for column, item in ("ab", "su"))
-    mixed = f"s IN('x',{','.join(['u'] * 255)})"  # the last item is looked at first, so that its kernel lacks shows behind all others
+    mixed = f"s IN('x',{','.join(['u'] * 255)})"  # the last item is looked at first, so that the literal comes behind all others
     made = [
         ("a ticket of comparisons joined by OR", table, filled(front, "a=1", "OR "), rows),
         ("a ticket of INs of 256 numbers", table, numbers, rows),

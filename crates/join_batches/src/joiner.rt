@@ -69,8 +69,9 @@ impl Drop for BuiltSides {
 pub struct Joiner {
     sides: Arc<BuiltSides>,
     left: LeftPairs,
-    // As many rows as the next batch is tried with, and as any batch has at most.
+    // As many rows as the next batch is tried with.
     most: usize,
+    // As many rows as any batch has at most.
     bound: usize,
 }
 
@@ -179,7 +180,7 @@ impl Joiner {
         }
     }
 
-    /// From now on a batch has no more than so many joined rows, or one where that is none. Without this call it is 65,536. What is
+    /// From now on a batch is tried with so many joined rows at most, but with one at least. A joiner begins with 65,536. What is
     /// to be given stays.
     pub fn bound_rows(&mut self, most: usize)
         ensures { self.new ≡ self.old }

@@ -47,7 +47,7 @@ struct TableRows<'a> {
 /// What a plan reads of its places, over the rows `range.start` up to, not with, `range.end` of the first one. A batch is left out
 /// where a conjunct of WHERE that names no column of another place can be true in none of its rows, by the statistics of its
 /// columns. Who watches is told of each batch that is judged: of 64 rows for each comparison that these conjuncts make for a row, and
-/// of 64 where they make none.
+/// of one where they make none.
 ///
 /// # Errors
 ///
@@ -65,7 +65,7 @@ pub fn opened_lists<W: Watches>(
     ensures kept { IfOk result (λ _. All (λ (table : TableAt). IsKept table (length (table_of table).rows)) plan.now.tables) }
     ensures ready { OnOk result (W.ready watch.new) }
     ensures watched { W.watched watch.old watch.new }
-    ensures told { OnOk result (ToldAtLeast W.told (64 * judged_count range.start range.end plan.now.tables) watch.old watch.new) }
+    ensures told { OnOk result (ToldAtLeast W.told (judged_count range.start range.end plan.now.tables) watch.old watch.new) }
 {
     let conjuncts = where_parts(alloc, plan.plan())?;
     let scans = scans_of(alloc, plan.plan())?;
@@ -113,7 +113,7 @@ fn place_list<W: Watches>(
         (map (λ part. pred_of part.now) filter.now.parts.items)) }
     requires fit { IsTrue (has_columns (length read.now.table.now.schema.fields) filter.now.place.columns.now) }
     requires wide { filter.now.place.width ≡ given_width filter.now.place.columns.now (length read.now.table.now.schema.fields) }
-    requires weight { 64 ≤ filter.now.weight }
+    requires weight { 1 ≤ filter.now.weight }
     requires ready { W.ready watch.old }
     ensures numbers { IfOk result (λ list. list.numbers.items
         ≡ judged_before (map (λ part. pred_of part.now) filter.now.parts.items) filter.now.place.first filter.now.place.columns.now
@@ -122,7 +122,7 @@ fn place_list<W: Watches>(
     ensures kept { IfOk result (λ _. IsKept read.now.table.now (length (table_of read.now.table.now).rows)) }
     ensures ready { OnOk result (W.ready watch.new) }
     ensures watched { W.watched watch.old watch.new }
-    ensures told { OnOk result (ToldAtLeast W.told (64 * length (batches_in read.now.from read.now.to read.now.table.now.batches))
+    ensures told { OnOk result (ToldAtLeast W.told (length (batches_in read.now.from read.now.to read.now.table.now.batches))
         watch.old watch.new) }
 {
     batches_are_rows();

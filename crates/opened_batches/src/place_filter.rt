@@ -96,7 +96,7 @@ impl<'a> PlaceFilter<'a> {
         ensures parts { IfOk result (λ made. map (λ part. pred_of part.now) made.parts.items
             ≡ filter (names_only (is_between place.entry.first place.entry.width)) (map (λ part. pred_of part.now) conjuncts.now)) }
         ensures place { IfOk result (λ made. made.place ≡ place.entry) }
-        ensures weight { IfOk result (λ made. 64 ≤ made.weight) }
+        ensures weight { IfOk result (λ made. 1 ≤ made.weight) }
     {
         let mut parts = Vec::new(alloc);
         let mut comparisons = 0usize;

@@ -8,11 +8,11 @@ use work_watch::comparisons_in;
 // As how many rows a comparison counts that is judged in a batch.
 const COMPARISON_ROWS: usize = 64;
 
-// As how many rows a batch counts in which so many comparisons are judged. None counts as one.
+// As how many rows a batch counts in which so many comparisons are judged: one at least.
 pub(crate) fn batch_weight(comparisons: usize) -> usize
-    ensures { 64 ≤ result }
+    ensures { 1 ≤ result }
 {
-    comparisons.max(1).saturating_mul(COMPARISON_ROWS)
+    comparisons.saturating_mul(COMPARISON_ROWS).max(1)
 }
 
 /// As how many rows the judging of all batches of a plan's places counts at most ([`opened_lists`](crate::opened_lists)). It takes no

@@ -105,8 +105,8 @@ loop-place-preserved g c =
     let is = c.loop-place.invariant in
     let more = count_next parts from to tables place table c.loop-place-test.true c.index-tables-place.is in
     let told = c.in_ok-place_list.ensures.told in
-    let enough = subst (λ (n : ℕ). 64 * length (batches_in n (end_at parts from to place table) table.batches) ≤ told.0) begin_is
-    (subst (λ (n : ℕ). 64 * length (batches_in begin n table.batches) ≤ told.0) end_is told.1) in
+    let enough = subst (λ (n : ℕ). length (batches_in n (end_at parts from to place table) table.batches) ≤ told.0) begin_is
+    (subst (λ (n : ℕ). length (batches_in begin n table.batches) ≤ told.0) end_is told.1) in
     record {
       begun = subst (λ (n : ℕ). AreBegun parts from to scans tables (place + 1) n c.push.new.self.items)
           (sym (c.in_ok-first.ensures ∙ ap (λ (width : ℕ). first + width) width_is))

@@ -12,6 +12,6 @@ invariant-loop-place g l =
       begun : AreBegun parts from to (map (λ columns. columns.now) l.scans.items) l.tables l.place l.first l.lists.items;
       ready : g.W.Watches.ready l.watch;
       watched : g.W.Watches.watched l.fn.watch l.watch;
-      told : (count : ℕ) × (64 * count_from parts from to 0 l.tables ≤ count + 64 * count_from parts from to l.place (drop l.place l.tables))
+      told : (count : ℕ) × (count_from parts from to 0 l.tables ≤ count + count_from parts from to l.place (drop l.place l.tables))
           × g.W.Watches.told count l.fn.watch l.watch;
     }

@@ -9,7 +9,7 @@ invariant-loop-place g l = record {
   so_far : IsSoFar (map (λ part. pred_of part.now) l.filter.parts.items) l.filter.place.first l.filter.place.columns.now l.from l.to l.table l.place.index l.place.start l.list;
   ready : g.W.Watches.ready l.watch;
   watched : g.W.Watches.watched l.fn.watch l.watch;
-  told : (count : ℕ) × (64 * read_before l.from l.to l.table l.place.index ≤ count) × g.W.Watches.told count l.fn.watch l.watch;
+  told : (count : ℕ) × (read_before l.from l.to l.table l.place.index ≤ count) × g.W.Watches.told count l.fn.watch l.watch;
 }
 
 abbrev pub decreases-loop-place : goal.decreases-loop-place
