@@ -527,17 +527,26 @@ def pairs_put() -> bytes:
     return put_of_messages([fields, *words, *[rows] * PIECES])
 
 
-@case("clients that go away while 2,000 equalities of texts tell the rows or groups of one batch, of 1 worker and of 4: each has the schema, and then its "
-      "only seat is free, long before its batch ends, as the work of a worker tells")
-def gone_while_filtering(run: Run) -> str:
+def work_of_dear(run: Run, workers: str, texts: list[str]) -> str:
+    """The work of a worker up to the schema, and behind it, for clients that go away; the most of these texts is told."""
     most = [0.0, 0.0]
-    for workers in ("1", "4"):
-        with one_seat(run, workers, pairs_put(), PIECES * PIECE) as server:
-            for text in DEAR:
-                taken = (work / int(workers) for work in work_until_free(server, fetch_of(1, 0, PIECES * PIECE, text)))
-                most = [max(*pair) for pair in zip(most, taken)]
-                same(f"{most[0]:.1f} s of work before the schema, and {most[1]:.1f} s behind the client", True, max(most) < PIECE_WORK)
-    return f"at most {most[0]:.1f} s of work before the schema, and {most[1]:.1f} s behind the client"
+    with one_seat(run, workers, pairs_put(), PIECES * PIECE) as server:
+        for text in texts:
+            taken = (work / int(workers) for work in work_until_free(server, fetch_of(1, 0, PIECES * PIECE, text)))
+            most = [max(*pair) for pair in zip(most, taken)]
+            same(f"{most[0]:.1f} s of work before the schema, and {most[1]:.1f} s behind the client", True, max(most) < PIECE_WORK)
+    return f"{most[0]:.1f} s of work before the schema, and {most[1]:.1f} s behind the client"
+
+
+@case("clients that go away while 2,000 equalities of texts tell the rows or groups of one batch, groups of 4 workers too: each has the schema, and then "
+      "its only seat is free, long before its batch ends, as the work of a worker tells")
+def gone_while_filtering(run: Run) -> str:
+    return f"at most {work_of_dear(run, '1', DEAR)}; with 4 workers {work_of_dear(run, '4', DEAR[1:])}"
+
+
+@case("a client that goes away while 4 workers ask the same of the rows of four batches: the same")
+def gone_while_workers_filter(run: Run) -> str:
+    return work_of_dear(run, "4", DEAR[:1])
 
 
 @case("a client that waits before it calls: with --idle 0 its connection stays")
