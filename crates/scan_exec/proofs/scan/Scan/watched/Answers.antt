@@ -183,3 +183,9 @@ pub returns-clause-short : goal.returns-clause-short
 returns-clause-short g c =
     ap (λ (ahead : List (Option ℕ × Row)). list_any (list_any is_long_text) (map (λ (given : Option ℕ × Row). given.1) ahead)) (returns-clause-begins g c).ahead
     ∙ short_law c.args.plan c.args.reading.from c.args.reading.to (kept_short c.args.plan.tables c.in_ok-lists.ensures.kept)
+
+pub returns-in_err-answer_of-clause-watched : goal.returns-in_err-answer_of-clause-watched
+returns-in_err-answer_of-clause-watched g c = g.met.W.Watches.again _ _ _ c.opened_lists.ensures.watched c.watched.ensures.watched
+
+pub returns-clause-watched : goal.returns-clause-watched
+returns-clause-watched g c = g.met.W.Watches.again _ _ _ c.opened_lists.ensures.watched c.watched.ensures.watched
