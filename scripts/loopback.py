@@ -17,11 +17,11 @@ LINE = b"listening 127.0.0.1:"
 
 
 class Server:
-    """A server that runs as long as the block. More words may stand in its environment."""
+    """A server that runs as long as the block. More words may stand in its environment, and words of a command that starts it before it."""
 
-    def __init__(self, path: str, *options: str, more: dict[str, str] | None = None):
+    def __init__(self, path: str, *options: str, more: dict[str, str] | None = None, before: tuple[str, ...] = ()):
         self.faults = tempfile.TemporaryFile()
-        command = [path, "serve", "--port", "0", *options]
+        command = [*before, path, "serve", "--port", "0", *options]
         self.process = subprocess.Popen(command, stdout=subprocess.PIPE, stderr=self.faults, env=os.environ | (more or {}))
         self.line = self.process.stdout.readline()
         if not self.line.startswith(LINE):

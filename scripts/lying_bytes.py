@@ -13,12 +13,16 @@ records    Each byte of a record's header in that put, of its Open, its Messages
            records says what has to be answered, and how the program ends. After a refused put that lets the connection go
            on, the first run's put is version 1.
 
-trips      As messages, with the stored stream of trips: seven rows of five columns, and a dictionary that grows.
+cuts       Each header of the first run's put, and of the stored stream of trips (seven rows of five columns, and a dictionary that
+           grows), is cut to each length, from none to the whole: 1,743 puts, each through a `pipe` of its own. The second reader
+           says what each is answered. Behind one that is refused version 1 is not there, and the first run's put makes it.
+
+trips      As messages, with the stored stream of trips.
 every      Each byte of the first run's whole put takes each value, in a `pipe` of its own: 104,192 inputs. What comes has to be
            answers and an exit status of 0 or 3, and after a refused put the first run's put is version 1.
 
-The first two are done where nothing is named. A `pipe` has 16 MB of memory and 20 seconds, also where a length claims more. It
-ends with 1 at the first difference.
+The first three are done where nothing is named. A `pipe` has 16 MB of memory and 20 seconds of a processor, also where a length
+claims more. It ends with 1 at the first difference.
 """
 
 from __future__ import annotations
@@ -49,9 +53,10 @@ from reader import Fault, Reader  # noqa: E402
 from served.cases import A, FETCH, PUT, fetch_of, status_of  # noqa: E402
 from trips import STREAM  # noqa: E402
 
-SECONDS, MEMORY = 20, 16_000_000  # that one program may take, and bytes of its address space
+SECONDS, MEMORY = 20, 16_000_000  # of a processor that one program may take, and bytes of its address space
+PATIENCE = 300  # seconds of the clock within which it has to end, also where others keep it from the processor
 Message = tuple[bytes, bytes]  # a header and a body
-FIRST_RUN = [(SCHEMA_HEADER, b""), (BATCH_HEADER, BODY)]
+FIRST_RUN, TRIPS = [(SCHEMA_HEADER, b""), (BATCH_HEADER, BODY)], [*stored_messages(STREAM.read_bytes())]
 REPLACES = wire.chunk(1, wire.scalar(1, 1) + wire.scalar(2, 3)) + wire.chunk(2, b"t")
 
 
@@ -60,8 +65,12 @@ def piped(path: str, given: bytes) -> tuple[int, bytes, bytes]:
 
     def limited() -> None:
         resource.setrlimit(resource.RLIMIT_AS, (MEMORY, MEMORY))
+        resource.setrlimit(resource.RLIMIT_CPU, (SECONDS, SECONDS))
 
-    done = subprocess.run([path, "pipe"], input=given, capture_output=True, timeout=SECONDS, preexec_fn=limited)
+    try:
+        done = subprocess.run([path, "pipe"], input=given, capture_output=True, timeout=PATIENCE, preexec_fn=limited)
+    except subprocess.TimeoutExpired as late:
+        raise Difference(f"no end within {PATIENCE} seconds behind {given.hex()}") from late
     return done.returncode, done.stdout, done.stderr
 
 
@@ -90,7 +99,8 @@ def meaning(messages: list[Message]) -> tuple[list[Column], list[Row]]:
     """The columns and the rows of a put, by the second reader, or its fault."""
     reader = Reader()
     for header, body in messages:
-        reader.message(header, body)
+        if header:  # a Message with an empty header is skipped as data
+            reader.message(header, body)
     model.demand(reader.fields is not None, "F8")
     columns = tuple(
         Column(name, f"Int32 into {number}" if id is not None else kind, nullable)
@@ -101,11 +111,10 @@ def meaning(messages: list[Message]) -> tuple[list[Column], list[Row]]:
     return list(columns), rows
 
 
-def lie_of(messages: list[Message], number: int, place: int, value: int) -> Lie:
-    """The put in which one byte of a message's header has this value."""
-    changed, (header, body) = list(messages), messages[number]
-    changed[number] = header[:place] + bytes([value]) + header[place + 1 :], body
-    said = f"message {number}, byte {place} is {value:02X}"
+def lie_of(messages: list[Message], number: int, header: bytes, said: str) -> Lie:
+    """The put in which a message has this header."""
+    changed = list(messages)
+    changed[number] = header, messages[number][1]
     try:
         return Lie(said, put_of(changed), None, *meaning(changed))
     except (Fault, Refused) as fault:
@@ -146,9 +155,18 @@ def look_at_place(path: str, lies: list[Lie]) -> None:
 def look_at_messages(path: str, messages: list[Message], counts: collections.Counter) -> None:
     for number, (header, _) in enumerate(messages):
         for place in range(len(header)):
-            lies = [lie_of(messages, number, place, value) for value in range(256)]
+            given = ((value, header[:place] + bytes([value]) + header[place + 1 :]) for value in range(256))
+            lies = [lie_of(messages, number, changed, f"message {number}, byte {place} is {value:02X}") for value, changed in given]
             look_at_place(path, lies)
             counts.update(lie.fault or "accepted" for lie in lies)
+
+
+def look_at_cuts(path: str, messages: list[Message], counts: collections.Counter) -> None:
+    for number, (header, _) in enumerate(messages):
+        for length in range(len(header) + 1):
+            lie = lie_of(messages, number, header[:length], f"message {number} has {length} bytes of its header")
+            look_at_place(path, [lie])
+            counts[lie.fault or "accepted"] += 1
 
 
 # ---- records
@@ -285,7 +303,8 @@ def look_at_every(path: str, counts: collections.Counter) -> None:
 LOOKS = {
     "messages": lambda path, counts: look_at_messages(path, FIRST_RUN, counts),
     "records": look_at_records,
-    "trips": lambda path, counts: look_at_messages(path, [*stored_messages(STREAM.read_bytes())], counts),
+    "cuts": lambda path, counts: [look_at_cuts(path, messages, counts) for messages in (FIRST_RUN, TRIPS)],
+    "trips": lambda path, counts: look_at_messages(path, TRIPS, counts),
     "every": look_at_every,
 }
 
@@ -293,14 +312,14 @@ LOOKS = {
 def main() -> int:
     parser = argparse.ArgumentParser(description=__doc__, formatter_class=argparse.RawDescriptionHelpFormatter)
     parser.add_argument("--program", help="the built program (that of the repository)")
-    parser.add_argument("what", nargs="*", help=f"of {', '.join(LOOKS)} (the first two)")
+    parser.add_argument("what", nargs="*", help=f"of {', '.join(LOOKS)} (the first three)")
     words = parser.parse_args()
     path = program(words.program)
-    for name in words.what or ["messages", "records"]:
+    for name in words.what or ["messages", "records", "cuts"]:
         began, counts = time.monotonic(), collections.Counter()
         try:
             LOOKS[name](path, counts)
-        except (Difference, wire.Unreadable, subprocess.TimeoutExpired) as found:
+        except (Difference, wire.Unreadable) as found:
             print(f"a difference in {name}:\n{found}")
             return 1
         told = ", ".join(f"{count:,} {what}" for what, count in sorted(counts.items()))

@@ -16,7 +16,7 @@ from random_calls.answers import PutCount, Refusal, Wanted, same
 from random_calls.plain_model import Column
 from random_calls.refused import INGEST
 from served.cases import (A, DONE, FETCH, FIRST_RUN, MEGABYTE, PUT, TICKET, Run, appended, ask, case, descriptor_of, expire, fetch_of,
-                          info_of, put_of, rows_of, status_of)
+                          info_of, put_of, replaced, rows_of, status_of)
 
 # ---- bytes
 
@@ -231,6 +231,56 @@ def expired_while_read(run: Run) -> None:
         expire_the_first(connection)
 
 
+REPLACING = replaced("t", TEXTS, [("z" * 1_000, number) for number in range(8)])
+PLACES = (1, 2, 20, 45, 46, 50, 51, 100, len(REPLACING) // 2, len(REPLACING) - 1)
+
+
+def cut_in_a_put(port: int, place: int, leave: Callable[[Connection], None]) -> None:
+    """Goes away behind so many bytes of a put that would replace the table t, so a read of the server fails or finds the end."""
+    connection = Connection(port)
+    connection.send(REPLACING[:place])
+    leave(connection)
+
+
+def cut_in_a_fetch(port: int, count: int, leave: Callable[[Connection], None]) -> None:
+    """Goes away behind so many Messages of an answer that is longer than a socket holds, so a write of the server fails."""
+    connection = Connection(port, room=65_536)
+    connection.send(LONG_FETCH)
+    for _ in range(count):
+        first_message(connection)
+    leave(connection)
+
+
+@case("connections that are reset or end in the middle of a fetch or a put, all over one seat, beside three that go on: those have whole answers, "
+      "and what was cut is not made")
+def cut_beside_others(run: Run) -> str:
+    cuts = [(cut, place, leave) for leave in (Connection.break_off, Connection.close)
+            for cut, places in ((cut_in_a_put, PLACES), (cut_in_a_fetch, range(4))) for place in places]
+    begun_put = put_of("u", A, [(number,) for number in range(100)])
+    half = len(begun_put) // 2
+    for workers in ("1", "4"):
+        with run.serving("--seats", "4", "--workers", workers) as server, Connection(server.port, room=65_536) as reader:
+            ask(reader, put_of("t", TEXTS, LONG_TEXTS), PutCount(16))
+            with Connection(server.port) as putter, Connection(server.port) as caller:
+                reader.send(LONG_FETCH)
+                begun = [first_message(reader) for _ in range(2)]
+                putter.send(begun_put[:half])
+                ask(caller, put_of("v", A, []), PutCount(0))
+                for number, (cut, place, leave) in enumerate(cuts):  # each is version 3 + number
+                    cut(server.port, place, leave)
+                    ask(caller, appended("v", A, [(number,)]), PutCount(1))
+                    ask(caller, fetch_of(3 + number, 0, number + 1, "SELECT a FROM v"), rows_of(A, *((row,) for row in range(number + 1))))
+                last = 3 + len(cuts)
+                putter.send(begun_put[half:])
+                PutCount(100).look(putter.answer())
+                ask(putter, fetch_of(last, 40, 42, "SELECT a FROM u"), rows_of(A, (40,), (41,)))
+                LONG_ROWS.look(wire.answer(reader, begun))
+                ask(reader, fetch_of(last, 0, 16, "SELECT s FROM t"), rows_of(TEXTS[:1], *[("x" * 65_536,)] * 16))
+                with Connection(server.port) as connection:
+                    ask(connection, fetch_of(last + 1, 0, 0, "SELECT a FROM v"), Refusal("F18"))
+    return f"{2 * len(cuts)} were cut"
+
+
 @case("clients that send nothing, half a record, or read nothing: with --idle 1 each gives its seat back, and its call is not made")
 def idle_clients(run: Run) -> None:
     with run.serving("--seats", "1", "--idle", "1") as server:
@@ -315,7 +365,7 @@ V = (Column("v", "Int64", True),)
 # a join of one row with the rows of a further place, and the groups of these rows, with how many rows either answer has
 LONG = (("SELECT x.v FROM t AS x JOIN t AS y ON x.s = y.s AND x.v = y.v", 1, 1),
         ("SELECT v FROM t GROUP BY s, v", NUMBERED, NUMBERED))
-TRIES = 5  # of which one has to do: a client that is woken late finds the server at work
+TRIES = 20  # of which one has to do: a client that is woken late finds the server at work
 
 
 def share_before_the_first(server: Server, connection: Connection, records: bytes, wanted: Wanted) -> float:
@@ -377,7 +427,7 @@ def gone_while_grouping(run: Run) -> str:
 SMALL_BATCHES = 4_000  # of two rows, 0 and 2: by its ends each may have a 1, and none a 3
 COMPARED = [fetch_of(1, 0, 2 * SMALL_BATCHES, f"SELECT {item} FROM t WHERE {'OR '.join([equality] * 2_700)}")
             for item, equality in (("a", "a=3"), ("a", "a=1"), ("COUNT(*)", "a=1"))]
-SOON = 2  # seconds within which a seat has to be free, where the answer would take ten times as long or longer
+SOON = 2  # seconds of work within which a seat has to be free, where the answer would take ten times as long or longer
 TEXT_BATCHES, TEXT_ROWS = 1_200, 1_024  # of the text c, and of one text a at the head of each: by its ends each may have more of them
 BELOW = "OR ".join(["s<'b'"] * 2_000)
 ORDERED = [fetch_of(1, 0, TEXT_BATCHES * TEXT_ROWS, text)
@@ -409,23 +459,94 @@ def gone_while_comparing(run: Run) -> str:
             marks.append(server.seconds_worked())
     first, *taken, last = [after - before for before, after in zip(marks, marks[1:])]
     once = max(first, last)
-    same(f"{max(taken):.2f} s of work, where batches are judged in {once:.2f}, which no look ends", True, max(taken) < 2 * once)
+    same(f"{max(taken):.2f} s of work, where batches are judged in {once:.2f}", True, max(taken) < 2 * once)
     return f"at most {max(taken):.2f} s of work, where batches are judged in {once:.2f}"
 
 
-@case("clients that go away while 2,000 orders of texts tell rows or groups, of 1 worker and of 4: two seconds behind the call the only seat is free")
+def work_until_free(server: Server, records: bytes, leave: Callable[[Connection], None] = Connection.close) -> tuple[float, float]:
+    """The work of a server up to the schema, and behind that until the only seat of its client, which goes away, is free."""
+    connection, began = Connection(server.port), server.seconds_worked()
+    connection.send(records)
+    first_message(connection)
+    soon = server.seconds_worked()
+    leave(connection)
+    with Connection(server.port) as waiting:
+        ask(waiting, PUT, Refusal("F10"))
+    return soon - began, server.seconds_worked() - soon
+
+
+@case("clients that go away while 2,000 orders of texts tell rows or groups, of 1 worker and of 4: behind two seconds of work of a worker the only seat is free")
 def gone_while_ordering(run: Run) -> str:
     batch = trees.batch(TEXT_ROWS, (0, b"", *trees.texts([b"a"] + [b"c"] * (TEXT_ROWS - 1))))
     put = put_of_messages([(trees.schema(trees.field("s", trees.UTF8)), b"")] + [batch] * TEXT_BATCHES)
     longest = 0.0
     for workers in ("1", "4"):
         with one_seat(run, workers, put, TEXT_BATCHES * TEXT_ROWS) as server:
-            for records in ORDERED:
-                began = time.perf_counter()
-                seconds_until_free(server, records)  # (from the call on: where no row is kept, the schema comes at the first look)
-                longest = max(longest, time.perf_counter() - began)
-    same(f"a seat was free {longest:.2f} s behind the call", True, longest < SOON)
+            for records in ORDERED:  # (from the call on: where no row is kept, the schema comes at the first look)
+                longest = max(longest, sum(work_until_free(server, records)) / int(workers))
+    same(f"a seat was free behind {longest:.2f} s of work of a worker", True, longest < SOON)
     return f"at most {longest:.2f} s"
+
+
+SINGLES = 40_000  # batches of one row of 0, of which none can have a 1
+ONES = "OR ".join(["a=1"] * 2_700)
+JUDGED = [fetch_of(1, 0, SINGLES, text) for text in (
+    f"SELECT a FROM t WHERE {ONES}", f"SELECT COUNT(*) FROM t WHERE {ONES}",
+    f"SELECT x.a FROM t AS x JOIN t AS y ON x.a=y.a WHERE {'OR '.join(['y.a=1'] * 2_000)}")]
+FIRST_WORK = 0.5  # seconds of work within which the schema has to be there, and then the seat free: to judge all takes ten times as long
+
+
+@case("clients that go away while 2,000 comparisons and more are asked of 40,000 batches of one row: each has the schema at once, and its only seat "
+      "is free at once, as the work of the server tells")
+def gone_while_judging(run: Run) -> str:
+    single = trees.batch(1, (0, b"", bytes(8)))
+    put = put_of_messages([(trees.schema(trees.field("a", trees.integer(64, True), False)), b"")] + [single] * SINGLES)
+    most = [0.0, 0.0]
+    with one_seat(run, "1", put, SINGLES) as server:
+        for records in JUDGED:
+            for leave in WAYS:
+                most = [max(*pair) for pair in zip(most, work_until_free(server, records, leave))]
+                same(f"{most[0]:.2f} s of work before the schema, and {most[1]:.2f} s behind the client", True, max(most) < FIRST_WORK)
+    return f"at most {most[0]:.2f} s of work before the schema, and {most[1]:.2f} s behind the client"
+
+
+WORDS, PIECE, PIECES = 128, 65_536, 4  # texts of each of two columns; rows of a batch, each with another pair of them; batches
+EQUAL = " OR ".join(["s=u"] * 2_000)  # each row is told by all, and none is kept
+DEAR = [f"SELECT v FROM t WHERE {EQUAL}", f"SELECT COUNT(*) FROM t WHERE {EQUAL}", f"SELECT v, COUNT(*) FROM t WHERE {EQUAL} GROUP BY v"]
+PIECE_WORK = 4  # seconds of work of a worker within which the schema has to be there, and then the seat free: a batch takes ten times as long
+
+
+def pairs_put() -> bytes:
+    """A put of batches of which each row has another pair of two texts of 8,192 bytes, which differ in their last ones."""
+    coded = [trees.field(name, trees.UTF8, dictionary=trees.encoding(id, trees.integer(8, True))) for id, name in enumerate("su")]
+    fields = trees.schema(*coded, trees.field("v", trees.integer(64, True))), b""
+    words = [trees.dictionary(id, trees.batch(WORDS, (0, b"", *trees.texts([b"%s%03d%s" % (b"x" * 8_188, number, end) for number in range(WORDS)]))))
+             for id, end in enumerate((b"a", b"b"))]
+    codes = bytes(row % WORDS for row in range(PIECE)), bytes(row // WORDS % WORDS for row in range(PIECE))
+    rows = trees.batch(PIECE, *((0, b"", part) for part in codes), (0, b"", struct.pack(f"<{PIECE}q", *range(PIECE))))
+    return put_of_messages([fields, *words, *[rows] * PIECES])
+
+
+def work_of_dear(run: Run, workers: str, texts: list[str]) -> str:
+    """The work of a worker up to the schema, and behind it, for clients that go away; the most of these texts is told."""
+    most = [0.0, 0.0]
+    with one_seat(run, workers, pairs_put(), PIECES * PIECE) as server:
+        for text in texts:
+            taken = (work / int(workers) for work in work_until_free(server, fetch_of(1, 0, PIECES * PIECE, text)))
+            most = [max(*pair) for pair in zip(most, taken)]
+            same(f"{most[0]:.1f} s of work before the schema, and {most[1]:.1f} s behind the client", True, max(most) < PIECE_WORK)
+    return f"{most[0]:.1f} s of work before the schema, and {most[1]:.1f} s behind the client"
+
+
+@case("clients that go away while 2,000 equalities of texts tell the rows or groups of one batch, groups of 4 workers too: each has the schema, and then "
+      "its only seat is free, long before its batch ends, as the work of a worker tells")
+def gone_while_filtering(run: Run) -> str:
+    return f"at most {work_of_dear(run, '1', DEAR)}; with 4 workers {work_of_dear(run, '4', DEAR[1:])}"
+
+
+@case("a client that goes away while 4 workers ask the same of the rows of four batches: the same")
+def gone_while_workers_filter(run: Run) -> str:
+    return work_of_dear(run, "4", DEAR[:1])
 
 
 @case("a client that waits before it calls: with --idle 0 its connection stays")

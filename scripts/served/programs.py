@@ -14,15 +14,18 @@ from random import Random
 
 import framing
 import trees
+import trips
 import wire
+from each_allocation import MADE
 from framing import END
 from layout import written
 from loopback import SECONDS, Connection, Server
 from random_calls.answers import Refusal, same
 from random_calls.plain_model import Column, Put, Row, Table
 from random_calls.puts import RANGES, stream_of
+from random_calls.refused import INGEST, TABLES
 from reader import Reader
-from served.cases import A, Run, ask, case, fetch_of, rows_of, status_of
+from served.cases import FETCH, PUT, A, Run, ask, case, expiry_of, fetch_of, info_of, rows_of, status_of
 from trips import STREAM
 
 TRIPS = STREAM.read_bytes()
@@ -197,10 +200,11 @@ def copied_table(run: Run) -> None:
         same("no stream", answered("F14 UnknownName"), query(run, server, "SELECT b FROM many", "--format", "arrow"))
 
 
-def hand_on(source: socket.socket, sink: socket.socket) -> None:
-    """Hands on what comes, up to its end, or until nobody takes it."""
+def hand_on(source: socket.socket, sink: socket.socket, came: bytearray) -> None:
+    """Hands on what comes, up to its end, or until nobody takes it, and keeps it."""
     try:
         while data := source.recv(65_536):
+            came += data
             sink.sendall(data)
         sink.shutdown(socket.SHUT_WR)
     except OSError:
@@ -208,9 +212,10 @@ def hand_on(source: socket.socket, sink: socket.socket) -> None:
 
 
 @contextmanager
-def relayed(server: Server) -> Iterator[tuple[int, list[socket.socket]]]:
-    """A port whose connections are handed on to a server, and those that were made so far."""
-    made: list[socket.socket] = []
+def relayed(server: Server) -> Iterator[tuple[int, list[bytearray]]]:
+    """A port whose connections are handed on to a server, and of each that was made what its client sent; of all, when the block has ended."""
+    made: list[bytearray] = []
+    hands: list[threading.Thread] = []
 
     def relay(listener: socket.socket) -> None:
         while True:
@@ -219,14 +224,17 @@ def relayed(server: Server) -> Iterator[tuple[int, list[socket.socket]]]:
             except OSError:
                 return
             far = socket.create_connection(("127.0.0.1", server.port))
-            made.append(near)
-            for pair in ((near, far), (far, near)):
-                threading.Thread(target=hand_on, args=pair, daemon=True).start()
+            made.append(bytearray())
+            for words in ((near, far, made[-1]), (far, near, bytearray())):
+                hands.append(threading.Thread(target=hand_on, args=words, daemon=True))
+                hands[-1].start()
 
     with socket.create_server(("127.0.0.1", 0)) as listener:
         threading.Thread(target=relay, args=(listener,), daemon=True).start()
         yield listener.getsockname()[1], made
         listener.shutdown(socket.SHUT_RDWR)
+        for hand in hands:
+            hand.join(SECONDS)
 
 
 @case("an Arrow stream over four connections: while nobody reads the rows of the first, the second is made, and no third")
@@ -497,6 +505,78 @@ def closed_at_the_start(run: Run) -> None:
         done = subprocess.run(["sh", "-c", 'exec "$0" "$@" <&-', run.path, *words], stdout=subprocess.PIPE, stderr=subprocess.PIPE, timeout=SECONDS)
         same("an input that is closed has no byte, which the server refuses", 1, done.returncode)
         same("tables", printed("t"), tables(run, server))
+
+
+MUTED = ("sh", "-c", 'exec "$0" "$@" 2>&-')  # runs a command with its standard error closed
+COPIED = ("put", "--table", "t", "--mode", "create")
+CREATES = wire.chunk(1, wire.scalar(1, 1) + wire.scalar(2, 1)) + wire.chunk(2, b"t")  # CREATE where it is absent, FAIL where it is there
+
+
+def muted(run: Run, *words: str, data: bytes = b"") -> tuple[int, bytes]:
+    """Runs the program with its standard error closed from the start: its exit status, and what it printed on standard output."""
+    done = subprocess.run([*MUTED, run.path, *words], input=data, stdout=subprocess.PIPE, timeout=SECONDS)
+    return done.returncode, done.stdout
+
+
+def put_call(data: bytes) -> bytes:
+    """The call that creates the table t of an IPC stream, whose first FlightData has the command too."""
+    messages = [wire.chunk(2, header) + (wire.chunk(1000, body) if body else b"") for header, body in framing.stored_messages(data)]
+    command = wire.chunk(1, wire.descriptor(wire.packed(INGEST, CREATES)))
+    return wire.call(b"DoPut", [command + messages[0], *messages[1:]])
+
+
+ROWS_OF_TRIPS = b"".join(b"%d\n" % row[0] for row in trips.ROWS)
+ANY_OF_TABLES = wire.chunk(1, wire.PACKAGE + TABLES)  # with a command whose fields are all at their default, which is left out
+LISTED = wire.call(b"GetFlightInfo", [wire.descriptor(ANY_OF_TABLES)]) + wire.call(b"DoGet", [wire.ticket(wire.tables_handle(1))])
+ASKED = "SELECT id FROM t"
+# Commands, and of each what it reads, how it ends, what it prints, and what it sends over its connection, if it makes one.
+SAID_NOWHERE = [
+    (("query", "SELECT x FROM t"), b"", 1, b"", info_of("SELECT x FROM t")),
+    (("query", "SELECT a,, b FROM t"), b"", 1, b"", info_of("SELECT a,, b FROM t")),
+    (("expire", "--version", "7"), b"", 1, b"", expiry_of(7)),
+    (COPIED, TRIPS, 1, b"", put_call(TRIPS)),
+    (COPIED, TRIPS[:-9], 3, b"", None),
+    ((*COPIED, "--format", "csv"), b"1\n2\n", 3, b"", None),  # it tells the columns that it found on standard error, before it connects
+    ((*COPIED, "--format", "csv", "--columns", "a:int64"), b"x\n", 3, b"", None),
+    (("query", "--progress", ASKED), b"", 0, b"id\n" + ROWS_OF_TRIPS, info_of(ASKED) + fetch_of(1, 0, 7, ASKED)),
+    (("tables",), b"", 0, b"t\n", LISTED),
+]
+
+
+@case("standard error that is closed at the start: each command ends with its status, and sends its calls and nothing else")
+def closed_errors(run: Run) -> str:
+    with run.serving() as server:
+        same("put", printed("7 rows"), put(run, server, "t", TRIPS))
+        for (command, *words), data, status, out, calls in SAID_NOWHERE:
+            with relayed(server) as (port, sent):
+                given = muted(run, command, "--port", str(port), *words, data=data)
+            wanted = [] if calls is None else [calls]
+            same(f"{command} {words}: status, output, and what each connection got", (status, out, wanted), (*given, list(map(bytes, sent))))
+        taken, port = str(server.port), free_port()
+        same("serve", (3, b""), muted(run, "serve", "--port", taken))
+        same("tables", printed("t"), tables(run, server))
+    for command, *words in (["tables"], ["query", ASKED], ["expire", "--version", "0"]):
+        same(f"{command} with no server", (3, b""), muted(run, command, "--port", port, *words))
+    for words in LINES:
+        same(f"{words}", (2, b""), muted(run, *words))
+    same("pipe, cut inside a call", (3, MADE), muted(run, "pipe", data=PUT + FETCH[:-1]))
+    same("pipe, with a broken record", (3, MADE + status_of("F1 BadFrame", 3)), muted(run, "pipe", data=PUT + b"\x05"))
+    return f"{len(SAID_NOWHERE) + len(LINES) + 6} commands"
+
+
+@case("a server whose standard error is closed: its number is the null device's, and a connection whose call fails gets its Status alone")
+def silent_server(run: Run) -> None:
+    with Server(run.path, "--seats", "1", before=MUTED) as server:
+        same("number 2", "/dev/null", os.readlink(f"/proc/{server.process.pid}/fd/2"))
+        for data, wanted in ((b"\x05", status_of("F1 BadFrame", 3)), (PUT[:-1], b""), (PUT + FETCH[:50], MADE)):
+            with Connection(server.port) as connection:
+                connection.send(data)
+                connection.end_input()
+                same(f"what comes behind {len(data)} bytes", wanted, connection.rest())
+        with Connection(server.port) as connection:
+            ask(connection, FETCH, rows_of(A, (1,), (2,)))
+            connection.end_input()
+            same("what stands behind the answer", b"", connection.rest())
 
 
 def told(run: Run, answer: bytes) -> tuple[int, bytes, bytes]:
