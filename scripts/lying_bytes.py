@@ -29,6 +29,7 @@ from __future__ import annotations
 
 import argparse
 import collections
+import functools
 import resource
 import subprocess
 import sys
@@ -283,10 +284,11 @@ def look_at_records(path: str, counts: collections.Counter) -> None:
 # ---- every byte
 
 
-def look_at_every(path: str, counts: collections.Counter) -> None:
-    """Each byte of the whole put. Where it is refused and the connection goes on, the first run's put is version 1."""
+def look_at_every(path: str, counts: collections.Counter, places: range = range(len(PUT))) -> None:
+    """Each byte of the whole put, or of some of its places. Where it is refused and the connection goes on, the first run's put is
+    version 1."""
     _, whole, _ = piped(path, PUT + FETCH)
-    for place in range(len(PUT)):
+    for place in places:
         for value in range(256):
             given = PUT[:place] + bytes([value]) + PUT[place + 1 :] + PUT + FETCH
             said = f"byte {place} of the put is {value:02X}"
@@ -309,16 +311,24 @@ LOOKS = {
 }
 
 
+def places(text: str) -> range:
+    """Places of the put, from the first up to, not with, another: as 0:100."""
+    first, behind = map(int, text.split(":"))
+    return range(first, behind)
+
+
 def main() -> int:
     parser = argparse.ArgumentParser(description=__doc__, formatter_class=argparse.RawDescriptionHelpFormatter)
     parser.add_argument("--program", help="the built program (that of the repository)")
+    parser.add_argument("--places", type=places, default=range(len(PUT)), help=f"of the bytes that `every` changes, as 0:{len(PUT)} (all)")
     parser.add_argument("what", nargs="*", help=f"of {', '.join(LOOKS)} (the first three)")
     words = parser.parse_args()
     path = program(words.program)
+    looks = LOOKS | {"every": functools.partial(look_at_every, places=words.places)}
     for name in words.what or ["messages", "records", "cuts"]:
         began, counts = time.monotonic(), collections.Counter()
         try:
-            LOOKS[name](path, counts)
+            looks[name](path, counts)
         except (Difference, wire.Unreadable) as found:
             print(f"a difference in {name}:\n{found}")
             return 1
