@@ -168,10 +168,10 @@ impl Opening {
     }
 
     /// Whether its second payload may come late. It joins or makes groups, and a place has more than 64 rows; or the judging of its
-    /// batches counts as more than 1,048,576 rows. Contracts say nothing of it.
+    /// batches counts as more than 1,048,576 rows; or the filters compare more than 64 times for a row. Contracts say nothing of it.
     pub fn takes_long(&self) -> bool {
         match &self.meaning {
-            Meaning::Planned(scan) => scan.takes_long(),
+            Meaning::Planned(scan) => self.work.compares_much() || scan.takes_long(),
             Meaning::Listed(_) => false,
         }
     }

@@ -189,6 +189,12 @@ impl FetchStream {
         self.work.rows
     }
 
+    /// Whether a parcel may come late behind another one, since the filters compare more than 64 times for a row. Contracts say nothing
+    /// of it.
+    pub fn comes_slowly(&self) -> bool {
+        self.work.compares_much()
+    }
+
     // The schema of the answer.
     pub(crate) fn schema(&self) -> &Schema
         ensures is { result.now ≡ self.now.schema }

@@ -27,6 +27,11 @@ impl Work {
         }
     }
 
+    // Whether the filters compare so much that a piece has fewer than 65,536 rows.
+    pub(crate) fn compares_much(&self) -> bool {
+        self.comparisons > PIECE_COMPARISONS
+    }
+
     // How many turns of a stream are one turn of making ahead. Each looks at a piece of rows. Where filters compare more, they are fewer: all
     // together make some 4,194,304 comparisons then, or those of one piece.
     pub(crate) fn turns_ahead(&self) -> usize {

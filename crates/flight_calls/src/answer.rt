@@ -159,6 +159,26 @@ fn send_parcel<W: Output>(writer: &mut W, outbox: &mut Outbox, parcel: &Parcel) 
     Ok(())
 }
 
+// Sends a parcel of a stream. Where the next one may come late, it is written at once.
+fn send_given<W: Output>(
+    writer: &mut W,
+    outbox: &mut Outbox,
+    parcel: &Parcel,
+    slow: bool,
+) -> Result<(), Fault>
+    requires failures { CanFail (W.failures writer.old) }
+    ensures bytes { Sends result (W.contents writer.old) (W.contents writer.new)
+        outbox.old outbox.new (flat_map spelling (map Message parcel.now)) }
+    ensures counted { CountsFailure result (W.failures writer.old) (W.failures writer.new) }
+    ensures kind { FailsByTransport result }
+{
+    send_parcel(writer, outbox, parcel)?;
+    if slow {
+        return outbox.flush(writer);
+    }
+    Ok(())
+}
+
 // Sends the answer to a fetch: the payload of its schema, and behind it those of its stream, which is made then.
 fn send_fetch<W: Output, X: Executor>(
     setting: &Setting<'_, X>,
@@ -327,11 +347,20 @@ fn send_rest<W: Output, X: Executor>(
     ensures counted { CountsFailure result (W.failures writer.old) (W.failures writer.new) }
     ensures kind { FailsByTransport result }
 {
-    let mut sending = Sending { writer, outbox };
+    let slow = stream.comes_slowly();
+    let mut sending = Sending {
+        writer,
+        outbox,
+        slow,
+    };
     let sent = setting
         .executor
         .execute(setting.alloc, stream, &mut sending);
-    let Sending { writer, outbox } = sending;
+    let Sending {
+        writer,
+        outbox,
+        slow: _,
+    } = sending;
     take_back(writer);
     take_back(outbox);
     sent
@@ -342,10 +371,18 @@ fn take_back<T>(lent: &mut T)
     ensures { lent.new ≡ lent.old }
 {}
 
-// Where payloads are sent.
+// Where payloads are sent, and whether a parcel may come late behind another one.
 struct Sending<'w, 'o, W> {
     writer: &'w mut W,
     outbox: &'o mut Outbox,
+    slow: bool,
+}
+
+// Where memory comes from, and whether a parcel may come late behind another one.
+#[derive(Clone, Copy, Drop)]
+struct Pace {
+    alloc: Global,
+    slow: bool,
 }
 
 // Each payload is sent before the next one is asked for, and behind the last one the Status.
@@ -361,14 +398,15 @@ impl<'w, 'o, W: Output> ReadsPayloads for Sending<'w, 'o, W> {
         old.outbox.now new.outbox.now (W.failures old.writer.now) (W.failures new.writer.now) };
 
     fn read<P: Payloads>(&mut self, alloc: Global, payloads: &mut P) -> Result<(), Fault> {
-        send_stream(alloc, self.writer, self.outbox, payloads)
+        let slow = self.slow;
+        send_stream(Pace { alloc, slow }, self.writer, self.outbox, payloads)
     }
 }
 
-// Sends the payloads that are given, and then the Status. Where a stream is refused, a beginning is sent, and the fault: F20
+// Sends the payloads that are given, and then the Status. Where they may come late, each parcel is written at once. Where a stream is refused, a beginning is sent, and the fault: F20
 // or F21. Where a turn gives nothing yet, what was sent before is written, and the other end is looked at.
 fn send_stream<W: Output, P: Payloads>(
-    alloc: Global,
+    pace: Pace,
     writer: &mut W,
     outbox: &mut Outbox,
     payloads: &mut P,
@@ -383,8 +421,8 @@ fn send_stream<W: Output, P: Payloads>(
     streams_answer();
     let mut looks = u64::MAX;
     loop {
-        match payloads.turn(alloc, patience_of(looks)) {
-            Ok(Turn::Given(parcel)) => send_parcel(writer, outbox, &parcel)?,
+        match payloads.turn(pace.alloc, patience_of(looks)) {
+            Ok(Turn::Given(parcel)) => send_given(writer, outbox, &parcel, pace.slow)?,
             Ok(Turn::Working) => {
                 looks -= 1;
                 outbox.look(writer)?;

@@ -11,7 +11,7 @@ pub loop-parcel-preserved-in-Ok-Given : goal.loop-parcel-preserved-in-Ok-Given
 loop-parcel-preserved-in-Ok-Given g c =
     let gives = rw c.in-Ok-Given.field-0-is at c.in-Ok-Given.ensures in
     record {
-      sent = parcel_goes_on c.streams_answer.ensures _ _ _ _ _ _ _ _ _ _ c.loop-parcel.invariant.sent gives c.in_ok-send_parcel-in-Ok-Given.ensures.bytes;
+      sent = parcel_goes_on c.streams_answer.ensures _ _ _ _ _ _ _ _ _ _ c.loop-parcel.invariant.sent gives c.in_ok-send_given-in-Ok-Given.ensures.bytes;
       count = search rules;
     }
 
@@ -36,11 +36,11 @@ loop-parcel-smaller g c =
     let some = some_left c.loop-parcel.looks c.patience_of.result c.patience_of.ensures waits.2 in
     omega (arith, same, some)
 
-pub returns-in_err-send_parcel-in-Ok-Given-clause-bytes : goal.returns-in_err-send_parcel-in-Ok-Given-clause-bytes
-returns-in_err-send_parcel-in-Ok-Given-clause-bytes g c =
+pub returns-in_err-send_given-in-Ok-Given-clause-bytes : goal.returns-in_err-send_given-in-Ok-Given-clause-bytes
+returns-in_err-send_given-in-Ok-Given-clause-bytes g c =
     let p = err_from_is_err_and c.from_residual.result c.from_residual.ensures.1 in
     let gives = rw c.in-Ok-Given.field-0-is at c.in-Ok-Given.ensures in
-    rw p.1 (parcel_fails c.streams_answer.ensures _ _ _ _ _ _ _ _ _ _ _ c.loop-parcel.invariant.sent gives c.in_err-send_parcel-in-Ok-Given.ensures.bytes)
+    rw p.1 (parcel_fails c.streams_answer.ensures _ _ _ _ _ _ _ _ _ _ _ c.loop-parcel.invariant.sent gives c.in_err-send_given-in-Ok-Given.ensures.bytes)
 
 pub returns-in_err-look-in-Ok-Working-clause-bytes : goal.returns-in_err-look-in-Ok-Working-clause-bytes
 returns-in_err-look-in-Ok-Working-clause-bytes g c =
