@@ -513,6 +513,7 @@ def gone_while_judging(run: Run) -> str:
 WORDS, PIECE, PIECES = 128, 65_536, 4  # texts of each of two columns; rows of a batch, each with another pair of them; batches
 EQUAL = " OR ".join(["s=u"] * 2_000)  # each row is told by all, and none is kept
 DEAR = [f"SELECT v FROM t WHERE {EQUAL}", f"SELECT COUNT(*) FROM t WHERE {EQUAL}", f"SELECT v, COUNT(*) FROM t WHERE {EQUAL} GROUP BY v"]
+KEPT = f"SELECT v FROM t WHERE {EQUAL} OR v IN ({','.join(map(str, range(1_000, PIECE, 2_000)))})"  # one row of each 2,000 is kept
 PIECE_WORK = 4  # seconds of work of a worker within which the schema has to be there, and then the seat free: a batch takes ten times as long
 
 
@@ -547,6 +548,11 @@ def gone_while_filtering(run: Run) -> str:
 @case("a client that goes away while 4 workers ask the same of the rows of four batches: the same")
 def gone_while_workers_filter(run: Run) -> str:
     return work_of_dear(run, "4", DEAR[:1])
+
+
+@case("clients that go away while the same is asked, and each piece has a row that is kept, of 1 worker and of 4: the same")
+def gone_while_giving(run: Run) -> str:
+    return f"at most {work_of_dear(run, '1', [KEPT])}; with 4 workers {work_of_dear(run, '4', [KEPT])}"
 
 
 @case("a client that waits before it calls: with --idle 0 its connection stays")
