@@ -15,7 +15,7 @@ use Rattle.version_log.specs.Log.{Log, database_of, puts_in}
 use Rattle.flight_core.specs.Machine.{StepOn, OpensIn}
 use Rattle.flight_core.specs.Refusals.{RefusedBy}
 use Rattle.flight_calls.specs.Calls.{info_asked}
-use Rattle.flight_calls.specs.declared.answer.Answer.TheVariants.{Whole}
+use Rattle.flight_calls.specs.declared.answer.Answer.TheVariants.{Stream, Whole}
 use Rattle.flight_calls.specs.Answered.{ReactsBy}
 use Rattle.flight_calls.specs.Reacts.{Asks, IsBeyond, Looks}
 use Rattle.flight_calls.specs.Seats.{Seat, Moves, Learns}
@@ -81,6 +81,25 @@ schema_unread payload fault is other looks = unread_by (schema_wanted payload) f
 
 abbrev refused : Fault → Result StreamAt Fault
 refused fault = Err fault
+
+abbrev opened : StreamAt → Result StreamAt Fault
+opened stream = Ok stream
+
+pub fetch_opened : (moves : Moves) (old new : Seat) (ticket : Payload) (workers : ℕ) (stream : StreamAt) → Learns moves old new
+    → (IsOk (handle_asked ticket) → opened stream ≢ Err OutOfMemory → old.looks < new.looks)
+    → (opened stream ≢ Err OutOfMemory → IsBeyond (handle_asked ticket) new.log → old.asks < new.asks) → OpensIn new.log ticket (Ok stream)
+    → ReactsBy moves (Ok (fetch ticket workers)) old (Stream stream) new
+fetch_opened moves old new ticket workers stream learns looked asks opens = record {
+  log = new.log;
+  after = new.log;
+  answered = (refl, ticket, workers, refl, opens);
+  goes = goes_by_look moves (Ok (fetch ticket workers)) old new learns;
+  looked = λ begun looks. (looked looks (λ e. no_fault e), refl);
+  asks = λ begun beyond. asks (λ e. no_fault e) beyond;
+}
+  where
+    no_fault : opened stream ≡ Err OutOfMemory → ⊥
+    no_fault e = cc
 
 pub fetch_refused : (moves : Moves) (old new : Seat) (ticket : Payload) (workers : ℕ) (fault : Fault) → Learns moves old new
     → (IsOk (handle_asked ticket) → refused fault ≢ Err OutOfMemory → old.looks < new.looks)
