@@ -10,7 +10,6 @@ use crate::work::{Gate, Reads, Work};
 use std::alloc::{AllocError, Global};
 use std::marker::{Brand, PhantomData};
 use std::sync::Wait;
-use std::thread;
 use std::thread::{Threads, join_mut};
 
 // So many claimers more.
@@ -31,24 +30,6 @@ fn split_all(
     Ok(claimers)
 }
 
-// All claimers answer morsels, each in a thread of its own where one can be made.
-fn help_at_once<K, A, W, G, R>(exchange: &Exchange<'_, K, A, W, G, R>, claimers: &mut [Claimer])
-where
-    K: Truth<A> + Send + Sync,
-    A: Drop + Send,
-    W: Work<Answer = A> + Sync,
-    G: Gate + Sync,
-    R: Threads + Wait + Sync,
-    requires ready { W.ready exchange.now.work.now }
-    requires theirs { All (λ claimer. claimer.table_id ≡ exchange.now.word.shared.table_id) claimers.old }
-{
-    let threads = claimers.len().max(1);
-    let each = |_place: usize, claimer: &mut Claimer|
-        requires { W.ready exchange.now.work.now × (claimer.now.table_id ≡ exchange.now.word.shared.table_id) }
-    { exchange.help(claimer) };
-    thread::for_each_mut(exchange.rt, claimers, threads, &each);
-}
-
 // Who works beside others.
 trait Side {
     type Out;
@@ -62,17 +43,60 @@ trait Side {
         ensures { does self.old result self.new };
 }
 
-// Works beside others, who are in a thread of their own where one can be made.
-fn work_beside<R: Threads, F: FnMut() + Send, M: Side>(
-    rt: &R,
-    others: &mut F,
+// Works beside claimers, each of which answers morsels in a thread of its own where one can be made. This thread starts them all.
+#[cycle(threads)]
+fn work_beside<K, A, W, G, R, M>(
+    exchange: &Exchange<'_, K, A, W, G, R>,
+    claimers: &mut [Claimer],
     mine: &mut M,
 ) -> M::Out
-    requires others { F.pre others.old }
+where
+    K: Truth<A> + Send + Sync,
+    A: Drop + Send,
+    W: Work<Answer = A> + Sync,
+    G: Gate + Sync,
+    R: Threads + Wait + Sync,
+    M: Side,
+    requires ready { W.ready exchange.now.work.now }
+    requires theirs { All (λ claimer. claimer.table_id ≡ exchange.now.word.shared.table_id) claimers.old }
     requires mine { M.begins mine.old }
     ensures { M.does mine.old result mine.new }
 {
-    let (_, out) = join_mut(rt, others, &mut || mine.work());
+    match claimers.split_first_mut() {
+        Some((first, others)) => work_beside_first(exchange, first, others, mine),
+        None => mine.work(),
+    }
+}
+
+// The same beside a claimer and others.
+#[cycle(threads)]
+fn work_beside_first<K, A, W, G, R, M>(
+    exchange: &Exchange<'_, K, A, W, G, R>,
+    first: &mut Claimer,
+    others: &mut [Claimer],
+    mine: &mut M,
+) -> M::Out
+where
+    K: Truth<A> + Send + Sync,
+    A: Drop + Send,
+    W: Work<Answer = A> + Sync,
+    G: Gate + Sync,
+    R: Threads + Wait + Sync,
+    M: Side,
+    requires ready { W.ready exchange.now.work.now }
+    requires first { first.old.table_id ≡ exchange.now.word.shared.table_id }
+    requires others { All (λ claimer. claimer.table_id ≡ exchange.now.word.shared.table_id) others.old }
+    requires mine { M.begins mine.old }
+    ensures { M.does mine.old result mine.new }
+{
+    let mut helper = ||
+        requires { W.ready exchange.now.work.now × (first.now.table_id ≡ exchange.now.word.shared.table_id) }
+    { exchange.help(first) };
+    let mut rest = || -> M::Out
+        requires { W.ready exchange.now.work.now × All (λ claimer. claimer.table_id ≡ exchange.now.word.shared.table_id) others.now × M.begins mine.now }
+        ensures { M.does mine.entry.now result mine.exit.now }
+    { work_beside(exchange, others, mine) };
+    let (_, out) = join_mut(exchange.rt, &mut helper, &mut rest);
     out
 }
 
@@ -112,52 +136,11 @@ where
     }
 }
 
-// Reads the answers, with others at work beside.
-fn read_beside<K, A, W, G, R, S, F>(
-    exchange: &Exchange<'_, K, A, W, G, R>,
-    me: Claimer,
-    others: &mut F,
-    reader: &mut S,
-) -> S::Out
-where
-    K: Truth<A>,
-    A: Drop,
-    W: Work<Answer = A>,
-    G: Gate,
-    R: Threads + Wait,
-    S: Reads<A>,
-    F: FnMut() + Send,
-    requires mine { me.table_id ≡ exchange.now.word.shared.table_id }
-    requires ready { W.ready exchange.now.work.now }
-    requires theirs { F.pre others.old }
-    requires takes { S.takes reader.old (λ n a. ∥ K.right n a ∥₁) (W.count exchange.now.work.now) }
-    ensures { S.reads reader.old (λ n a. ∥ K.right n a ∥₁) (W.count exchange.now.work.now) result reader.new }
-{
-    let pull = Pull {
-        exchange,
-        me,
-        given: 0,
-        drawn: None,
-        stash: None,
-        more: false,
-    };
-    let mut reading = Reading { pull, reader };
-    let out = work_beside(exchange.rt, others, &mut reading);
-    let Reading { pull: _, reader } = reading;
-    take_back(reader);
-    out
-}
-
-// Does nothing, but that the reader is used behind the work ties what was read to it.
-fn take_back<T>(x: &mut T)
-    ensures { x.new ≡ x.old }
-{}
-
 // Reads the answers, with these claimers at work beside.
-fn read_with<K, A, W, G, R, S>(
+fn read_beside<K, A, W, G, R, S>(
     exchange: &Exchange<'_, K, A, W, G, R>,
     me: Claimer,
-    mut claimers: Vec<Claimer>,
+    claimers: &mut [Claimer],
     reader: &mut S,
 ) -> S::Out
 where
@@ -169,15 +152,29 @@ where
     S: Reads<A>,
     requires ready { W.ready exchange.now.work.now }
     requires mine { me.table_id ≡ exchange.now.word.shared.table_id }
-    requires theirs { All (λ claimer. claimer.table_id ≡ exchange.now.word.shared.table_id) claimers.items }
+    requires theirs { All (λ claimer. claimer.table_id ≡ exchange.now.word.shared.table_id) claimers.old }
     requires takes { S.takes reader.old (λ n a. ∥ K.right n a ∥₁) (W.count exchange.now.work.now) }
     ensures read { S.reads reader.old (λ n a. ∥ K.right n a ∥₁) (W.count exchange.now.work.now) result reader.new }
 {
-    let mut helpers = move ||
-        requires { W.ready exchange.now.work.now × All (λ claimer. claimer.table_id ≡ exchange.now.word.shared.table_id) claimers.items }
-    { help_at_once(exchange, claimers.as_mut_slice()) };
-    read_beside(exchange, me, &mut helpers, reader)
+    let pull = Pull {
+        exchange,
+        me,
+        given: 0,
+        drawn: None,
+        stash: None,
+        more: false,
+    };
+    let mut reading = Reading { pull, reader };
+    let out = work_beside(exchange, claimers, &mut reading);
+    let Reading { pull: _, reader } = reading;
+    take_back(reader);
+    out
 }
+
+// Does nothing, but that the reader is used behind the work ties what was read to it.
+fn take_back<T>(x: &mut T)
+    ensures { x.new ≡ x.old }
+{}
 
 // Reads the answers, each made when it is read.
 fn read_in_turn<K, A, W, G, S>(alloc: Global, work: &W, gate: &G, reader: &mut S) -> S::Out
@@ -227,7 +224,7 @@ where
 {
     let window: Window<K, A> = Window::new(alloc, workers)?;
     let (word, mut me) = open(alloc)?;
-    let claimers = split_all(alloc, &word, &mut me, workers)?;
+    let mut claimers = split_all(alloc, &word, &mut me, workers)?;
     let exchange = Exchange {
         rt,
         alloc,
@@ -236,7 +233,12 @@ where
         window,
         word,
     };
-    Ok(read_with(&exchange, me, claimers, reader))
+    Ok(read_beside(
+        &exchange,
+        me,
+        claimers.as_mut_slice(),
+        reader,
+    ))
 }
 
 // As `in_order`, where the right answers have a name.
