@@ -224,7 +224,7 @@ where
 {
     let window: Window<K, A> = Window::new(alloc, workers)?;
     let (word, mut me) = open(alloc)?;
-    let mut claimers = split_all(alloc, &word, &mut me, workers)?;
+    let mut claimers = split_all(alloc, &word, &mut me, workers - 1)?;
     let exchange = Exchange {
         rt,
         alloc,
@@ -270,8 +270,8 @@ where
     read_at_once::<K, A, W, G, R, S>(rt, alloc, work, workers, gate, reader)
 }
 
-/// Has the answers read in the order of the morsels, which so many workers make, in threads of their own beside the reader. No
-/// more answers are held at once than there are workers. With fewer than two workers no thread is started: the reader makes all.
+/// Has the answers read in the order of the morsels, which so many workers make: the reader, where the next one is not there yet, and
+/// threads beside it. No more answers are held at once than there are workers. With fewer than two workers no thread is started.
 ///
 /// # Errors
 ///

@@ -2,6 +2,7 @@
 
 ghost use Rattle.std.specs.Prelude.{◌≡◌, ◌<◌, ℕ};
 
+use crate::begun::Begun;
 use crate::claims::{Claimer, Word, draw};
 use crate::window::{Answered, Truth, Window};
 use crate::work::{Gate, Work};
@@ -41,33 +42,52 @@ impl<'a, K: Truth<A>, A: Drop, W: Work<Answer = A>, G: Gate, R: Wait> Exchange<'
         self.work.go_on(self.alloc, &mut answered.answer)
     }
 
-    // Waits until a morsel may be begun. Whether answers are still read.
-    fn wait_to_begin(&self, number: usize) -> bool {
-        if self.work.chooses_first() {
-            self.window.wait_to_choose(self.rt, number)
-        } else {
-            self.window.wait_for_room(self.rt, number)
-        }
-    }
-
-    // The answer to a morsel, begun, and then made turn by turn once it has a slot; or none where answers are no longer read.
-    fn make(&self, number: usize) -> Option<Answered<K, A>>
-        requires ready { W.ready self.now.work.now }
-        requires there { number < W.count self.now.work.now }
+    // Makes an answer that was begun, turn by turn once it has a slot, and puts it there. Whether answers are still read.
+    fn make(&self, mut answered: Answered<K, A>) -> bool
+        requires { W.ready self.now.work.now }
     {
-        let mut answered = self.answer(number);
+        let number = answered.number;
         if !self.window.wait_for_room(self.rt, number) {
-            return None;
+            return false;
         }
         for _ in self.rt.forever() {
             if !self.go_on(&mut answered) {
-                return Some(answered);
+                self.window.put(self.rt, answered);
+                return true;
             }
             if !self.window.turn(self.rt, number) {
-                return None;
+                return false;
             }
         }
         unreachable!()
+    }
+
+    // Begins one morsel more, behind those that a worker has begun. Whether there is one, and answers are still read.
+    fn begin(&self, me: &mut Claimer, begun: &mut Begun<K, A>) -> bool
+        requires ready { W.ready self.now.work.now }
+        requires mine { me.old.table_id ≡ self.now.word.shared.table_id }
+        ensures mine { me.new.table_id ≡ me.old.table_id }
+    {
+        let number = draw(&self.word, me) as usize;
+        if number >= self.work.count() || self.window.is_closed() {
+            return false;
+        }
+        if !self.work.chooses_first() && !self.window.wait_for_room(self.rt, number) {
+            return false;
+        }
+        begun.push(self.answer(number));
+        true
+    }
+
+    // Whether a worker begins one morsel more before it makes the first of those that it has begun: it has none, or the rows of more
+    // may be chosen while that one has no slot.
+    fn begins_more(&self, begun: &Begun<K, A>) -> bool {
+        match begun.first_number() {
+            None => true,
+            Some(number) => {
+                self.work.chooses_first() && begun.has_room() && !self.window.is_near(number)
+            }
+        }
     }
 
     // Answers morsels beside the reader, until none is left, or no more answers are read.
@@ -77,7 +97,6 @@ impl<'a, K: Truth<A>, A: Drop, W: Work<Answer = A>, G: Gate, R: Wait> Exchange<'
     {
         self.window.join(self.rt);
         self.answer_all(me);
-        self.window.leave(self.rt);
     }
 
     // Answers morsels until none is left, or no more answers are read.
@@ -85,15 +104,19 @@ impl<'a, K: Truth<A>, A: Drop, W: Work<Answer = A>, G: Gate, R: Wait> Exchange<'
         requires ready { W.ready self.now.work.now }
         requires mine { me.old.table_id ≡ self.now.word.shared.table_id }
     {
+        let mut begun = Begun::none();
+        let mut more = true;
         for _ in self.rt.forever() {
-            let number = draw(&self.word, me) as usize;
-            if number >= self.work.count() || !self.wait_to_begin(number) {
-                return;
+            if more && self.begins_more(&begun) {
+                more = self.begin(me, &mut begun);
+            } else {
+                let Some(first) = begun.take_first() else {
+                    return;
+                };
+                if !self.make(first) {
+                    return;
+                }
             }
-            let Some(answered) = self.make(number) else {
-                return;
-            };
-            self.window.put(self.rt, answered);
         }
     }
 }

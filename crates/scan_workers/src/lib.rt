@@ -1,6 +1,7 @@
 //! Workers that claim morsels by one word, and whose answers are read in the order of the morsels.
 #![tactic(auto)]
 
+mod begun;
 mod beside;
 mod claims;
 mod collect;

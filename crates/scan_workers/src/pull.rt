@@ -10,8 +10,7 @@ use std::alloc::Global;
 use std::marker::PhantomData;
 use std::sync::Wait;
 
-// The answers in the order of the morsels. The reader answers a morsel itself where no worker is at work beside it: before their
-// threads run, and where none could be started.
+// The answers in the order of the morsels. The reader answers a morsel itself where the next one is not there.
 #[derive(Drop)]
 pub struct Pull<'a, 'h, K: Truth<A>, A, W: Work<Answer = A>, G, R> {
     pub exchange: &'a Exchange<'h, K, A, W, G, R>,
@@ -81,22 +80,22 @@ impl<'a, 'h, K: Truth<A>, A: Drop, W: Work<Answer = A>, G: Gate, R: Wait> Pull<
         self.drawn = Some(number);
     }
 
-    // Whether the reader leaves all morsels to others. One that it drew is for it alone.
-    fn leaves_all(&self) -> bool {
-        self.drawn.is_none() && self.exchange.window.is_helped(self.exchange.rt)
+    // Whether a morsel may be begun here: its answer has a slot, or what it answers may be chosen before.
+    fn may_begin(&self, number: usize) -> bool {
+        let exchange = self.exchange;
+        exchange.work.chooses_first() || number.saturating_sub(self.given) < exchange.window.size
     }
 
-    // Begins a morsel here, where one is left that may be begun, and nobody else does. Whether it did.
+    // Begins a morsel here, where none is begun, and one is left that may be. Whether it did.
     fn begin(&mut self) -> bool
         requires { W.ready self.old.exchange.now.work.now }
         ensures same { (self.new.exchange ≡ self.old.exchange) × (self.new.given ≡ self.old.given) }
     {
-        if self.stash.is_some() || self.leaves_all() {
+        if self.stash.is_some() {
             return false;
         }
         let number = self.draw_one();
-        let ahead = number.saturating_sub(self.given);
-        if number >= self.exchange.work.count() || ahead >= self.exchange.window.size {
+        if number >= self.exchange.work.count() || !self.may_begin(number) {
             self.drawn = Some(number);
             return false;
         }
@@ -117,12 +116,20 @@ impl<'a, 'h, K: Truth<A>, A: Drop, W: Work<Answer = A>, G: Gate, R: Wait> Pull<
         self.more
     }
 
+    // Whether the answer that is made here has a slot, and there is more to be made of it.
+    fn may_go_on(&self) -> bool {
+        match &self.stash {
+            Some(answered) => self.more && self.exchange.window.is_near(answered.number),
+            None => false,
+        }
+    }
+
     // Works on a morsel here, or waits for a worker that makes the one that is asked for. Whether a turn of one is over.
     fn work(&mut self, number: usize) -> bool
         requires { W.ready self.old.exchange.now.work.now }
         ensures same { (self.new.exchange ≡ self.old.exchange) × (self.new.given ≡ self.old.given) }
     {
-        if self.more {
+        if self.may_go_on() {
             return self.go_on();
         }
         if self.begin() {

@@ -2,6 +2,7 @@
 
 ghost use Rattle.std.specs.Prelude.{◌≡◌, IfSome};
 
+use crate::begun::MOST_BEGUN;
 use std::alloc::{AllocError, Global};
 use std::hint::spin_loop;
 use std::marker::{Brand, PhantomData};
@@ -50,8 +51,8 @@ struct Slots<K: Truth<A>, A> {
     read: usize,
     // Whether no more are read.
     closed: bool,
-    // How many workers are at work beside the reader.
-    helpers: usize,
+    // Whether a worker has begun to work beside the reader.
+    helped: bool,
     // Whether the reader sleeps.
     sleeps: bool,
     // Whether a turn of the morsel for which the reader asks is over, since the reader last slept or asked for it.
@@ -59,9 +60,9 @@ struct Slots<K: Truth<A>, A> {
 }
 
 impl<K: Truth<A>, A: Drop> Slots<K, A> {
-    // Whether a worker may go on with a morsel: it is one of so many from the one on that the reader is at, or no more are read.
-    fn may_go_on(&self, number: usize, many: usize) -> bool {
-        self.closed || number.saturating_sub(self.read) < many
+    // Whether a worker may go on with a morsel: its answer has a slot, or no more are read.
+    fn may_go_on(&self, number: usize) -> bool {
+        self.closed || number.saturating_sub(self.read) < self.answers.len()
     }
 
     // Puts an answer into its slot. Whether the reader asks for it.
@@ -121,8 +122,8 @@ impl<K: Truth<A>, A: Drop> Slots<K, A> {
     }
 }
 
-// Before a thread sleeps it looks so often, without the lock, whether it may go on: some 60 microseconds long. To wake a thread that
-// sleeps may take as long. It doesn't yield its processor meanwhile: who else runs there may keep it for milliseconds.
+// Before a thread sleeps it looks so often, without the lock, whether it may go on: some 3 microseconds long. It doesn't yield its
+// processor meanwhile: who else runs there may keep it for milliseconds.
 const LOOKS: usize = 1_500;
 
 // How many microseconds the reader sleeps at most until a worker is at work.
@@ -137,8 +138,8 @@ pub struct Window<K: Truth<A>, A> {
     // ... and the number behind the last morsel that was made, or of which a turn was over, while the reader asked for it.
     answered: AtomicUsize,
     filled: Condvar,
-    // A worker sleeps at the place of its morsel, so that none is woken but the one that may go on. There are twice as many places
-    // as slots, for morsels of which the rows are chosen before there is a slot.
+    // A worker sleeps at the place of its morsel, so that none is woken but the one that may go on. There are so many places that no
+    // two of the morsels that workers have begun share one.
     rooms: Vec<Condvar>,
     // How many slots there are: so many answers are made or there at once, from the one on that the reader is at.
     pub size: usize,
@@ -148,10 +149,12 @@ impl<K: Truth<A>, A: Drop> Window<K, A> {
     // A window of so many slots.
     pub fn new(alloc: Global, size: usize) -> Result<Window<K, A>, AllocError> {
         let mut answers = Vec::with_capacity(alloc, size)?;
-        let mut rooms = Vec::with_capacity(alloc, size.saturating_mul(2))?;
+        let sleepers = size.saturating_mul(MOST_BEGUN + 2);
+        let mut rooms = Vec::with_capacity(alloc, sleepers)?;
         for _ in 0..size {
             answers.push(None)?;
-            rooms.push(Condvar::new())?;
+        }
+        for _ in 0..sleepers {
             rooms.push(Condvar::new())?;
         }
         Ok(Window {
@@ -159,7 +162,7 @@ impl<K: Truth<A>, A: Drop> Window<K, A> {
                 answers,
                 read: 0,
                 closed: false,
-                helpers: 0,
+                helped: false,
                 sleeps: false,
                 turned: false,
             }),
@@ -176,10 +179,10 @@ impl<K: Truth<A>, A: Drop> Window<K, A> {
         self.rooms.get(number.checked_rem(self.rooms.len())?)
     }
 
-    // Looks for a while whether a morsel is one of so many from the one on that the reader is at.
-    fn look_near(&self, number: usize, many: usize) {
+    // Looks for a while whether the answer of a morsel has a slot.
+    fn look_near(&self, number: usize) {
         for _ in 0..LOOKS {
-            if number.saturating_sub(self.read.load(Ordering::Acquire)) < many {
+            if self.is_near(number) {
                 return;
             }
             spin_loop();
@@ -196,26 +199,25 @@ impl<K: Truth<A>, A: Drop> Window<K, A> {
         }
     }
 
+    // Whether the answer of a morsel has a slot, by what was seen last, or no more are read.
+    pub fn is_near(&self, number: usize) -> bool {
+        number.saturating_sub(self.read.load(Ordering::Acquire)) < self.size
+    }
+
+    // Whether no more answers are read, by what was seen last.
+    pub fn is_closed(&self) -> bool {
+        self.read.load(Ordering::Acquire) == usize::MAX
+    }
+
     // Waits until the answer of a morsel has a slot. Whether answers are still read: without slots none are.
     pub fn wait_for_room(&self, rt: &impl Wait, number: usize) -> bool {
-        self.wait_near(rt, number, self.size)
-    }
-
-    // Waits until what a morsel answers may be chosen: as many morsels more may be begun as there are slots. Whether answers are
-    // still read.
-    pub fn wait_to_choose(&self, rt: &impl Wait, number: usize) -> bool {
-        self.wait_near(rt, number, self.size.saturating_mul(2))
-    }
-
-    // Waits until a morsel is one of so many from the one on that the reader is at. Whether answers are still read.
-    fn wait_near(&self, rt: &impl Wait, number: usize, many: usize) -> bool {
         let Some(room) = self.room(number) else {
             return false;
         };
-        self.look_near(number, many);
+        self.look_near(number);
         let mut slots = self.slots.lock(rt);
         for _ in rt.forever() {
-            if slots.may_go_on(number, many) {
+            if slots.may_go_on(number) {
                 return !slots.closed;
             }
             slots = room.wait(rt, slots);
@@ -256,38 +258,19 @@ impl<K: Truth<A>, A: Drop> Window<K, A> {
         goes_on
     }
 
-    // A worker is at work beside the reader.
+    // A worker begins to work beside the reader.
     pub fn join(&self, rt: &impl Wait) {
-        let mut slots = self.slots.lock(rt);
-        slots.helpers = slots.helpers.saturating_add(1);
-        drop(slots);
+        self.slots.lock(rt).helped = true;
         self.filled.notify_one();
     }
 
-    // Sleeps for a moment, unless a worker is at work beside the reader or begins to be. A thread that was just started may have been
-    // put on the reader's processor: then it runs once the reader sleeps, and else only milliseconds later.
+    // Sleeps for a moment, unless a worker works beside the reader or begins to. A thread that was just started may have been put on the
+    // reader's processor: then it runs once the reader sleeps, and else only milliseconds later.
     pub fn await_helper(&self, rt: &impl Wait) {
         let seen = self.filled.notifications();
-        if !self.is_helped(rt) {
+        if !self.slots.lock(rt).helped {
             self.filled.sleep(rt, seen, Duration::from_micros(MOMENT));
         }
-    }
-
-    // It is at work no more. The reader, if it sleeps, looks again.
-    pub fn leave(&self, rt: &impl Wait) {
-        let mut slots = self.slots.lock(rt);
-        slots.helpers = slots.helpers.saturating_sub(1);
-        slots.turned = true;
-        let sleeps = slots.sleeps;
-        drop(slots);
-        if sleeps {
-            self.filled.notify_one();
-        }
-    }
-
-    // Whether a worker is at work beside the reader.
-    pub fn is_helped(&self, rt: &impl Wait) -> bool {
-        self.slots.lock(rt).helpers > 0
     }
 
     // The answer of a morsel, if it is there.
@@ -311,21 +294,15 @@ impl<K: Truth<A>, A: Drop> Window<K, A> {
         unreachable!()
     }
 
-    // The reader is done with so many answers, and asks for the next one. One slot became free, for the last morsel of the window,
-    // and the rows of one morsel more may be chosen.
+    // The reader is done with so many answers, and asks for the next one. One slot became free, for the last morsel of the window:
+    // its worker is woken, if it sleeps.
     pub fn go_on(&self, rt: &impl Wait, read: usize) {
         let moved = self.slots.lock(rt).ask(read);
         if !moved {
             return;
         }
         self.read.store(read, Ordering::Release);
-        self.wake_last(read, self.size);
-        self.wake_last(read, self.size.saturating_mul(2));
-    }
-
-    // Wakes the worker, if it sleeps, whose morsel is the last one of so many from the one on that the reader is at.
-    fn wake_last(&self, read: usize, many: usize) {
-        if let Some(room) = self.room(read.wrapping_add(many).wrapping_sub(1)) {
+        if let Some(room) = self.room(read.wrapping_add(self.size).wrapping_sub(1)) {
             room.notify_one();
         }
     }
