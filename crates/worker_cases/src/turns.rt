@@ -46,7 +46,7 @@ impl Work for InTurns {
         50
     }
 
-    // All is made in turns. So the reader begins no morsel while another worker is at work.
+    // All is made in turns.
     fn chooses_first(&self) -> bool {
         true
     }
