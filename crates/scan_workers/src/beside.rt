@@ -233,12 +233,7 @@ where
         window,
         word,
     };
-    Ok(read_beside(
-        &exchange,
-        me,
-        claimers.as_mut_slice(),
-        reader,
-    ))
+    Ok(read_beside(&exchange, me, claimers.as_mut_slice(), reader))
 }
 
 // As `in_order`, where the right answers have a name.
