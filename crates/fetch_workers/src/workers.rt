@@ -102,9 +102,9 @@ impl<R: Threads + Wait + Sync> StartsWorkers for R {
     }
 }
 
-/// The thread that reads has the payloads of a stream made by workers beside it, each in a thread of its own: as many as the
-/// stream asks for at most, one for each 65,536 rows that are read and one for each morsel at most. It makes some itself before
-/// their threads run. Threads are started once for a fetch, and have ended when it has. Of groups the workers make those of each
+/// The payloads of a stream are made by the thread that reads and by workers beside it, each in a thread of its own: with that thread
+/// as many as the stream asks for at most, one for each 65,536 rows that are read and one for each morsel at most.
+/// Threads are started once for a fetch, and have ended when it has. Of groups the workers make those of each
 /// part of the batches, with the same bounds. The list of tables and streams whose rows are begun stay with one worker; so does a stream
 /// of rows where memory is refused for the others.
 #[derive(Drop)]
