@@ -3,15 +3,13 @@
 use crate::window::{Answered, Truth};
 
 // So many a worker begins at most before it makes the first of them.
-pub const MOST_BEGUN: usize = 4;
+pub const MOST_BEGUN: usize = 2;
 
 // Morsels that were begun, one behind the other.
 #[derive(Drop)]
 pub struct Begun<K: Truth<A>, A> {
     first: Option<Answered<K, A>>,
     second: Option<Answered<K, A>>,
-    third: Option<Answered<K, A>>,
-    fourth: Option<Answered<K, A>>,
 }
 
 impl<K: Truth<A>, A: Drop> Begun<K, A> {
@@ -20,14 +18,12 @@ impl<K: Truth<A>, A: Drop> Begun<K, A> {
         Begun {
             first: None,
             second: None,
-            third: None,
-            fourth: None,
         }
     }
 
     // Whether one more may be begun.
     pub fn has_room(&self) -> bool {
-        self.fourth.is_none()
+        self.second.is_none()
     }
 
     // The number of the first one.
@@ -40,24 +36,17 @@ impl<K: Truth<A>, A: Drop> Begun<K, A> {
 
     // One more that was begun, behind the others. There is room for it.
     pub fn push(&mut self, answered: Answered<K, A>) {
-        let place = if self.first.is_none() {
-            &mut self.first
-        } else if self.second.is_none() {
-            &mut self.second
-        } else if self.third.is_none() {
-            &mut self.third
+        if self.first.is_none() {
+            self.first = Some(answered);
         } else {
-            &mut self.fourth
-        };
-        *place = Some(answered);
+            self.second = Some(answered);
+        }
     }
 
     // Takes the first one away.
     pub fn take_first(&mut self) -> Option<Answered<K, A>> {
         let taken = self.first.take();
         self.first = self.second.take();
-        self.second = self.third.take();
-        self.third = self.fourth.take();
         taken
     }
 }

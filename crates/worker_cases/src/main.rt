@@ -37,10 +37,10 @@ fn main(rt: HostRuntime) -> io::Result<()> {
     println!(rt; "{}", line(alloc, "stops_at_a_refusal", came)?)?;
     let came = window::at_most_as_many_as_workers(&rt, alloc);
     println!(rt; "{}", line(alloc, "at_most_as_many_as_workers", came)?)?;
-    let came = window::at_most_five_times_as_many_are_chosen(&rt, alloc);
+    let came = window::at_most_three_times_as_many_are_chosen(&rt, alloc);
     println!(rt;
         "{}",
-        line(alloc, "at_most_five_times_as_many_are_chosen", came)?
+        line(alloc, "at_most_three_times_as_many_are_chosen", came)?
     )?;
     let came = turns::answers_come_in_turns(&rt, alloc);
     println!(rt; "{}", line(alloc, "answers_come_in_turns", came)?)?;

@@ -154,15 +154,15 @@ pub fn at_most_as_many_as_workers<R: Threads + Wait + Sync>(
 }
 
 /// For how many numbers of workers, of 1 to 16, that is so where a morsel is chosen before its answer is made, and no more than
-/// five times as many were chosen as there are workers: four by each, and those whose answers are there.
-pub fn at_most_five_times_as_many_are_chosen<R: Threads + Wait + Sync>(
+/// three times as many were chosen as there are workers: two by each, and those whose answers are there.
+pub fn at_most_three_times_as_many_are_chosen<R: Threads + Wait + Sync>(
     rt: &R,
     alloc: Global,
 ) -> Result<String, AllocError> {
     let mut within = 0u32;
     for workers in 1..17 {
         let most = most_of(rt, alloc, workers, true)?;
-        let few = most.made <= workers as u64 && most.chosen <= 5 * workers as u64;
+        let few = most.made <= workers as u64 && most.chosen <= 3 * workers as u64;
         if 0 < most.chosen && few {
             within = within.saturating_add(1);
         }
