@@ -198,6 +198,16 @@ where
     reader.read(&mut answers)
 }
 
+// How many workers have threads of their own, with the reader one of so many. Where no morsel is chosen first, each of them may have
+// one large morsel, and the threads are one more: so none waits for a thread that a kernel has put on the reader's processor.
+fn helpers_of<W: Work>(work: &W, workers: usize) -> usize {
+    if work.chooses_first() {
+        workers.saturating_sub(1)
+    } else {
+        workers
+    }
+}
+
 // Reads the answers, which at least two workers make.
 fn read_at_once<K, A, W, G, R, S>(
     rt: &R,
@@ -224,7 +234,7 @@ where
 {
     let window: Window<K, A> = Window::new(alloc, workers)?;
     let (word, mut me) = open(alloc)?;
-    let mut claimers = split_all(alloc, &word, &mut me, workers - 1)?;
+    let mut claimers = split_all(alloc, &word, &mut me, helpers_of(work, workers))?;
     let exchange = Exchange {
         rt,
         alloc,
