@@ -1,7 +1,7 @@
 #!/usr/bin/env python3
 """What several workers make of a fetch of `flightscan serve`: its time by the clock and that of the processors.
 
-    python3 bench/workers.py [--program PATH] [--before PATH] [--runs N] [--seconds S] [--rows N] [QUERY..]
+    python3 bench/workers.py [--program PATH] [--before PATH] [--runs N] [--seconds S] [--rows N] [--awake] [QUERY..]
 
 A table of 8,000,000 rows in batches of 65,536 (numbers, one with a tenth of nulls, and texts of ten words) and one of 100,000
 rows are put to servers with 1, 2, 4 and 16 workers. First each query is fetched once from each server, whose streams have to
@@ -14,18 +14,23 @@ Two small queries follow, with 1 worker and with 4: all of a table of two rows, 
 each on a connection of its own, fetch at once from the server of 1 worker. With --before another program is put beside it,
 one from before there were workers. The client is bench/sockets.cpp, compiled with g++; the kernel throws its answers away.
 
+With --awake a loop of the lowest priority (SCHED_IDLE) keeps each processor from halting. It runs only where nothing else
+would. In a virtual machine a processor that has halted comes back late, and its host may have moved it meanwhile.
+
 The goals: 4 workers 3.0 times as fast by the clock as 1 on four cores (2 workers 1.7 times), with at most 1.15 times the
 processor time; a small query at most 1.1 times; four readers as fast as before. Which ones are missed is told. It ends with 1
 where streams differ. Build the program first, as for pipe.py.
 """
 
 import argparse
+import os
 import pathlib
+import signal
 import sys
 import tempfile
 import zlib
 from array import array
-from contextlib import ExitStack
+from contextlib import ExitStack, contextmanager
 from dataclasses import dataclass
 from itertools import accumulate
 from random import Random
@@ -180,6 +185,25 @@ def measured_once(bench, server, step, readers):
     return Figures(one.median, cores / one.rate, one.rate)
 
 
+@contextmanager
+def kept_awake():
+    """A loop of the lowest priority on each processor, as long as the block."""
+    loops = []
+    for processor in sorted(os.sched_getaffinity(0)):
+        if not (loop := os.fork()):
+            os.sched_setaffinity(0, {processor})
+            os.sched_setscheduler(0, os.SCHED_IDLE, os.sched_param(0))
+            while True:
+                pass
+        loops.append(loop)
+    try:
+        yield
+    finally:
+        for loop in loops:
+            os.kill(loop, signal.SIGKILL)
+            os.waitpid(loop, 0)
+
+
 def best(rounds):
     """The least of each time, and the highest rate."""
     return Figures(min(one.clock for one in rounds), min(one.processor for one in rounds), max(one.rate for one in rounds))
@@ -262,6 +286,7 @@ def main():
     parser.add_argument("--runs", type=int, default=3, help="rounds, of which the best is told (3)")
     parser.add_argument("--seconds", type=float, default=1.5, help="that a query is fetched over and over (1.5)")
     parser.add_argument("--rows", type=int, default=8_000_000, help="of the table (8000000)")
+    parser.add_argument("--awake", action="store_true", help="keep the processors from halting")
     parser.add_argument("query", nargs="*", help=f"queries whose names begin so (all): {', '.join([*LARGE, *SMALL])}")
     words = parser.parse_args()
     path, measured, found, missed = program(words.program), Measured(words.program), {}, []
@@ -276,6 +301,8 @@ def main():
         for server in servers.values():
             given_the_tables(server, workload)
         look_at_answers(servers, workload)
+        if words.awake:
+            stack.enter_context(kept_awake())
         for _ in range(words.runs):
             one_round(bench, servers, workload, names, found)
         print_large(found, [name for name in names if name in LARGE], missed)
