@@ -126,9 +126,6 @@ where
 
     fn work(&mut self) -> S::Out {
         let exchange = self.pull.exchange;
-        if !exchange.work.chooses_first() {
-            self.pull.draw_first();
-        }
         exchange.window.await_helper(exchange.rt);
         let out = self.reader.read(&mut self.pull);
         self.pull.exchange.window.close(self.pull.exchange.rt);
@@ -156,7 +153,7 @@ where
     requires takes { S.takes reader.old (λ n a. ∥ K.right n a ∥₁) (W.count exchange.now.work.now) }
     ensures read { S.reads reader.old (λ n a. ∥ K.right n a ∥₁) (W.count exchange.now.work.now) result reader.new }
 {
-    let pull = Pull {
+    let mut pull = Pull {
         exchange,
         me,
         given: 0,
@@ -164,6 +161,9 @@ where
         stash: None,
         more: false,
     };
+    if !exchange.work.chooses_first() {
+        pull.draw_first();
+    }
     let mut reading = Reading { pull, reader };
     let out = work_beside(exchange, claimers, &mut reading);
     let Reading { pull: _, reader } = reading;

@@ -15,7 +15,7 @@ struct Made {
     left: usize,
 }
 
-// 50 morsels, each of which takes three turns, or turns without end.
+// 50 morsels, each of which takes three turns. The first one may take turns without end.
 #[derive(Drop)]
 struct InTurns {
     endless: bool,
@@ -61,7 +61,7 @@ impl Work for InTurns {
 
     fn go_on(&self, _alloc: Global, answer: &mut Made) -> bool {
         answer.left = answer.left.saturating_sub(1);
-        self.endless || answer.left > 0
+        self.endless && answer.number == 0 || answer.left > 0
     }
 }
 
@@ -100,14 +100,14 @@ impl Reads<Made> for ByTurns {
     }
 }
 
-// It waits until another worker has begun a morsel, and takes one turn.
+// It waits until another worker has begun a morsel, and takes four turns. Three may be those of a morsel of its own.
 #[derive(Drop)]
-struct OneTurn<'a, R: Clock> {
+struct FourTurns<'a, R: Clock> {
     rt: &'a R,
     begun: &'a AtomicU64,
 }
 
-impl<'a, R: Clock> OneTurn<'a, R> {
+impl<'a, R: Clock> FourTurns<'a, R> {
     // Waits for another worker, but no longer than 10,000 times a millisecond.
     fn wait(&self) {
         for _ in 0..10_000u32 {
@@ -119,17 +119,22 @@ impl<'a, R: Clock> OneTurn<'a, R> {
     }
 }
 
-impl<'a, R: Clock> Reads<Made> for OneTurn<'a, R> {
+impl<'a, R: Clock> Reads<Made> for FourTurns<'a, R> {
     type Out = bool;
 
     ghost takes = { λ _ _ _. Unit {0} };
 
     ghost reads = { λ _ _ _ _ _. Unit {0} };
 
-    // Whether the turn was over before the answer was there.
+    // Whether each turn was over before the answer was there.
     fn read<P: Answers<Made>>(&mut self, answers: &mut P) -> bool {
         self.wait();
-        matches!(answers.turn(), NextAnswer::Going)
+        for _ in 0..4u32 {
+            if !matches!(answers.turn(), NextAnswer::Going) {
+                return false;
+            }
+        }
+        true
     }
 }
 
@@ -150,7 +155,7 @@ pub fn answers_come_in_turns<R: Threads + Wait + Sync>(
     format!(in alloc; "{whole}")
 }
 
-/// For how many numbers of workers, of 2 to 16, the reader's turn is over before an answer whose turns have no end, and the
+/// For how many numbers of workers, of 2 to 16, four turns of the reader are over before an answer whose turns have no end, and the
 /// workers stop when it reads no more.
 pub fn workers_stop_between_turns<R: Threads + Wait + Clock + Sync>(
     rt: &R,
@@ -159,7 +164,7 @@ pub fn workers_stop_between_turns<R: Threads + Wait + Clock + Sync>(
     let mut stopped = 0u32;
     for workers in 2..17 {
         let work = InTurns::new(true);
-        let mut reader = OneTurn {
+        let mut reader = FourTurns {
             rt,
             begun: &work.begun,
         };

@@ -54,8 +54,9 @@ struct Counted<'a> {
     chooses_first: bool,
 }
 
+// The answer to a morsel tells whether it is made, and not chosen alone.
 impl<'a> Work for Counted<'a> {
-    type Answer = usize;
+    type Answer = bool;
 
     ghost ready = { λ _. Unit {0} };
 
@@ -71,37 +72,41 @@ impl<'a> Work for Counted<'a> {
         self.chooses_first
     }
 
-    fn answer(&self, _alloc: Global, morsel: usize) -> usize {
+    fn answer(&self, _alloc: Global, _morsel: usize) -> bool {
         self.held.chosen.begin();
         if !self.chooses_first {
             self.held.made.begin();
         }
-        morsel
+        !self.chooses_first
     }
 
-    fn go_on(&self, _alloc: Global, _answer: &mut usize) -> bool {
-        if self.chooses_first {
+    fn go_on(&self, _alloc: Global, made: &mut bool) -> bool {
+        if !*made {
             self.held.made.begin();
         }
+        *made = true;
         false
     }
 }
 
-// It takes its time over each answer, so that others go ahead.
+// It takes its time over each answer, so that others go ahead. One that was chosen alone it makes itself.
 #[derive(Drop)]
 struct Slow<'a> {
     held: &'a Held,
 }
 
-impl<'a> Reads<usize> for Slow<'a> {
+impl<'a> Reads<bool> for Slow<'a> {
     type Out = ();
 
     ghost takes = { λ _ _ _. Unit {0} };
 
     ghost reads = { λ _ _ _ _ _. Unit {0} };
 
-    fn read<P: Answers<usize>>(&mut self, answers: &mut P) {
-        while let Some(_number) = answers.next() {
+    fn read<P: Answers<bool>>(&mut self, answers: &mut P) {
+        while let Some(made) = answers.next() {
+            if !made {
+                self.held.made.begin();
+            }
             self.held.made.end();
             self.held.chosen.end();
         }
