@@ -276,7 +276,8 @@ where
 }
 
 /// Has the answers read in the order of the morsels, which so many workers make: the reader, where the next one is not there yet, and
-/// threads beside it. No more answers are held at once than there are workers. With fewer than two workers no thread is started.
+/// threads beside it, one more than needed where morsels are not chosen first. No more answers are held at once than there are
+/// workers. With fewer than two workers no thread is started.
 ///
 /// # Errors
 ///
