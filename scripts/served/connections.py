@@ -514,7 +514,7 @@ WORDS, PIECE, PIECES = 128, 65_536, 4  # texts of each of two columns; rows of a
 EQUAL = " OR ".join(["s=u"] * 2_000)  # each row is told by all, and none is kept
 DEAR = [f"SELECT v FROM t WHERE {EQUAL}", f"SELECT COUNT(*) FROM t WHERE {EQUAL}", f"SELECT v, COUNT(*) FROM t WHERE {EQUAL} GROUP BY v"]
 KEPT = f"SELECT v FROM t WHERE {EQUAL} OR v IN ({','.join(map(str, range(1_000, PIECE, 2_000)))})"  # one row of each 2,000 is kept
-PIECE_WORK = 4  # seconds of work of a worker within which the schema has to be there, and then the seat free: a batch takes ten times as long
+PIECE_WORK = 8  # seconds of work of a worker within which the schema has to be there, and then the seat free: a batch takes at least five times as long
 
 
 def pairs_put() -> bytes:
