@@ -91,12 +91,40 @@ where
 {
     let mut helper = ||
         requires { W.ready exchange.now.work.now × (first.now.table_id ≡ exchange.now.word.shared.table_id) }
-    { exchange.help(first) };
+    { exchange.answer_all(first) };
     let mut rest = || -> M::Out
         requires { W.ready exchange.now.work.now × All (λ claimer. claimer.table_id ≡ exchange.now.word.shared.table_id) others.now × M.begins mine.now }
         ensures { M.does mine.entry.now result mine.exit.now }
     { work_beside(exchange, others, mine) };
     let (_, out) = join_mut(exchange.rt, &mut helper, &mut rest);
+    out
+}
+
+// The same behind a decoy: a thread that is started first, and does nothing. A kernel may put the first thread on the processor of who
+// starts it, where it waits while that one works, and the next ones on idle processors. So the decoy waits in place of a worker.
+fn work_behind_decoy<K, A, W, G, R, M>(
+    exchange: &Exchange<'_, K, A, W, G, R>,
+    claimers: &mut [Claimer],
+    mine: &mut M,
+) -> M::Out
+where
+    K: Truth<A> + Send + Sync,
+    A: Drop + Send,
+    W: Work<Answer = A> + Sync,
+    G: Gate + Sync,
+    R: Threads + Wait + Sync,
+    M: Side,
+    requires ready { W.ready exchange.now.work.now }
+    requires theirs { All (λ claimer. claimer.table_id ≡ exchange.now.word.shared.table_id) claimers.old }
+    requires mine { M.begins mine.old }
+    ensures { M.does mine.old result mine.new }
+{
+    let mut decoy = || {};
+    let mut rest = || -> M::Out
+        requires { W.ready exchange.now.work.now × All (λ claimer. claimer.table_id ≡ exchange.now.word.shared.table_id) claimers.now × M.begins mine.now }
+        ensures { M.does mine.entry.now result mine.exit.now }
+    { work_beside(exchange, claimers, mine) };
+    let (_, out) = join_mut(exchange.rt, &mut decoy, &mut rest);
     out
 }
 
@@ -125,8 +153,6 @@ where
         × S.reads old.reader.now (λ n a. ∥ K.right n a ∥₁) (W.count old.pull.exchange.now.work.now) out new.reader.now };
 
     fn work(&mut self) -> S::Out {
-        let exchange = self.pull.exchange;
-        exchange.window.await_helper(exchange.rt);
         let out = self.reader.read(&mut self.pull);
         self.pull.exchange.window.close(self.pull.exchange.rt);
         out
@@ -153,7 +179,7 @@ where
     requires takes { S.takes reader.old (λ n a. ∥ K.right n a ∥₁) (W.count exchange.now.work.now) }
     ensures read { S.reads reader.old (λ n a. ∥ K.right n a ∥₁) (W.count exchange.now.work.now) result reader.new }
 {
-    let mut pull = Pull {
+    let pull = Pull {
         exchange,
         me,
         given: 0,
@@ -161,11 +187,8 @@ where
         stash: None,
         more: false,
     };
-    if !exchange.work.chooses_first() {
-        pull.draw_first();
-    }
     let mut reading = Reading { pull, reader };
-    let out = work_beside(exchange, claimers, &mut reading);
+    let out = work_behind_decoy(exchange, claimers, &mut reading);
     let Reading { pull: _, reader } = reading;
     take_back(reader);
     out
@@ -198,16 +221,6 @@ where
     reader.read(&mut answers)
 }
 
-// How many workers have threads of their own, with the reader one of so many. Where no morsel is chosen first, each of them may have
-// one large morsel, and the threads are one more: so none waits for a thread that a kernel has put on the reader's processor.
-fn helpers_of<W: Work>(work: &W, workers: usize) -> usize {
-    if work.chooses_first() {
-        workers.saturating_sub(1)
-    } else {
-        workers
-    }
-}
-
 // Reads the answers, which at least two workers make.
 fn read_at_once<K, A, W, G, R, S>(
     rt: &R,
@@ -234,7 +247,7 @@ where
 {
     let window: Window<K, A> = Window::new(alloc, workers)?;
     let (word, mut me) = open(alloc)?;
-    let mut claimers = split_all(alloc, &word, &mut me, helpers_of(work, workers))?;
+    let mut claimers = split_all(alloc, &word, &mut me, workers - 1)?;
     let exchange = Exchange {
         rt,
         alloc,
@@ -276,8 +289,8 @@ where
 }
 
 /// Has the answers read in the order of the morsels, which so many workers make: the reader, where the next one is not there yet, and
-/// threads beside it, one more than needed where morsels are not chosen first. No more answers are held at once than there are
-/// workers. With fewer than two workers no thread is started.
+/// one thread less beside it, behind a thread that does nothing. No more answers are held at once than there are workers. With fewer
+/// than two workers no thread is started.
 ///
 /// # Errors
 ///

@@ -91,16 +91,7 @@ impl<'a, K: Truth<A>, A: Drop, W: Work<Answer = A>, G: Gate, R: Wait> Exchange<'
     }
 
     // Answers morsels beside the reader, until none is left, or no more answers are read.
-    pub fn help(&self, me: &mut Claimer)
-        requires ready { W.ready self.now.work.now }
-        requires mine { me.old.table_id ≡ self.now.word.shared.table_id }
-    {
-        self.window.join(self.rt);
-        self.answer_all(me);
-    }
-
-    // Answers morsels until none is left, or no more answers are read.
-    fn answer_all(&self, me: &mut Claimer)
+    pub fn answer_all(&self, me: &mut Claimer)
         requires ready { W.ready self.now.work.now }
         requires mine { me.old.table_id ≡ self.now.word.shared.table_id }
     {

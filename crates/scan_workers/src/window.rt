@@ -8,7 +8,6 @@ use std::hint::spin_loop;
 use std::marker::{Brand, PhantomData};
 use std::sync::atomic::{AtomicUsize, Ordering};
 use std::sync::{Condvar, Mutex, Wait};
-use std::time::Duration;
 
 // What answers are right.
 pub trait Truth<A> {
@@ -51,8 +50,6 @@ struct Slots<K: Truth<A>, A> {
     read: usize,
     // Whether no more are read.
     closed: bool,
-    // Whether a worker has begun to work beside the reader.
-    helped: bool,
     // Whether the reader sleeps.
     sleeps: bool,
     // Whether a turn of the morsel for which the reader asks is over, since the reader last slept or asked for it.
@@ -122,12 +119,9 @@ impl<K: Truth<A>, A: Drop> Slots<K, A> {
     }
 }
 
-// Before a thread sleeps it looks so often, without the lock, whether it may go on: some 3 microseconds long. It doesn't yield its
-// processor meanwhile: who else runs there may keep it for milliseconds.
-const LOOKS: usize = 1_500;
-
-// How many microseconds the reader sleeps at most until a worker is at work.
-const MOMENT: u64 = 100;
+// Before a thread sleeps it looks so often, without the lock, whether it may go on: some 40 microseconds long. It doesn't yield
+// its processor meanwhile: who else runs there may keep it for milliseconds. A kernel may wake who sleeps on a processor that is at work.
+const LOOKS: usize = 20_000;
 
 // The window. Workers put their answers into it, and the reader takes them.
 #[derive(Drop)]
@@ -162,7 +156,6 @@ impl<K: Truth<A>, A: Drop> Window<K, A> {
                 answers,
                 read: 0,
                 closed: false,
-                helped: false,
                 sleeps: false,
                 turned: false,
             }),
@@ -256,21 +249,6 @@ impl<K: Truth<A>, A: Drop> Window<K, A> {
             self.tell(number, sleeps);
         }
         goes_on
-    }
-
-    // A worker begins to work beside the reader.
-    pub fn join(&self, rt: &impl Wait) {
-        self.slots.lock(rt).helped = true;
-        self.filled.notify_one();
-    }
-
-    // Sleeps for a moment, unless a worker works beside the reader or begins to. A thread that was just started may have been put on the
-    // reader's processor: then it runs once the reader sleeps, and else only milliseconds later.
-    pub fn await_helper(&self, rt: &impl Wait) {
-        let seen = self.filled.notifications();
-        if !self.slots.lock(rt).helped {
-            self.filled.sleep(rt, seen, Duration::from_micros(MOMENT));
-        }
     }
 
     // The answer of a morsel, if it is there.
