@@ -48,11 +48,12 @@ class Case:
 
 @dataclass
 class Calls:
-    """What calls of one kind came to: how many a second, how many in all, and of their times the median and the 99th
+    """What calls of one kind came to: how many a second, how many in all, and of their times the least, the median and the 99th
     percentile, in seconds."""
 
     rate: float
     count: int
+    least: float
     median: float
     slow: float
 
@@ -109,8 +110,8 @@ def counted(client, port, seconds, server, groups):
         sys.exit("the client ended too early")
     calls = {}
     for (step, _, _), line in zip(groups, lines):
-        rate, count, median, slow = line.split()
-        calls[step.name] = Calls(float(rate), int(count), int(median) / 1e9, int(slow) / 1e9)
+        rate, count, *times = line.split()
+        calls[step.name] = Calls(float(rate), int(count), *(int(time) / 1e9 for time in times))
     clients, took = (int(word) / 1e9 for word in lines[-1].split())
     return calls, own / took, clients / took, max(0.0, all_own - own - clients) / took
 

@@ -11,8 +11,8 @@
 // `crowd` has COUNT connections for each file, each in a thread of its own. Each calls once; then a line is printed, and
 // each goes on for so many seconds, or until one of them has called MOST times. The kernel throws the answers away, but for
 // the Status, which has to be 0. For each file are printed the calls a second of all its connections, how many they were,
-// and of their times the median and the 99th percentile; then the process's own processor time, and how long it all took.
-// All times are nanoseconds.
+// and of their times the least, the median and the 99th percentile; then the process's own processor time, and how long it
+// all took. All times are nanoseconds.
 
 #include <algorithm>
 #include <arpa/inet.h>
@@ -165,7 +165,9 @@ void print_group(Group &group) {
   for (double one : group.rates) rate += one;
   for (auto &times : group.times) all.insert(all.end(), times.begin(), times.end());
   std::sort(all.begin(), all.end());
-  printf("%f %zu %lld %lld\n", rate, all.size(), (long long)all[all.size() / 2], (long long)all[all.size() * 99 / 100]);
+  printf("%f %zu", rate, all.size());
+  for (size_t place : {size_t(0), all.size() / 2, all.size() * 99 / 100}) printf(" %lld", (long long)all[place]);
+  puts("");
 }
 
 int64_t processor_time() {

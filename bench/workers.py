@@ -7,8 +7,9 @@ A table of 8,000,000 rows in batches of 65,536 (numbers, one with a tenth of nul
 rows are put to servers with 1, 2, 4 and 16 workers. First each query is fetched once from each server, whose streams have to
 be the same bytes. Then a client fetches it over and over for S seconds (1.5), from those of 1, 2 and 4 in turn: Q2 keeps 1 row in
 100, Q3 half of them, Q6 and Q7 make 1,000 groups by a number and ten by a text, Q8 joins a tenth of the rows with the smaller
-table. Told are the median of the best of N rounds (3), the least processor time of the server for a fetch, and both against
-one worker.
+table. Told are the least time of a fetch in N rounds (3), the median of the best round, the least processor time of the server
+for a fetch, and all three against one worker. The least time is what the goals are of: a host that takes processors away from a
+virtual machine makes each fetch longer by as much as it likes, and none shorter.
 
 Two small queries follow, with 1 worker and with 4: all of a table of two rows, and one row of 100,000. Then four readers,
 each on a connection of its own, fetch at once from the server of 1 worker. With --before another program is put beside it,
@@ -171,9 +172,10 @@ def answers_of(server, workload):
 
 @dataclass
 class Figures:
-    """Of a fetch the median seconds, the processor seconds of the server, and the fetches a second of all readers."""
+    """Of a fetch the least and the median seconds, the processor seconds of the server, and the fetches a second of all readers."""
 
-    clock: float
+    least: float
+    median: float
     processor: float
     rate: float
 
@@ -182,7 +184,7 @@ def measured_once(bench, server, step, readers):
     client, seconds = bench
     calls, cores, _, _ = counted(client, server.port, seconds, server, [(step, readers, 0)])
     one = calls[step.name]
-    return Figures(one.median, cores / one.rate, one.rate)
+    return Figures(one.least, one.median, cores / one.rate, one.rate)
 
 
 @contextmanager
@@ -206,7 +208,8 @@ def kept_awake():
 
 def best(rounds):
     """The least of each time, and the highest rate."""
-    return Figures(min(one.clock for one in rounds), min(one.processor for one in rounds), max(one.rate for one in rounds))
+    least, median, processor = (min(getattr(one, which) for one in rounds) for which in ("least", "median", "processor"))
+    return Figures(least, median, processor, max(one.rate for one in rounds))
 
 
 def told(seconds):
@@ -214,14 +217,15 @@ def told(seconds):
 
 
 def print_large(found, names, missed):
-    print("| | workers | time | times as fast as 1 | processor | times that of 1 |")
-    print("|---|---:|---:|---:|---:|---:|")
+    print("| | workers | least time | times as fast as 1 | median | times as fast as 1 | processor | times that of 1 |")
+    print("|---|---:|---:|---:|---:|---:|---:|---:|")
     for name in names:
         one = best(found[name, 1])
         for workers in WORKERS:
             now = best(found[name, workers])
-            faster, more = one.clock / now.clock, now.processor / one.processor
-            print(f"| {name} | {workers} | {told(now.clock)} | {faster:.2f} | {told(now.processor)} | {more:.2f} |")
+            faster, mostly, more = one.least / now.least, one.median / now.median, now.processor / one.processor
+            times = f"{told(now.least)} | {faster:.2f} | {told(now.median)} | {mostly:.2f}"
+            print(f"| {name} | {workers} | {times} | {told(now.processor)} | {more:.2f} |")
             if workers > 1 and (faster < FASTER[workers] or more > MORE_TIME):
                 missed.append(f"{name} with {workers} workers: {faster:.2f} times as fast, {more:.2f} times the processor time")
     print()
@@ -231,7 +235,7 @@ def print_small(found, names, missed):
     print("| | 1 worker | 4 workers | times |")
     print("|---|---:|---:|---:|")
     for name in names:
-        one, four = (best(found[name, workers]).clock for workers in (1, 4))
+        one, four = (best(found[name, workers]).median for workers in (1, 4))
         print(f"| {name} | {told(one)} | {told(four)} | {four / one:.2f} |")
         if four > SMALL_MORE * one:
             missed.append(f"{name}: {four / one:.2f} times with 4 workers")
