@@ -119,9 +119,9 @@ impl<K: Truth<A>, A: Drop> Slots<K, A> {
     }
 }
 
-// Before a thread sleeps it looks so often, without the lock, whether it may go on: some 40 microseconds long. It doesn't yield
-// its processor meanwhile: who else runs there may keep it for milliseconds. A kernel may wake who sleeps on a processor that is at work.
-const LOOKS: usize = 20_000;
+// Before a thread sleeps it looks so often, without the lock, whether it may go on: some 3 microseconds long. It doesn't yield its
+// processor meanwhile: who else runs there may keep it for milliseconds.
+const LOOKS: usize = 1_500;
 
 // The window. Workers put their answers into it, and the reader takes them.
 #[derive(Drop)]
