@@ -79,7 +79,8 @@ impl<'h, R: StartsGroupWorkers> Model for GroupWorkers<'h, R> {
 }
 
 impl<'h, R: Threads + Wait + Sync> GroupWorkers<'h, R> {
-    /// So many workers at most, one of which is the thread that calls. This handle starts as many threads beside it.
+    /// So many workers at most, one of which is the thread that calls. This handle starts threads for the others, behind one that does
+    /// nothing.
     pub fn new(rt: &'h R, workers: usize) -> GroupWorkers<'h, R> {
         GroupWorkers { rt, workers }
     }

@@ -100,8 +100,8 @@ where
     out
 }
 
-// The same behind a decoy: a thread that is started first, and does nothing. A kernel may put the first thread on the processor of who
-// starts it, where it waits while that one works, and the next ones on idle processors. So the decoy waits in place of a worker.
+// As `work_beside`, behind a decoy: a thread that is started first, and does nothing. A kernel may put the first thread on the processor
+// of who starts it, where it waits while that one works, and the next ones on idle processors. So the decoy waits in place of a worker.
 fn work_behind_decoy<K, A, W, G, R, M>(
     exchange: &Exchange<'_, K, A, W, G, R>,
     claimers: &mut [Claimer],
@@ -288,9 +288,9 @@ where
     read_at_once::<K, A, W, G, R, S>(rt, alloc, work, workers, gate, reader)
 }
 
-/// Has the answers read in the order of the morsels, which so many workers make: the reader, where the next one is not there yet, and
-/// one thread less beside it, behind a thread that does nothing. No more answers are held at once than there are workers. With fewer
-/// than two workers no thread is started.
+/// Has the answers read in the order of the morsels. So many workers make them. One is the reader, where the next answer is not there
+/// yet. The others are threads beside it, started behind one that does nothing. No more answers are held at once than there are
+/// workers. With fewer than two workers no thread is started.
 ///
 /// # Errors
 ///
