@@ -11,8 +11,8 @@
 // `crowd` has COUNT connections for each file, each in a thread of its own. Each calls once; then a line is printed, and
 // each goes on for so many seconds, or until one of them has called MOST times. The kernel throws the answers away, but for
 // the Status, which has to be 0. For each file are printed the calls a second of all its connections, how many they were,
-// and of their times the least, the median and the 99th percentile; then the process's own processor time, and how long it
-// all took. All times are nanoseconds.
+// and of their times the least, the median and the 99th percentile. The last line has the process's own processor time, and
+// how long it all took. All times are nanoseconds.
 
 #include <algorithm>
 #include <arpa/inet.h>

@@ -7,9 +7,10 @@ A table of 8,000,000 rows in batches of 65,536 (numbers, one with a tenth of nul
 rows are put to servers with 1, 2, 4 and 16 workers. First each query is fetched once from each server, whose streams have to
 be the same bytes. Then a client fetches it over and over for S seconds (1.5), from those of 1, 2 and 4 in turn: Q2 keeps 1 row in
 100, Q3 half of them, Q6 and Q7 make 1,000 groups by a number and ten by a text, Q8 joins a tenth of the rows with the smaller
-table. Told are the least time of a fetch in N rounds (3), the median of the best round, the least processor time of the server
-for a fetch, and all three against one worker. The least time is what the goals are of: a host that takes processors away from a
-virtual machine makes each fetch longer by as much as it likes, and none shorter.
+table. Told are the least time of a fetch in N rounds (3), the median of the best round, and the least processor time of the
+server for a fetch. Each is put beside that of one worker. The goals of these five queries are of the least time, since a host
+may take processors away from a virtual machine. More workers make more fetches in S seconds, so they have more to take the
+least of.
 
 Two small queries follow, with 1 worker and with 4: all of a table of two rows, and one row of 100,000. Then four readers,
 each on a connection of its own, fetch at once from the server of 1 worker. With --before another program is put beside it,
