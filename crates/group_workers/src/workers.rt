@@ -79,8 +79,7 @@ impl<'h, R: StartsGroupWorkers> Model for GroupWorkers<'h, R> {
 }
 
 impl<'h, R: Threads + Wait + Sync> GroupWorkers<'h, R> {
-    /// So many workers at most, one of which is the thread that calls. This handle starts threads for the others, behind one that does
-    /// nothing.
+    /// So many workers at most, one of which is the thread that calls. This handle starts threads for the others, and one more.
     pub fn new(rt: &'h R, workers: usize) -> GroupWorkers<'h, R> {
         GroupWorkers { rt, workers }
     }

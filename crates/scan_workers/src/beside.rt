@@ -179,7 +179,7 @@ where
     requires takes { S.takes reader.old (λ n a. ∥ K.right n a ∥₁) (W.count exchange.now.work.now) }
     ensures read { S.reads reader.old (λ n a. ∥ K.right n a ∥₁) (W.count exchange.now.work.now) result reader.new }
 {
-    let pull = Pull {
+    let mut pull = Pull {
         exchange,
         me,
         given: 0,
@@ -187,8 +187,16 @@ where
         stash: None,
         more: false,
     };
+    let is_whole = !exchange.work.chooses_first();
+    if is_whole {
+        pull.draw_first();
+    }
     let mut reading = Reading { pull, reader };
-    let out = work_behind_decoy(exchange, claimers, &mut reading);
+    let out = if is_whole {
+        work_beside(exchange, claimers, &mut reading)
+    } else {
+        work_behind_decoy(exchange, claimers, &mut reading)
+    };
     let Reading { pull: _, reader } = reading;
     take_back(reader);
     out
@@ -221,6 +229,19 @@ where
     reader.read(&mut answers)
 }
 
+// How many threads work beside the reader, with it one of so many workers. Where no morsel is chosen first, each of them may have one
+// large morsel, and the threads are one more. So the one that a kernel puts on the reader's processor finds none left, and nobody
+// waits for it.
+fn helpers_of<W: Work>(work: &W, workers: usize) -> usize
+    requires { 1 < workers }
+{
+    if work.chooses_first() {
+        workers - 1
+    } else {
+        workers
+    }
+}
+
 // Reads the answers, which at least two workers make.
 fn read_at_once<K, A, W, G, R, S>(
     rt: &R,
@@ -247,7 +268,7 @@ where
 {
     let window: Window<K, A> = Window::new(alloc, workers)?;
     let (word, mut me) = open(alloc)?;
-    let mut claimers = split_all(alloc, &word, &mut me, workers - 1)?;
+    let mut claimers = split_all(alloc, &word, &mut me, helpers_of(work, workers))?;
     let exchange = Exchange {
         rt,
         alloc,
@@ -289,8 +310,8 @@ where
 }
 
 /// Has the answers read in the order of the morsels. So many workers make them. One is the reader, where the next answer is not there
-/// yet. The others are threads beside it, started behind one that does nothing. No more answers are held at once than there are
-/// workers. With fewer than two workers no thread is started.
+/// yet. The others are threads beside it, and one thread more is started. It does nothing where morsels are chosen first, and else
+/// it answers what is left. No more answers are held at once than there are workers. With fewer than two no thread is started.
 ///
 /// # Errors
 ///

@@ -72,6 +72,14 @@ impl<'a, 'h, K: Truth<A>, A: Drop, W: Work<Answer = A>, G: Gate, R: Wait> Pull<
         }
     }
 
+    // Draws a morsel, which is for the reader alone.
+    pub fn draw_first(&mut self)
+        ensures same { (self.new.exchange ≡ self.old.exchange) × (self.new.given ≡ self.old.given) }
+    {
+        let number = self.draw_one();
+        self.drawn = Some(number);
+    }
+
     // Whether a morsel may be begun here: its answer has a slot, or what it answers may be chosen before.
     fn may_begin(&self, number: usize) -> bool {
         let exchange = self.exchange;
