@@ -187,12 +187,12 @@ where
         stash: None,
         more: false,
     };
-    let is_whole = !exchange.work.chooses_first();
-    if is_whole {
+    let draws_first = !exchange.work.chooses_first();
+    if draws_first {
         pull.draw_first();
     }
     let mut reading = Reading { pull, reader };
-    let out = if is_whole {
+    let out = if draws_first {
         work_beside(exchange, claimers, &mut reading)
     } else {
         work_behind_decoy(exchange, claimers, &mut reading)
