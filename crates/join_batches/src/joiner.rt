@@ -188,7 +188,8 @@ impl Joiner {
         self.bound = most;
     }
 
-    /// Joins a left batch next: all joined rows of the one before were given.
+    /// Joins a left batch next: all joined rows of the one before were given. How its rows are cut into batches does not hang on the
+    /// left batches before it.
     pub fn feed(&mut self, batch: Batch)
         requires typed { AreOf self.old.left_types batch.columns }
         requires few { batch.rows ≤ most_batch_rows }
@@ -199,6 +200,7 @@ impl Joiner {
         self.left.probe = Probe::new();
         self.left.pairs.clear();
         self.left.given = 0;
+        self.most = MOST_BATCH_ROWS;
     }
 
     /// Finds the next pairs of rows that join, where all that were found were given. Whether some are there: where none are, no
