@@ -103,9 +103,9 @@ def counted(client, port, seconds, server, groups):
     with subprocess.Popen([client, "crowd", str(port), str(seconds), *words], stdout=subprocess.PIPE) as child:
         if not child.stdout.readline():
             sys.exit("the client ended before it began")
-        own, all_own = server.ticks() / TICK, busy()
+        own, all_own = server.seconds_worked(), busy()
         lines = child.stdout.readlines()
-        own, all_own = server.ticks() / TICK - own, busy() - all_own
+        own, all_own = server.seconds_worked() - own, busy() - all_own
     if len(lines) != len(groups) + 1:
         sys.exit("the client ended too early")
     calls = {}

@@ -10,9 +10,10 @@
 //
 // `crowd` has COUNT connections for each file, each in a thread of its own. Each calls once; then a line is printed, and
 // each goes on for so many seconds, or until one of them has called MOST times. The kernel throws the answers away, but for
-// the Status, which has to be 0. For each file are printed the calls a second of all its connections, how many they were,
-// and of their times the least, the median and the 99th percentile. The last line has the process's own processor time, and
-// how long it all took. All times are nanoseconds.
+// the Status, which has to be 0. Where 256 KB of an answer or more are still to come, a connection is woken when so many are
+// there. For each file are printed the calls a second of all its connections, how many they were, and of their times the
+// least, the median and the 99th percentile. The last line has the process's own processor time, and how long it all took.
+// All times are nanoseconds.
 
 #include <algorithm>
 #include <arpa/inet.h>
@@ -23,6 +24,7 @@
 #include <cstdlib>
 #include <cstring>
 #include <netinet/tcp.h>
+#include <poll.h>
 #include <string>
 #include <sys/resource.h>
 #include <sys/socket.h>
@@ -144,14 +146,34 @@ struct Group {
   std::vector<std::vector<int64_t>> times = std::vector<std::vector<int64_t>>(count);
 };
 
+// Has a connection be ready to be read when so many bytes are there.
+void ready_at(int connection, int count) {
+  if (setsockopt(connection, SOL_SOCKET, SO_RCVLOWAT, &count, sizeof count) != 0) fail("SO_RCVLOWAT");
+}
+
+// Throws bytes away, at most so many, and tells how many are left.
+size_t without(int connection, size_t left) {
+  ssize_t came = recv(connection, nullptr, left, MSG_TRUNC);
+  if (came <= 0) fail("recv");
+  return left - came;
+}
+
+// Throws so many bytes away, but for a piece of them at most, which are left. It is woken when a piece is there.
+size_t without_pieces(int connection, size_t left) {
+  if (left <= piece) return left;
+  ready_at(connection, piece);
+  for (pollfd readable{connection, POLLIN, 0}; left > piece; left = without(connection, left)) {
+    if (poll(&readable, 1, -1) != 1) fail("poll");
+  }
+  ready_at(connection, 1);
+  return left;
+}
+
 void call(int connection, const Group &group) {
   char status[4];
   send_all(connection, group.request.data(), group.request.size());
-  for (size_t left = group.answer - sizeof status; left > 0;) {
-    ssize_t came = recv(connection, nullptr, left, MSG_TRUNC);
-    if (came <= 0) fail("recv");
-    left -= came;
-  }
+  size_t left = without_pieces(connection, group.answer - sizeof status);
+  while (left > 0) left = without(connection, left);
   if (recv(connection, status, sizeof status, MSG_WAITALL) != sizeof status) fail("recv");
   if (memcmp(status, "\4\0\0", sizeof status) != 0) {
     fputs("an answer without status 0\n", stderr);

@@ -1,23 +1,23 @@
 #!/usr/bin/env python3
 """What several workers make of a fetch of `flightscan serve`: its time by the clock and that of the processors.
 
-    python3 bench/workers.py [--program PATH] [--before PATH] [--runs N] [--seconds S] [--rows N] [--awake] [QUERY..]
+    python3 bench/workers.py [--program PATH] [--before PATH] [--runs N] [--seconds S] [--rows N] [--minutes M] [QUERY..]
 
 A table of 8,000,000 rows in batches of 65,536 (numbers, one with a tenth of nulls, and texts of ten words) and one of 100,000
 rows are put to servers with 1, 2, 4 and 16 workers. First each query is fetched once from each server, whose streams have to
-be the same bytes. Then a client fetches it over and over for S seconds (1.5), from those of 1, 2 and 4 in turn: Q2 keeps 1 row in
-100, Q3 half of them, Q6 and Q7 make 1,000 groups by a number and ten by a text, Q8 joins a tenth of the rows with the smaller
-table. Told are the least time of a fetch in N rounds (3), the median of the best round, and the least processor time of the
-server for a fetch. Each is put beside that of one worker. The goals of these five queries are of the least time, since a host
-may take processors away from a virtual machine. More workers make more fetches in S seconds, so they have more to take the
-least of.
+be the same bytes. Then a client fetches it over and over for S seconds (0.3), from those of 1, 2 and 4 in an order by chance:
+Q2 keeps 1 row in 100, Q3 half of them, Q6 and Q7 make 1,000 groups by a number and ten by a text, Q8 joins a tenth of the rows
+with the smaller table. Of each the median time of a fetch is taken, and the processor time of the server for one. Told are the
+medians of N such rounds (15), each beside that of one worker.
 
 Two small queries follow, with 1 worker and with 4: all of a table of two rows, and one row of 100,000. Then four readers,
 each on a connection of its own, fetch at once from the server of 1 worker. With --before another program is put beside it,
 one from before there were workers. The client is bench/sockets.cpp, compiled with g++; the kernel throws its answers away.
 
-With --awake a loop of the lowest priority (SCHED_IDLE) keeps each processor from halting. It runs only where nothing else
-would. In a virtual machine a processor that has halted comes back late, and its host may have moved it meanwhile.
+A round counts only where the machine had all its processors meanwhile. Before it and behind it as many threads as there are
+processors (but four at most) have to do as many times as much arithmetic as one, give or take a tenth (bench/processors.cpp).
+While it is measured, a host may take 3 in 100 of the processors at most. Other rounds are left out, and how many is told. It
+ends behind M minutes (15), also where fewer rounds count.
 
 The goals: 4 workers 3.0 times as fast by the clock as 1 on four cores (2 workers 1.7 times), with at most 1.15 times the
 processor time; a small query at most 1.1 times; four readers as fast as before. Which ones are missed is told. It ends with 1
@@ -27,15 +27,18 @@ where streams differ. Build the program first, as for pipe.py.
 import argparse
 import os
 import pathlib
-import signal
+import random
+import subprocess
 import sys
 import tempfile
+import time
 import zlib
 from array import array
-from contextlib import ExitStack, contextmanager
-from dataclasses import dataclass
+from contextlib import ExitStack
+from dataclasses import dataclass, field as listed
 from itertools import accumulate
 from random import Random
+from statistics import median
 
 import serve
 from built import program
@@ -49,6 +52,7 @@ from wire import END, call, chunk, descriptor, packed, query_handle, record_mess
 BATCH_ROWS, SMALLER_ROWS = 65_536, 100_000
 WORKERS, COMPARED = (1, 2, 4), (1, 2, 4, 16)  # measured, and compared by their streams
 FASTER, MORE_TIME, SMALL_MORE, READERS_LEAST = {2: 1.7, 4: 3.0}, 1.15, 1.1, 0.97  # the goals
+PROCESSORS, UNEVEN, TAKEN = min(4, os.cpu_count()), 0.1, 0.03  # when a round counts
 WORDS = [b"alpha", b"beta", b"gamma", b"delta", b"epsilon", b"zeta", b"eta", b"theta", b"iota", b"kappa"]
 BILLION, MILLION = 10**9, 10**6
 TABLES = {
@@ -168,12 +172,58 @@ def answers_of(server, workload):
     return found
 
 
+# ---- the machine
+
+
+def compiled_arithmetic(folder):
+    target, source = folder / "processors", pathlib.Path(__file__).with_name("processors.cpp")
+    subprocess.run(["g++", "-O2", "-std=c++20", "-pthread", "-o", target, source], check=True)
+    return str(target)
+
+
+def processors_held():
+    """The time of all processors so far, and how much of it a host took."""
+    times = [int(word) for word in pathlib.Path("/proc/stat").read_text().split()[1:9]]
+    return sum(times), times[-1]
+
+
+@dataclass
+class Machine:
+    """What tells whether all its processors were there, and how many rounds counted and how many didn't."""
+
+    arithmetic: str
+    counted: int = 0
+    left_out: int = 0
+    times: list[float] = listed(default_factory=list)
+
+    def is_whole(self):
+        """Whether so many threads do as many times as much as one."""
+        times = float(subprocess.run([self.arithmetic, str(PROCESSORS)], check=True, capture_output=True).stdout)
+        self.times.append(times)
+        return abs(times / PROCESSORS - 1) <= UNEVEN
+
+    def whole_round(self, measure):
+        """What is measured, or None where the machine hadn't all its processors meanwhile."""
+        found, before = None, processors_held()
+        if self.is_whole():
+            found = measure()
+            all_time, taken = (now - then for now, then in zip(processors_held(), before))
+            found = found if taken <= TAKEN * all_time and self.is_whole() else None
+        self.counted, self.left_out = self.counted + (found is not None), self.left_out + (found is None)
+        return found
+
+    def line(self):
+        least, middle_one, most = min(self.times), median(self.times), max(self.times)
+        return (f"{self.counted} rounds count, and {self.left_out} are left out. {PROCESSORS} threads did {middle_one:.2f} times "
+                f"as much arithmetic as one in the median, {least:.2f} to {most:.2f}.")
+
+
 # ---- measuring
 
 
 @dataclass
 class Figures:
-    """Of a fetch the least and the median seconds, the processor seconds of the server, and the fetches a second of all readers."""
+    """Of a fetch the least and the median seconds, and the server's processor seconds. The fetches a second of all readers."""
 
     least: float
     median: float
@@ -188,29 +238,10 @@ def measured_once(bench, server, step, readers):
     return Figures(one.least, one.median, cores / one.rate, one.rate)
 
 
-@contextmanager
-def kept_awake():
-    """A loop of the lowest priority on each processor, as long as the block."""
-    loops = []
-    for processor in sorted(os.sched_getaffinity(0)):
-        if not (loop := os.fork()):
-            os.sched_setaffinity(0, {processor})
-            os.sched_setscheduler(0, os.SCHED_IDLE, os.sched_param(0))
-            while True:
-                pass
-        loops.append(loop)
-    try:
-        yield
-    finally:
-        for loop in loops:
-            os.kill(loop, signal.SIGKILL)
-            os.waitpid(loop, 0)
-
-
-def best(rounds):
-    """The least of each time, and the highest rate."""
-    least, median, processor = (min(getattr(one, which) for one in rounds) for which in ("least", "median", "processor"))
-    return Figures(least, median, processor, max(one.rate for one in rounds))
+def middle(rounds):
+    """The medians of some rounds, but the least time of all."""
+    median_time, processor, rate = (median(getattr(one, which) for one in rounds) for which in ("median", "processor", "rate"))
+    return Figures(min(one.least for one in rounds), median_time, processor, rate)
 
 
 def told(seconds):
@@ -218,16 +249,16 @@ def told(seconds):
 
 
 def print_large(found, names, missed):
-    print("| | workers | least time | times as fast as 1 | median | times as fast as 1 | processor | times that of 1 |")
+    print("| | workers | median | times as fast as 1 | least time | times as fast as 1 | processor | times that of 1 |")
     print("|---|---:|---:|---:|---:|---:|---:|---:|")
     for name in names:
-        one = best(found[name, 1])
+        one = middle(found[name, 1])
         for workers in WORKERS:
-            now = best(found[name, workers])
-            faster, mostly, more = one.least / now.least, one.median / now.median, now.processor / one.processor
-            times = f"{told(now.least)} | {faster:.2f} | {told(now.median)} | {mostly:.2f}"
+            now = middle(found[name, workers])
+            faster, at_best, more = one.median / now.median, one.least / now.least, now.processor / one.processor
+            times = f"{told(now.median)} | {faster:.2f} | {told(now.least)} | {at_best:.2f}"
             print(f"| {name} | {workers} | {times} | {told(now.processor)} | {more:.2f} |")
-            if workers > 1 and (faster < FASTER[workers] or more > MORE_TIME):
+            if 1 < workers <= PROCESSORS and (faster < FASTER[workers] or more > MORE_TIME):
                 missed.append(f"{name} with {workers} workers: {faster:.2f} times as fast, {more:.2f} times the processor time")
     print()
 
@@ -236,7 +267,7 @@ def print_small(found, names, missed):
     print("| | 1 worker | 4 workers | times |")
     print("|---|---:|---:|---:|")
     for name in names:
-        one, four = (best(found[name, workers]).median for workers in (1, 4))
+        one, four = (middle(found[name, workers]).median for workers in (1, 4))
         print(f"| {name} | {told(one)} | {told(four)} | {four / one:.2f} |")
         if four > SMALL_MORE * one:
             missed.append(f"{name}: {four / one:.2f} times with 4 workers")
@@ -248,26 +279,50 @@ def print_readers(found, names, missed):
     print("| four readers | fetches a second | before | times |")
     print("|---|---:|---:|---:|")
     for name in names:
-        now = best(found[name, "readers"]).rate
-        before = best(found[name, "before"]).rate if (name, "before") in found else None
+        now = middle(found[name, "readers"]).rate
+        before = middle(found[name, "before"]).rate if (name, "before") in found else None
         print(f"| {name} | {now:.1f} | {f'{before:.1f}' if before else ''} | {f'{now / before:.2f}' if before else ''} |")
         if before and now < READERS_LEAST * before:
             missed.append(f"four readers of {name}: {now / before:.2f} times as many fetches as before")
     print()
 
 
-def one_round(bench, servers, workload, names, found):
-    """Each query once, from one server after the other."""
-    for name in [name for name in names if name in LARGE]:
-        for workers in WORKERS:
-            found.setdefault((name, workers), []).append(measured_once(bench, servers[workers], workload.steps[name], 1))
-    for name in [name for name in names if name in SMALL]:
-        for workers in (1, 4):
-            found.setdefault((name, workers), []).append(measured_once(bench, servers[workers], workload.steps[name], 1))
-    for name in [name for name in names if name in READ]:
-        for which, server in [("readers", servers[1]), ("before", servers.get("before"))]:
-            if server:
-                found.setdefault((name, which), []).append(measured_once(bench, server, workload.steps[name], 4))
+@dataclass
+class Case:
+    """A query that is measured with some servers in turn: of each how it is told, the server, and how many readers."""
+
+    name: str
+    servers: list[tuple[object, object, int]]
+
+
+def cases_of(servers, names):
+    large = [Case(name, [(workers, servers[workers], 1) for workers in WORKERS]) for name in names if name in LARGE]
+    small = [Case(name, [(workers, servers[workers], 1) for workers in (1, 4)]) for name in names if name in SMALL]
+    both = [("readers", servers[1], 4)] + ([("before", servers["before"], 4)] if "before" in servers else [])
+    return large + small + [Case(name, both) for name in names if name in READ]
+
+
+def measured_case(bench, step, servers):
+    """The figures with each server, in an order by chance."""
+    order = random.sample(servers, len(servers))
+    return {which: measured_once(bench, server, step, readers) for which, server, readers in order}
+
+
+def measured_rounds(bench, machine, steps, cases, words):
+    """The figures of each case in so many rounds that count, or in fewer where the minutes are over."""
+    found, end = {}, time.monotonic() + 60 * words.minutes
+    while time.monotonic() < end and (open_cases := [case for case in cases if len(found.get(case_key(case), [])) < words.runs]):
+        for case in open_cases:
+            figures = machine.whole_round(lambda: measured_case(bench, steps[case.name], case.servers))
+            for which, one in (figures or {}).items():
+                found.setdefault((case.name, which), []).append(one)
+    if none := [case.name for case in cases if case_key(case) not in found]:
+        sys.exit(f"no round counts of {', '.join(none)}. {machine.line()}")
+    return found
+
+
+def case_key(case):
+    return case.name, case.servers[0][0]
 
 
 def look_at_answers(servers, workload):
@@ -288,13 +343,13 @@ def main():
     parser = argparse.ArgumentParser(description=__doc__, formatter_class=argparse.RawDescriptionHelpFormatter)
     parser.add_argument("--program", help="the built program (that of the repository)")
     parser.add_argument("--before", help="a program from before there were workers")
-    parser.add_argument("--runs", type=int, default=3, help="rounds, of which the best is told (3)")
-    parser.add_argument("--seconds", type=float, default=1.5, help="that a query is fetched over and over (1.5)")
+    parser.add_argument("--runs", type=int, default=15, help="rounds that count, whose medians are told (15)")
+    parser.add_argument("--seconds", type=float, default=0.3, help="that a query is fetched over and over (0.3)")
     parser.add_argument("--rows", type=int, default=8_000_000, help="of the table (8000000)")
-    parser.add_argument("--awake", action="store_true", help="keep the processors from halting")
+    parser.add_argument("--minutes", type=float, default=15, help="at most (15)")
     parser.add_argument("query", nargs="*", help=f"queries whose names begin so (all): {', '.join([*LARGE, *SMALL])}")
     words = parser.parse_args()
-    path, measured, found, missed = program(words.program), Measured(words.program), {}, []
+    path, measured, missed = program(words.program), Measured(words.program), []
     names = [name for name in [*LARGE, *SMALL] if not words.query or name.startswith(tuple(words.query))]
     with tempfile.TemporaryDirectory() as name, ExitStack() as stack:
         folder = pathlib.Path(name)
@@ -306,15 +361,13 @@ def main():
         for server in servers.values():
             given_the_tables(server, workload)
         look_at_answers(servers, workload)
-        if words.awake:
-            stack.enter_context(kept_awake())
-        for _ in range(words.runs):
-            one_round(bench, servers, workload, names, found)
+        machine = Machine(compiled_arithmetic(folder))
+        found = measured_rounds(bench, machine, workload.steps, cases_of(servers, names), words)
         print_large(found, [name for name in names if name in LARGE], missed)
         print_small(found, [name for name in names if name in SMALL], missed)
         print_readers(found, [name for name in names if name in READ], missed)
     print("\n".join([f"Missed: {one}" for one in missed] or ["All goals are met."]))
-    print(f"\n{measured.line()}")
+    print(f"\n{machine.line()}\n{measured.line()}")
 
 
 if __name__ == "__main__":

@@ -107,7 +107,7 @@ fn is_over(patience: Patience, ended: usize) -> bool
 }
 
 // A turn to the next parcel of a morsel, where those before it had so many rows. The rows of all are counted as they are taken of
-// the scan, so that an answer of too many rows is refused before the first parcel of the batch that has them.
+// the scan. So an answer of too many rows is refused before the first parcel of the batch that has them.
 fn turn_counted<A: Part>(
     looking: &Looking,
     part: &mut A,
