@@ -35,6 +35,17 @@ impl Selection {
         }
     }
 
+    /// Makes room for so many places more.
+    ///
+    /// # Errors
+    ///
+    /// `AllocError` where memory is refused.
+    pub fn reserve(&mut self, more: usize) -> Result<(), AllocError>
+        ensures { self.new ≡ self.old }
+    {
+        Ok(self.places.reserve(more)?)
+    }
+
     /// Adds a place behind all others.
     ///
     /// # Errors
