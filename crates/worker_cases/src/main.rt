@@ -33,6 +33,13 @@ fn main(rt: HostRuntime) -> io::Result<()> {
     println!(rt; "{}", line(alloc, "a_call_is_refused", came)?)?;
     let came = gates::a_held_worker_holds_no_other(&rt, alloc);
     println!(rt; "{}", line(alloc, "a_held_worker_holds_no_other", came)?)?;
+    let came = gates::all_workers_are_at_work_at_once(&rt, alloc);
+    println!(rt; "{}", line(alloc, "all_workers_are_at_work_at_once", came)?)?;
+    let came = gates::each_morsel_passes_the_gate_once(&rt, alloc);
+    println!(rt;
+        "{}",
+        line(alloc, "each_morsel_passes_the_gate_once", came)?
+    )?;
     let came = stopped::stops_at_a_refusal(&rt, alloc);
     println!(rt; "{}", line(alloc, "stops_at_a_refusal", came)?)?;
     let came = window::at_most_as_many_as_workers(&rt, alloc);

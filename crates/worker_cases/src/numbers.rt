@@ -13,6 +13,7 @@ pub struct Numbers {
     count: usize,
     /// The morsel that asks for more memory than there is. If it is no morsel, none asks.
     greedy: usize,
+    chooses_first: bool,
     /// How many morsels were begun.
     pub begun: AtomicU64,
 }
@@ -23,11 +24,22 @@ impl Numbers {
         Numbers::with_greedy(count, count)
     }
 
+    /// So many morsels. Of those that are chosen first nothing is made later.
+    pub fn of_kind(count: usize, chooses_first: bool) -> Numbers {
+        Numbers {
+            count,
+            greedy: count,
+            chooses_first,
+            begun: AtomicU64::new(0),
+        }
+    }
+
     /// So many morsels, one of which asks for more memory than there is.
     pub fn with_greedy(count: usize, greedy: usize) -> Numbers {
         Numbers {
             count,
             greedy,
+            chooses_first: false,
             begun: AtomicU64::new(0),
         }
     }
@@ -46,6 +58,10 @@ impl Work for Numbers {
 
     fn count(&self) -> usize {
         self.count
+    }
+
+    fn chooses_first(&self) -> bool {
+        self.chooses_first
     }
 
     fn answer(&self, alloc: Global, morsel: usize) -> Result<Vec<usize>, AllocError> {
