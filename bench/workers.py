@@ -11,9 +11,10 @@ with the smaller table. Of each the median time of a fetch is taken, and the pro
 medians of N such rounds (30). How many times as fast, and at how many times the processor time, is the median of what each
 round gave, since the processors change their speed from round to round.
 
-Two small queries follow, with 1 worker and with 4: all of a table of two rows, and one row of 100,000. Then four readers,
-each on a connection of its own, fetch at once from the server of 1 worker. With --before another program is put beside it,
-one from before there were workers. The client is bench/sockets.cpp, compiled with g++; the kernel throws its answers away.
+In each round four readers fetch too, each on a connection of its own, from the server of 1 worker. None of them waits for
+another. So how many times as often they fetch as one reader is what the machine has for this query. With --before another
+program is put beside them, one from before there were workers. Two small queries are measured with 1 worker and with 4: all of a
+table of two rows, and one row of 100,000. The client is bench/sockets.cpp, compiled with g++; the kernel throws its answers away.
 
 A round counts only where the machine had all its processors meanwhile. Before it and behind it as many threads as there are
 processors (but four at most) have to do as many times as much arithmetic as one, give or take a tenth (bench/processors.cpp).
@@ -69,7 +70,6 @@ LARGE = {
     "Q8": "SELECT t.a, t.k, u.v FROM t JOIN u ON t.j = u.key",
 }
 SMALL = {"two rows": "SELECT * FROM w", "one row of 100,000": "SELECT v FROM u WHERE key = {key}"}
-READ = ("Q2", "Q6")  # by four readers
 
 
 # ---- the tables
@@ -279,13 +279,15 @@ def print_small(found, names, missed):
 
 
 def print_readers(found, names, missed):
-    """Fetches a second of four readers, of 1 worker and of the program from before, if there is one."""
-    print("| four readers | fetches a second | before | times |")
-    print("|---|---:|---:|---:|")
+    """Fetches a second of four readers of 1 worker each, beside those of one reader, and of the program from before."""
+    print("| | one reader, fetches a second | four readers | times | before | times |")
+    print("|---|---:|---:|---:|---:|---:|")
     for name in names:
-        now = middle(found[name, "readers"]).rate
+        one, now = middle(found[name, 1]).rate, middle(found[name, "readers"]).rate
+        times = median(all_four.rate / alone.rate for alone, all_four in zip(found[name, 1], found[name, "readers"]))
         before = middle(found[name, "before"]).rate if (name, "before") in found else None
-        print(f"| {name} | {now:.1f} | {f'{before:.1f}' if before else ''} | {f'{now / before:.2f}' if before else ''} |")
+        row = f"| {name} | {one:.1f} | {now:.1f} | {times:.2f} |"
+        print(f"{row} {f'{before:.1f}' if before else ''} | {f'{now / before:.2f}' if before else ''} |")
         if before and now < READERS_LEAST * before:
             missed.append(f"four readers of {name}: {now / before:.2f} times as many fetches as before")
     print()
@@ -300,10 +302,9 @@ class Case:
 
 
 def cases_of(servers, names):
-    large = [Case(name, [(workers, servers[workers], 1) for workers in WORKERS]) for name in names if name in LARGE]
-    small = [Case(name, [(workers, servers[workers], 1) for workers in (1, 4)]) for name in names if name in SMALL]
-    both = [("readers", servers[1], 4)] + ([("before", servers["before"], 4)] if "before" in servers else [])
-    return large + small + [Case(name, both) for name in names if name in READ]
+    readers = [("readers", servers[1], 4)] + ([("before", servers["before"], 4)] if "before" in servers else [])
+    large = [Case(name, [(workers, servers[workers], 1) for workers in WORKERS] + readers) for name in names if name in LARGE]
+    return large + [Case(name, [(workers, servers[workers], 1) for workers in (1, 4)]) for name in names if name in SMALL]
 
 
 def measured_case(bench, step, servers):
@@ -315,16 +316,12 @@ def measured_case(bench, step, servers):
 def measured_rounds(bench, machine, steps, cases, words):
     """The figures of each case in so many rounds that count, or in fewer where the minutes are over."""
     found, end = {}, time.monotonic() + 60 * words.minutes
-    while time.monotonic() < end and (open_cases := [case for case in cases if len(found.get(case_key(case), [])) < words.runs]):
+    while time.monotonic() < end and (open_cases := [case for case in cases if len(found.get((case.name, 1), [])) < words.runs]):
         for case in open_cases:
             figures = machine.whole_round(lambda: measured_case(bench, steps[case.name], case.servers))
             for which, one in (figures or {}).items():
                 found.setdefault((case.name, which), []).append(one)
     return found
-
-
-def case_key(case):
-    return case.name, case.servers[0][0]
 
 
 def look_at_answers(servers, workload):
@@ -366,10 +363,11 @@ def main():
         machine = Machine(compiled_arithmetic(folder))
         cases = cases_of(servers, names)
         found = measured_rounds(bench, machine, workload.steps, cases, words)
-        missed += [f"{case.name}: no round counts" for case in cases if case_key(case) not in found]
-        print_large(found, [name for name in names if name in LARGE and (name, 1) in found], missed)
-        print_small(found, [name for name in names if name in SMALL and (name, 1) in found], missed)
-        print_readers(found, [name for name in names if (name, "readers") in found], missed)
+        missed += [f"{case.name}: no round counts" for case in cases if (case.name, 1) not in found]
+        counting = [name for name in names if (name, 1) in found]
+        print_large(found, [name for name in counting if name in LARGE], missed)
+        print_readers(found, [name for name in counting if name in LARGE], missed)
+        print_small(found, [name for name in counting if name in SMALL], missed)
     print("\n".join([f"Missed: {one}" for one in missed] or ["All goals are met."]))
     print(f"\n{machine.line()}\n{measured.line()}")
 
