@@ -119,9 +119,10 @@ impl<K: Truth<A>, A: Drop> Slots<K, A> {
     }
 }
 
-// Before a thread sleeps it looks so often, without the lock, whether it may go on: some 3 microseconds long. It doesn't yield its
-// processor meanwhile: who else runs there may keep it for milliseconds.
-const LOOKS: usize = 1_500;
+// Before a thread sleeps it looks so often, without the lock, whether it may go on: some 16 microseconds long. For a kernel may put a
+// thread that it wakes behind another one, though a processor is idle. It doesn't yield its processor meanwhile: who else runs there
+// may keep it for milliseconds.
+const LOOKS: usize = 8_000;
 
 // The window. Workers put their answers into it, and the reader takes them.
 #[derive(Drop)]
