@@ -2,10 +2,12 @@
 
 ghost use Rattle.std.specs.Prelude.{◌≡◌, ◌<◌, ℕ, All, IfOk, OnErr};
 
+use crate::answered::{Done, Truth};
 use crate::claims::{Claimer, Word, open, split};
 use crate::exchange::Exchange;
 use crate::pull::{InTurn, Pull};
-use crate::window::{Truth, Window};
+use crate::slots::Bounds;
+use crate::window::Window;
 use crate::work::{Gate, Reads, Work};
 use std::alloc::{AllocError, Global};
 use std::marker::{Brand, PhantomData};
@@ -184,8 +186,7 @@ where
         me,
         given: 0,
         drawn: None,
-        stash: None,
-        more: false,
+        done: Done::Nothing,
     };
     let draws_first = !exchange.work.chooses_first();
     if draws_first {
@@ -242,6 +243,23 @@ fn helpers_of<W: Work>(work: &W, workers: usize) -> usize
     }
 }
 
+// So many morsels each worker may have begun, with those whose answers are there.
+const MOST_BEGUN: usize = 3;
+
+// How many morsels there are, and how many may be begun at once. So many answers may be made or there as there are workers.
+fn bounds_of<W: Work>(work: &W, workers: usize) -> Bounds {
+    let begun = if work.chooses_first() {
+        workers.saturating_mul(MOST_BEGUN)
+    } else {
+        workers
+    };
+    Bounds {
+        count: work.count(),
+        begun,
+        made: workers,
+    }
+}
+
 // Reads the answers, which at least two workers make.
 fn read_at_once<K, A, W, G, R, S>(
     rt: &R,
@@ -266,7 +284,7 @@ where
     ensures read { IfOk result (λ out. S.reads reader.old (λ n a. ∥ K.right n a ∥₁) (W.count work.now) out reader.new) }
     ensures kept { OnErr result (reader.new ≡ reader.old) }
 {
-    let window: Window<K, A> = Window::new(alloc, workers)?;
+    let window: Window<K, A> = Window::new(alloc, bounds_of(work, workers))?;
     let (word, mut me) = open(alloc)?;
     let mut claimers = split_all(alloc, &word, &mut me, helpers_of(work, workers))?;
     let exchange = Exchange {

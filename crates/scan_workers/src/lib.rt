@@ -1,12 +1,13 @@
 //! Workers that claim morsels by one word, and whose answers are read in the order of the morsels.
 #![tactic(auto)]
 
-mod begun;
+mod answered;
 mod beside;
 mod claims;
 mod collect;
 mod exchange;
 mod pull;
+mod slots;
 mod window;
 mod work;
 
