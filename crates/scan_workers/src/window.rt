@@ -94,16 +94,20 @@ impl<K: Truth<A>, A: Drop> Window<K, A> {
         })
     }
 
-    // Tells who has to know, once the lock is free.
-    fn tell(&self, news: News) {
+    // Counts what is told. The lock is held.
+    fn count(&self, news: News) {
         if news.reader {
             self.answers.fetch_add(1, Ordering::AcqRel);
         }
-        if news.wakes_reader {
-            self.answered.notify_one();
-        }
         if news.worker {
             self.offers.fetch_add(1, Ordering::AcqRel);
+        }
+    }
+
+    // Wakes who sleeps, once the lock is free.
+    fn wake(&self, news: News) {
+        if news.wakes_reader {
+            self.answered.notify_one();
         }
         if news.wakes_worker {
             self.offered.notify_one();
@@ -125,31 +129,37 @@ impl<K: Truth<A>, A: Drop> Window<K, A> {
         if waits {
             shared.waiting = shared.waiting.saturating_add(1);
         }
+        self.count(news);
         let seen = self.offers.load(Ordering::Acquire);
         drop(shared);
-        self.tell(news);
+        self.wake(news);
         if waits {
             return self.wait_for_task(rt, seen);
         }
         task
     }
 
-    // Waits until there is something to do. Nothing is given as by `hand_in`.
-    fn wait_for_task(&self, rt: &impl Wait, seen: usize) -> Option<Task<K, A>> {
-        look_for_another(&self.offers, seen);
-        let mut shared = self.shared.lock(rt);
+    // Waits until there is something to do. It sleeps where nothing was offered while it looked.
+    fn wait_for_task(&self, rt: &impl Wait, offers: usize) -> Option<Task<K, A>> {
+        let mut seen = offers;
         for _ in rt.forever() {
+            look_for_another(&self.offers, seen);
+            let mut shared = self.shared.lock(rt);
+            if self.offers.load(Ordering::Acquire) == seen {
+                shared.asleep = shared.asleep.saturating_add(1);
+                shared = self.offered.wait(rt, shared);
+                shared.asleep = shared.asleep.saturating_sub(1);
+            }
             let task = shared.task();
             if task.is_some() || shared.slots.is_over() {
                 shared.waiting = shared.waiting.saturating_sub(1);
                 let news = shared.news(false);
+                self.count(news);
                 drop(shared);
-                self.tell(news);
+                self.wake(news);
                 return task;
             }
-            shared.asleep = shared.asleep.saturating_add(1);
-            shared = self.offered.wait(rt, shared);
-            shared.asleep = shared.asleep.saturating_sub(1);
+            seen = self.offers.load(Ordering::Acquire);
         }
         unreachable!()
     }
@@ -168,9 +178,10 @@ impl<K: Truth<A>, A: Drop> Window<K, A> {
         shared.slots.ask(number);
         let sought = shared.slots.seek(number);
         let news = shared.news(false);
+        self.count(news);
         let seen = self.answers.load(Ordering::Acquire);
         drop(shared);
-        self.tell(news);
+        self.wake(news);
         match sought {
             Some(sought) => sought,
             None => self.wait_for(rt, number, seen),
@@ -201,8 +212,10 @@ impl<K: Truth<A>, A: Drop> Window<K, A> {
 
     // No more answers are read.
     pub fn close(&self, rt: &impl Wait) {
-        self.shared.lock(rt).slots.close();
+        let mut shared = self.shared.lock(rt);
+        shared.slots.close();
         self.offers.fetch_add(1, Ordering::AcqRel);
+        drop(shared);
         self.offered.notify_all();
     }
 }
