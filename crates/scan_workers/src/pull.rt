@@ -10,9 +10,6 @@ use std::alloc::Global;
 use std::marker::PhantomData;
 use std::sync::Wait;
 
-// So many things the reader does in one turn at most: it begins a morsel, or makes a turn of an answer.
-const MOST_DONE: usize = 2;
-
 // The answers in the order of the morsels. Where the next one is not there, the reader works as the others.
 #[derive(Drop)]
 pub struct Pull<'a, 'h, K: Truth<A>, A, W: Work<Answer = A>, G, R> {
@@ -63,13 +60,14 @@ impl<'a, 'h, K: Truth<A>, A: Drop, W: Work<Answer = A>, G: Gate, R: Wait> Pull<
         matches!(self.done, Done::Turned(_))
     }
 
-    // The answer of a morsel, or none where a turn is over before it is there: of a morsel, or of the reader.
+    // The answer of a morsel, or none where a turn of one is over before it is there. What it does before has an end, since only so many
+    // morsels may be begun and made.
     fn look(&mut self, number: usize) -> Option<Answered<K, A>>
         requires { W.ready self.old.exchange.now.work.now }
         ensures found { IfSome result (λ answered. answered.number ≡ number) }
         ensures same { (self.new.exchange ≡ self.old.exchange) × (self.new.given ≡ self.old.given) }
     {
-        for _ in 0..MOST_DONE {
+        for _ in self.exchange.rt.forever() {
             let done = self.take_done();
             match self.exchange.window.seek(self.exchange.rt, number, done) {
                 Ok(answered) => return Some(answered),
@@ -81,7 +79,7 @@ impl<'a, 'h, K: Truth<A>, A: Drop, W: Work<Answer = A>, G: Gate, R: Wait> Pull<
                 }
             }
         }
-        None
+        unreachable!()
     }
 
     // The answer of a morsel.

@@ -72,6 +72,11 @@ impl<K: Truth<A>, A: Drop> Slots<K, A> {
         self.closed = true;
     }
 
+    // Whether no more answers are read.
+    pub fn is_closed(&self) -> bool {
+        self.closed
+    }
+
     // Gives out one more morsel to be begun.
     pub fn give_out(&mut self) {
         self.begun = self.begun.saturating_add(1);

@@ -122,6 +122,9 @@ impl<K: Truth<A>, A: Drop> Window<K, A> {
     // Hands in what a worker did, and gives what it does next. Nothing is given where nothing is left, or no more answers are read.
     pub fn hand_in(&self, rt: &impl Wait, done: Done<K, A>) -> Option<Task<K, A>> {
         let mut shared = self.shared.lock(rt);
+        if shared.slots.is_closed() {
+            return None;
+        }
         let tells = shared.slots.take_in(done);
         let task = shared.task();
         let news = shared.news(tells);

@@ -100,14 +100,17 @@ impl Reads<Made> for ByTurns {
     }
 }
 
-// It waits until another worker has begun a morsel, and takes four turns. Three may be those of a morsel of its own.
+// So many turns the reader takes: more than there may be of the morsels that are begun beside one without end. So it waits for that one too.
+const TURNS: u32 = 200;
+
+// It waits until another worker has begun a morsel, and takes its turns.
 #[derive(Drop)]
-struct FourTurns<'a, R: Clock> {
+struct ManyTurns<'a, R: Clock> {
     rt: &'a R,
     begun: &'a AtomicU64,
 }
 
-impl<'a, R: Clock> FourTurns<'a, R> {
+impl<'a, R: Clock> ManyTurns<'a, R> {
     // Waits for another worker, but no longer than 10,000 times a millisecond.
     fn wait(&self) {
         for _ in 0..10_000u32 {
@@ -119,7 +122,7 @@ impl<'a, R: Clock> FourTurns<'a, R> {
     }
 }
 
-impl<'a, R: Clock> Reads<Made> for FourTurns<'a, R> {
+impl<'a, R: Clock> Reads<Made> for ManyTurns<'a, R> {
     type Out = bool;
 
     ghost takes = { λ _ _ _. Unit {0} };
@@ -129,7 +132,7 @@ impl<'a, R: Clock> Reads<Made> for FourTurns<'a, R> {
     // Whether each turn was over before the answer was there.
     fn read<P: Answers<Made>>(&mut self, answers: &mut P) -> bool {
         self.wait();
-        for _ in 0..4u32 {
+        for _ in 0..TURNS {
             if !matches!(answers.turn(), NextAnswer::Going) {
                 return false;
             }
@@ -155,7 +158,7 @@ pub fn answers_come_in_turns<R: Threads + Wait + Sync>(
     format!(in alloc; "{whole}")
 }
 
-/// For how many numbers of workers, of 2 to 16, four turns of the reader are over before an answer whose turns have no end, and the
+/// For how many numbers of workers, of 2 to 16, 200 turns of the reader are over before an answer whose turns have no end, and the
 /// workers stop when it reads no more.
 pub fn workers_stop_between_turns<R: Threads + Wait + Clock + Sync>(
     rt: &R,
@@ -164,7 +167,7 @@ pub fn workers_stop_between_turns<R: Threads + Wait + Clock + Sync>(
     let mut stopped = 0u32;
     for workers in 2..17 {
         let work = InTurns::new(true);
-        let mut reader = FourTurns {
+        let mut reader = ManyTurns {
             rt,
             begun: &work.begun,
         };

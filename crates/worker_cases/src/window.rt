@@ -159,7 +159,7 @@ pub fn at_most_as_many_as_workers<R: Threads + Wait + Sync>(
 }
 
 /// For how many numbers of workers, of 1 to 16, that is so where a morsel is chosen before its answer is made, and no more than
-/// three times as many were chosen as there are workers: two by each, and those whose answers are there.
+/// three times as many were chosen as there are workers: those that are made or there, and twice as many.
 pub fn at_most_three_times_as_many_are_chosen<R: Threads + Wait + Sync>(
     rt: &R,
     alloc: Global,
