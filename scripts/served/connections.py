@@ -347,17 +347,24 @@ def gone_while_joining(run: Run) -> str:
 SHORT = ("SELECT x.v FROM t AS x JOIN t AS y ON x.k = y.k", "SELECT v FROM t GROUP BY v")
 
 
-@case("clients that end what they send behind a short join, and behind groups: each has its whole answer, and that of the call behind it")
+@case("clients that end what they send behind a short join, and behind groups, of 1 worker and of 4: each has its whole answer, and that of a call behind it")
 def half_closed(run: Run) -> None:
-    with run.serving() as server:
-        with Connection(server.port) as connection:
-            ask(connection, put_of("t", KEYS, [(number, number) for number in range(1_000)]), PutCount(1_000))
-        for text in SHORT:
+    for workers, batches in (("1", [1_000]), ("4", [70_000, 70_000])):
+        rows = [(number, number) for number in range(sum(batches))]
+        whole = rows_of(V, *[(number,) for number, _ in rows])
+        with run.serving("--workers", workers) as server:
             with Connection(server.port) as connection:
-                connection.send(fetch_of(1, 0, 1_000, text) + PUT)
-                connection.end_input()
-                rows_of(V, *[(number,) for number in range(1_000)]).look(connection.answer())
-                Refusal("F10").look(connection.answer())
+                for number, count in enumerate(batches):
+                    put = appended if number else put_of
+                    ask(connection, put("t", KEYS, rows[number * count :][:count]), PutCount(count))
+            for text in SHORT:
+                for behind in (b"", PUT):
+                    with Connection(server.port) as connection:
+                        connection.send(fetch_of(len(batches), 0, len(rows), text) + behind)
+                        connection.end_input()
+                        whole.look(connection.answer())
+                        if behind:
+                            Refusal("F10").look(connection.answer())
 
 
 NUMBERED = 16_000  # rows that name one text of 65,536 bytes, each beside its number: so many keys are found, each by its number

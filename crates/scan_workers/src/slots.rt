@@ -123,6 +123,9 @@ impl<K: Truth<A>, A: Drop> Slots<K, A> {
     fn take_begun(&mut self, number: usize) -> Option<Answered<K, A>> {
         let place = number.checked_rem(self.slots.len())?;
         let slot = &mut self.slots[place];
+        if !matches!(slot, Slot::Begun(_)) {
+            return None;
+        }
         match std::mem::replace(slot, Slot::Empty) {
             Slot::Begun(answered) => Some(answered),
             other => {
@@ -200,6 +203,9 @@ impl<K: Truth<A>, A: Drop> Slots<K, A> {
     {
         let place = number.checked_rem(self.slots.len())?;
         let slot = &mut self.slots[place];
+        if !matches!(slot, Slot::Made(_)) {
+            return None;
+        }
         match std::mem::replace(slot, Slot::Empty) {
             Slot::Made(answered) if answered.number == number => Some(answered),
             other => {

@@ -28,9 +28,10 @@ fn look_for_another(number: &AtomicUsize, seen: usize) {
 #[derive(Drop)]
 struct Shared<K: Truth<A>, A> {
     slots: Slots<K, A>,
-    // How many workers wait for something to do, and how many of those sleep.
+    // How many workers wait for something to do, how many of those sleep, and how many of these were woken and do not go on yet.
     waiting: usize,
     asleep: usize,
+    woken: usize,
     // Whether the reader sleeps.
     sleeps: bool,
 }
@@ -45,12 +46,17 @@ struct News {
 }
 
 impl<K: Truth<A>, A: Drop> Shared<K, A> {
-    // Who is told, where something of the reader's morsel is to be told or not. A worker is woken only where all that wait sleep.
-    fn news(&self, reader: bool) -> News {
+    // Who is told, where something of the reader's morsel is to be told or not. A worker is woken only where all that wait sleep, and
+    // none that was woken before and does not go on yet.
+    fn news(&mut self, reader: bool) -> News {
         let worker = self.waiting > 0 && (self.slots.is_over() || self.slots.has_task());
+        let wakes_worker = worker && self.waiting == self.asleep && self.woken < self.asleep;
+        if wakes_worker {
+            self.woken = self.woken.saturating_add(1);
+        }
         News {
             worker,
-            wakes_worker: worker && self.waiting == self.asleep,
+            wakes_worker,
             reader,
             wakes_reader: reader && self.sleeps,
         }
@@ -85,6 +91,7 @@ impl<K: Truth<A>, A: Drop> Window<K, A> {
                 slots,
                 waiting: 0,
                 asleep: 0,
+                woken: 0,
                 sleeps: false,
             }),
             offers: AtomicUsize::new(0),
@@ -152,6 +159,7 @@ impl<K: Truth<A>, A: Drop> Window<K, A> {
                 shared.asleep = shared.asleep.saturating_add(1);
                 shared = self.offered.wait(rt, shared);
                 shared.asleep = shared.asleep.saturating_sub(1);
+                shared.woken = shared.woken.saturating_sub(1);
             }
             let task = shared.task();
             if task.is_some() || shared.slots.is_over() {
