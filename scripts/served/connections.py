@@ -332,7 +332,7 @@ WAYS = (Connection.close, Connection.break_off, ended_input, broken_behind_a_byt
 @case("clients that go away while a join gives no row, of 1 worker and of 4: each had the schema, and its only seat is free within 5 seconds")
 def gone_while_joining(run: Run) -> str:
     longest = 0.0
-    for workers, batches in (("1", [4_000]), ("4", [70_000, 70_000])):
+    for workers, batches in (("1", [4_000]), ("4", [66_000] * 4)):
         with run.serving("--seats", "1", "--workers", workers) as server:
             with Connection(server.port) as connection:
                 for number, rows in enumerate(batches):
@@ -349,7 +349,7 @@ SHORT = ("SELECT x.v FROM t AS x JOIN t AS y ON x.k = y.k", "SELECT v FROM t GRO
 
 @case("clients that end what they send behind a short join, and behind groups, of 1 worker and of 4: each has its whole answer, and that of a call behind it")
 def half_closed(run: Run) -> None:
-    for workers, batches in (("1", [1_000]), ("4", [70_000, 70_000])):
+    for workers, batches in (("1", [1_000]), ("4", [66_000] * 4)):
         rows = [(number, number) for number in range(sum(batches))]
         whole = rows_of(V, *[(number,) for number, _ in rows])
         with run.serving("--workers", workers) as server:

@@ -103,9 +103,9 @@ impl<R: Threads + Wait + Sync> StartsWorkers for R {
 }
 
 /// The payloads of a stream are made by the thread that reads and by workers beside it, each in a thread of its own: with that thread
-/// as many as the stream asks for at most, one for each 65,536 rows that are read and one for each morsel at most.
+/// as many as the stream asks for at most, one for each 65,536 rows of its range and one for each morsel at most.
 /// Threads are started once for a fetch, and have ended when it has. Of groups the workers make those of each
-/// part of the batches, with the same bounds. The list of tables and streams whose rows are begun stay with one worker; so does a stream
+/// part of the batches, one for each piece at most. The list of tables and streams whose rows are begun stay with one worker; so does a stream
 /// of rows where memory is refused for the others.
 #[derive(Drop)]
 pub struct Workers<'h, R: StartsWorkers> {
@@ -128,7 +128,7 @@ impl<'h, R: Threads + Wait + Sync> Workers<'h, R> {
         Workers::reading(rt, LEAST_ROWS)
     }
 
-    /// The same, with one worker for each so many rows that are read at most, in place of 65,536: what is read is the same for
+    /// The same, with one worker for each so many rows of the range at most, in place of 65,536: what is read is the same for
     /// any number.
     pub fn reading(rt: &'h R, least_rows: usize) -> Workers<'h, R> {
         Workers { rt, least_rows }

@@ -231,8 +231,8 @@ where
 }
 
 // How many threads work beside the reader, with it one of so many workers. Where no morsel is chosen first, each of them may have one
-// large morsel, and the threads are one more. So the one that a kernel puts on the reader's processor finds none left, and nobody
-// waits for it.
+// large morsel, and the threads are one more. So where there are no more morsels than workers, the one that a kernel puts on the
+// reader's processor finds none left, and nobody waits for it.
 fn helpers_of<W: Work>(work: &W, workers: usize) -> usize
     requires { 1 < workers }
 {
@@ -321,7 +321,7 @@ where
     ensures read { IfOk result (λ out. S.reads reader.old (λ n a. ∥ K.right n a ∥₁) (W.count work.now) out reader.new) }
     ensures kept { OnErr result (reader.new ≡ reader.old) }
 {
-    if workers < 2 {
+    if workers < 2 || work.count() < 2 {
         return Ok(read_in_turn::<K, A, W, G, S>(alloc, work, gate, reader));
     }
     read_at_once::<K, A, W, G, R, S>(rt, alloc, work, workers, gate, reader)
@@ -329,7 +329,8 @@ where
 
 /// Has the answers read in the order of the morsels. So many workers make them. One is the reader, where the next answer is not there
 /// yet. The others are threads beside it, and one thread more is started. It does nothing where morsels are chosen first, and else
-/// it answers what is left. No more answers are held at once than there are workers. With fewer than two no thread is started.
+/// it answers what is left. No more answers are held at once than there are workers. With fewer than two, or fewer than two morsels, no
+/// thread is started.
 ///
 /// # Errors
 ///

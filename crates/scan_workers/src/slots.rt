@@ -128,10 +128,7 @@ impl<K: Truth<A>, A: Drop> Slots<K, A> {
         }
         match std::mem::replace(slot, Slot::Empty) {
             Slot::Begun(answered) => Some(answered),
-            other => {
-                *slot = other;
-                None
-            }
+            _ => None,
         }
     }
 

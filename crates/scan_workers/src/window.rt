@@ -46,8 +46,8 @@ struct News {
 }
 
 impl<K: Truth<A>, A: Drop> Shared<K, A> {
-    // Who is told, where something of the reader's morsel is to be told or not. A worker is woken only where all that wait sleep, and
-    // none that was woken before and does not go on yet.
+    // Whom a thread tells, where there is something of the reader's morsel or not. It wakes a worker only where all that wait sleep, and
+    // one of these was not woken yet.
     fn news(&mut self, reader: bool) -> News {
         let worker = self.waiting > 0 && (self.slots.is_over() || self.slots.has_task());
         let wakes_worker = worker && self.waiting == self.asleep && self.woken < self.asleep;
@@ -75,7 +75,8 @@ impl<K: Truth<A>, A: Drop> Shared<K, A> {
 #[derive(Drop)]
 pub struct Window<K: Truth<A>, A> {
     shared: Mutex<Shared<K, A>>,
-    // How often a worker was told that there is something to do, and the reader that there is something of its morsel.
+    // How often a worker was told that there is something to do, or that nothing is left, and the reader that there is something of its
+    // morsel.
     offers: AtomicUsize,
     answers: AtomicUsize,
     offered: Condvar,
@@ -225,6 +226,7 @@ impl<K: Truth<A>, A: Drop> Window<K, A> {
     pub fn close(&self, rt: &impl Wait) {
         let mut shared = self.shared.lock(rt);
         shared.slots.close();
+        shared.woken = shared.asleep;
         self.offers.fetch_add(1, Ordering::AcqRel);
         drop(shared);
         self.offered.notify_all();

@@ -10,22 +10,46 @@ use std::thread;
 use std::thread::Threads;
 use std::time::{Clock, Duration};
 
-// It holds morsel 0 until morsel 1 entered, but no longer than 10,000 turns of a millisecond.
+/// It holds one morsel until a later one entered, but no longer than 10,000 turns of a millisecond.
 #[derive(Drop)]
-struct HoldsTheFirst<'a, R: Clock> {
+pub struct HoldsOne<'a, R: Clock> {
     rt: &'a R,
-    // Whether morsel 1 entered.
+    held: usize,
+    // Whether a later one entered.
     entered: AtomicBool,
-    // Whether morsel 0 went on because of it.
+    // Whether the held one went on because of it.
     opened: AtomicBool,
 }
 
-impl<'a, R: Clock> Gate for HoldsTheFirst<'a, R> {
+impl<'a, R: Clock> HoldsOne<'a, R> {
+    /// It holds this morsel.
+    pub fn new(rt: &'a R, held: usize) -> HoldsOne<'a, R> {
+        HoldsOne {
+            rt,
+            held,
+            entered: AtomicBool::new(false),
+            opened: AtomicBool::new(false),
+        }
+    }
+
+    /// Whether the held morsel goes on because a later one entered, within 10,000 turns of a millisecond.
+    pub fn opens(&self) -> bool {
+        for _ in 0..10_000u32 {
+            if self.opened.load(Ordering::SeqCst) {
+                return true;
+            }
+            thread::sleep(self.rt, Duration::from_millis(1));
+        }
+        false
+    }
+}
+
+impl<'a, R: Clock> Gate for HoldsOne<'a, R> {
     fn enter(&self, morsel: usize) {
-        if morsel == 1 {
+        if morsel > self.held {
             self.entered.store(true, Ordering::SeqCst);
         }
-        if morsel != 0 {
+        if morsel != self.held {
             return;
         }
         for _ in 0..10_000u32 {
@@ -38,16 +62,12 @@ impl<'a, R: Clock> Gate for HoldsTheFirst<'a, R> {
     }
 }
 
-/// Two workers answer eight morsels while morsel 0 is held: whether it was let go by morsel 1, and the answers.
+/// Two workers answer eight morsels while morsel 0 is held: whether it was let go by a later one, and the answers.
 pub fn a_held_worker_holds_no_other<R: Threads + Wait + Clock + Sync>(
     rt: &R,
     alloc: Global,
 ) -> Result<String, AllocError> {
-    let gate = HoldsTheFirst {
-        rt,
-        entered: AtomicBool::new(false),
-        opened: AtomicBool::new(false),
-    };
+    let gate = HoldsOne::new(rt, 0);
     let answers = answers_of(rt, alloc, &Numbers::new(8), 2, &gate)?;
     format!(in alloc; "{}{answers}", gate.opened.load(Ordering::SeqCst))
 }

@@ -7,6 +7,7 @@ mod numbers;
 mod stopped;
 mod turns;
 mod window;
+mod woken;
 
 use std::alloc::{AllocError, Global};
 use std::io;
@@ -52,5 +53,7 @@ fn main(rt: HostRuntime) -> io::Result<()> {
     let came = turns::answers_come_in_turns(&rt, alloc);
     println!(rt; "{}", line(alloc, "answers_come_in_turns", came)?)?;
     let came = turns::workers_stop_between_turns(&rt, alloc);
-    println!(rt; "{}", line(alloc, "workers_stop_between_turns", came)?)
+    println!(rt; "{}", line(alloc, "workers_stop_between_turns", came)?)?;
+    let came = woken::workers_are_woken(&rt, alloc);
+    println!(rt; "{}", line(alloc, "workers_are_woken", came)?)
 }

@@ -4,7 +4,7 @@ use scan_workers::Work;
 use std::alloc::{AllocError, Global};
 use std::sync::atomic::{AtomicU64, Ordering};
 
-// So many numbers of eight bytes no allocator gives: together they are half of all addresses.
+// So many numbers of eight bytes no allocator gives: together they are a quarter of all addresses.
 const TOO_MANY: usize = 1 << 59;
 
 /// The answer to a morsel is its number, in memory of its own.
