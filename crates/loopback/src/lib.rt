@@ -17,14 +17,27 @@ const WAIT_SECONDS: u64 = 5;
 
 /// The end of a client's stream that is written to. It can look whether the client is still there.
 #[derive(Drop)]
-pub struct SocketWriter<'a, K> {
+pub struct SocketWriter<'a, R> {
     counted: Counted<TcpStream>,
-    clock: &'a K,
+    clock: &'a R,
     // When a look first found that the client had ended what it sends, since bytes last went out.
     ended: Option<Instant>,
 }
 
-impl<K: Clock> Output for SocketWriter<'_, K> {
+impl<'a, R> SocketWriter<'a, R> {
+    // No end of what the client sends was found yet.
+    fn new(counted: Counted<TcpStream>, clock: &'a R) -> SocketWriter<'a, R>
+        ensures { result.counted ≡ counted }
+    {
+        SocketWriter {
+            counted,
+            clock,
+            ended: None,
+        }
+    }
+}
+
+impl<R: Clock> Output for SocketWriter<'_, R> {
     ghost contents = { λ s. Some s.counted.taken.bytes };
 
     ghost failures = { λ s. s.counted.failures };
@@ -228,12 +241,7 @@ impl<'a, R: Net<Listener = TcpListener, Stream = TcpStream> + Clock> Listen for 
         stream.set_read_timeout(self.patience)?;
         stream.set_write_timeout(self.patience)?;
         let (reader, counted) = ends_of(stream)?;
-        let writer = SocketWriter {
-            counted,
-            clock: self.rt,
-            ended: None,
-        };
-        Ok((reader, writer))
+        Ok((reader, SocketWriter::new(counted, self.rt)))
     }
 
     // Both ends have the stream, and are dropped.
