@@ -60,7 +60,7 @@ class Table:
 
 
 def set_limit(server: Server, most: int) -> None:
-    """Sets how many descriptors the system lets a server have."""
+    """Sets how many descriptors the system lets a server have. The hard limit stays, so a later call may raise it again."""
     _, hard = resource.prlimit(server.process.pid, resource.RLIMIT_NOFILE)
     resource.prlimit(server.process.pid, resource.RLIMIT_NOFILE, (most, hard))
 

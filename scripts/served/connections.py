@@ -397,12 +397,12 @@ def half_closed(run: Run) -> None:
 COUNTED, KINDS = 1_048_576, 1_000  # rows in two batches, each of one of so many kinds: the server looks at the client before it has counted them
 COUNTS = Column("col1", "Int64", False)
 LONG_ANSWERS = (
-    ("SELECT COUNT(*) FROM t", rows_of((COUNTS,), (COUNTED,))),
-    ("SELECT COUNT(*) FROM t WHERE v < 524288", rows_of((COUNTS,), (COUNTED // 2,))),
-    ("SELECT k, COUNT(*) FROM t GROUP BY k", rows_of((KEYS[0], Column("col2", "Int64", False)), *[
+    (COUNTED, "SELECT COUNT(*) FROM t", rows_of((COUNTS,), (COUNTED,))),
+    (COUNTED, "SELECT COUNT(*) FROM t WHERE v < 524288", rows_of((COUNTS,), (COUNTED // 2,))),
+    (COUNTED, "SELECT k, COUNT(*) FROM t GROUP BY k", rows_of((KEYS[0], Column("col2", "Int64", False)), *[
         (kind, len(range(kind, COUNTED, KINDS))) for kind in range(KINDS)])),
-    ("SELECT x.v FROM t AS x JOIN u AS y ON x.v = y.v", rows_of(KEYS[1:], (7,))),
-    ("SELECT COUNT(*) FROM t AS x JOIN t AS y ON x.v = y.v", rows_of((COUNTS,), (COUNTED,))),
+    (COUNTED, "SELECT x.v FROM t AS x JOIN u AS y ON x.v = y.v", rows_of(KEYS[1:], (7,))),
+    (1, "SELECT y.v FROM u AS x JOIN t AS y ON x.v = y.v", rows_of(KEYS[1:], (7,))),
 )
 
 
@@ -425,10 +425,10 @@ def half_closed_behind_long_work(run: Run) -> None:
             with Connection(server.port) as connection:
                 ask(connection, put, PutCount(COUNTED))
                 ask(connection, put_of("u", KEYS, [(0, 7)]), PutCount(1))
-            for text, whole in LONG_ANSWERS:
+            for end, text, whole in LONG_ANSWERS:
                 for behind in (b"", PUT):
                     with Connection(server.port) as connection:
-                        connection.send(fetch_of(2, 0, COUNTED, text) + behind)
+                        connection.send(fetch_of(2, 0, end, text) + behind)
                         connection.end_input()
                         whole.look(connection.answer())
                         if behind:
@@ -594,11 +594,11 @@ KEPT = f"SELECT v FROM t WHERE {EQUAL} OR v IN ({','.join(map(str, range(1_000, 
 PIECE_WORK = 8  # seconds of work of a worker within which the schema has to be there, and then the seat free: a batch takes at least five times as long
 
 
-def pairs_put(piece: int = PIECE, pieces: int = PIECES) -> bytes:
-    """A put of batches of which each row has another pair of two texts of 8,192 bytes, which differ in their last ones."""
+def pairs_put(piece: int = PIECE, pieces: int = PIECES, length: int = 8_192) -> bytes:
+    """A put of batches of which each row has another pair of two texts of so many bytes, which differ in their last ones."""
     coded = [trees.field(name, trees.UTF8, dictionary=trees.encoding(id, trees.integer(8, True))) for id, name in enumerate("su")]
     fields = trees.schema(*coded, trees.field("v", trees.integer(64, True))), b""
-    words = [trees.dictionary(id, trees.batch(WORDS, (0, b"", *trees.texts([b"%s%03d%s" % (b"x" * 8_188, number, end) for number in range(WORDS)]))))
+    words = [trees.dictionary(id, trees.batch(WORDS, (0, b"", *trees.texts([b"%s%03d%s" % (b"x" * (length - 4), number, end) for number in range(WORDS)]))))
              for id, end in enumerate((b"a", b"b"))]
     codes = bytes(row % WORDS for row in range(piece)), bytes(row // WORDS % WORDS for row in range(piece))
     rows = trees.batch(piece, *((0, b"", part) for part in codes), (0, b"", struct.pack(f"<{piece}q", *range(piece))))
@@ -632,20 +632,21 @@ def gone_while_giving(run: Run) -> str:
     return f"at most {work_of_dear(run, '1', [KEPT])}; with 4 workers {work_of_dear(run, '4', [KEPT])}"
 
 
-FEW_PAIRS = 16_384  # rows, of which each 512th is kept
-STEADY = f"SELECT v FROM t WHERE {EQUAL} OR v IN ({','.join(map(str, range(0, FEW_PAIRS, 512)))})"
+STEADY_ROWS = 32_768
+STEADY = range(0, STEADY_ROWS, 4_096)  # those that are kept: not each piece has one, so between two of them the server looks at the client
 
 
 @case("a client that ends what it sends behind a filter that works for longer than 5 seconds, and gives a row now and then: it has its whole answer")
 def half_closed_while_rows_come(run: Run) -> str:
     with run.serving() as server:
         with Connection(server.port) as connection:
-            ask(connection, pairs_put(FEW_PAIRS, 1), PutCount(FEW_PAIRS))
+            ask(connection, pairs_put(STEADY_ROWS, 1, 4_096), PutCount(STEADY_ROWS))
         with Connection(server.port) as connection:
-            connection.send(fetch_of(1, 0, FEW_PAIRS, STEADY))
+            text = f"SELECT v FROM t WHERE {EQUAL} OR v IN ({','.join(map(str, STEADY))})"
+            connection.send(fetch_of(1, 0, STEADY_ROWS, text))
             connection.end_input()
             began = server.seconds_worked()
-            rows_of(V, *[(number,) for number in range(0, FEW_PAIRS, 512)]).look(connection.answer())
+            rows_of(V, *[(number,) for number in STEADY]).look(connection.answer())
             worked = server.seconds_worked() - began
     same(f"it worked for {worked:.1f} s, which is longer than 5", True, worked > WAITED)
     return f"behind {worked:.1f} s of work"
