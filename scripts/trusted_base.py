@@ -191,10 +191,10 @@ def contract_of(path, function):
 
 
 def clauses_of(trait):
-    """The clauses of a trait. Its associated types have bounds of their own, as `Self.Reader.tape` names a member of one."""
+    """The clauses of a trait. Its parameters and associated types have bounds of their own, as `Self.Reader.tape` names a member of one."""
     path, text = TRAITS[trait]
     lines = clause_lines(text)
-    bounds = re.findall(r"(?m)^\s*type (\w+): ([^;]*);", text)
+    bounds = BOUNDS.findall(text.partition("{")[0]) + re.findall(r"(?m)^\s*type (\w+): ([^;]*);", text)
     return Clauses(path, lines, set(led_to("\n".join(lines).replace("Self.", ""), bounds)))
 
 
