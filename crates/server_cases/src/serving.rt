@@ -86,10 +86,10 @@ struct Bound<'a, R> {
     ghost same: { port.number ≡ number },
 }
 
-impl<R: Net<Listener = TcpListener, Stream = TcpStream>> Listen for Bound<'_, R> {
+impl<'a, R: Net<Listener = TcpListener, Stream = TcpStream> + Clock> Listen for Bound<'a, R> {
     type Reader = Counted<TcpStream>;
 
-    type Writer = SocketWriter;
+    type Writer = SocketWriter<'a, R>;
 
     ghost listens = { λ _ _ _ _ _. Unit {0} };
 
@@ -118,11 +118,14 @@ impl<R: Net<Listener = TcpListener, Stream = TcpStream>> Listen for Bound<'_, R>
         })
     }
 
-    fn accept(&mut self, announced: &Announced) -> io::Result<(Counted<TcpStream>, SocketWriter)> {
+    fn accept(
+        &mut self,
+        announced: &Announced,
+    ) -> io::Result<(Counted<TcpStream>, SocketWriter<'a, R>)> {
         self.port.accept(announced)
     }
 
-    fn done(&mut self, reader: Counted<TcpStream>, writer: SocketWriter) {
+    fn done(&mut self, reader: Counted<TcpStream>, writer: SocketWriter<'a, R>) {
         self.port.done(reader, writer);
     }
 }
