@@ -3,7 +3,7 @@
 ghost use Rattle.std.specs.Prelude.{◌≡◌};
 ghost use Rattle.shared_calls.specs.Sharing.{seat_at};
 
-use flight_calls::Backend;
+use flight_core::Backend;
 use scan_base::Fault;
 use std::alloc::Global;
 use std::marker::Model;
@@ -30,7 +30,7 @@ impl<'a, C: CellName, R: Wait + Drop, H: Wait> Drop for Shared<'a, C, R, H> {
 }
 
 impl<'a, C: CellName, R: Wait + Drop, H: Wait> Model for Shared<'a, C, R, H> {
-    ghost use Rattle.flight_calls.specs.Seats.{Seat};
+    ghost use Rattle.flight_core.specs.Seats.{Seat};
     ghost use Rattle.shared_calls.specs.Sharing.{seat_at};
 
     ghost Value = { Seat };
