@@ -1,5 +1,5 @@
 -- The backend of a log that nobody shares.
-use Rattle.std.proofs.Common.{◌≡◌, ◌≢◌, ◌+◌, ℕ, [], ◌∷◌, ◌++◌, Result, Ok, Err, refl, sym, append-nil}
+use Rattle.std.proofs.Common.{◌≡◌, ◌≢◌, ◌+◌, ℕ, [], ◌∷◌, ◌++◌, Result, Ok, Err, refl, sym, ap, subst, ◌∙◌, append-nil}
 use Rattle.std.specs.Prelude.{IsOk}
 use Rattle.scan_base.specs.declared.fault.Fault.{Fault}
 use Rattle.scan_base.specs.declared.fault.Fault.TheVariants.{OutOfMemory}
@@ -8,7 +8,11 @@ use Rattle.table_versions.specs.Database.{Put, after}
 use Rattle.version_log.specs.Expiry.{IsExpired}
 use Rattle.version_log.specs.Log.{Log, added, expired, puts_in, database_of}
 use Rattle.flight_info.proofs.Results.{first_for}
-use Rattle.flight_core.specs.Seats.{lone_seat, Expires, Puts, alone}
+use Rattle.flight_info.specs.Replies.{ReplyAt}
+use Rattle.flight_core.specs.Asked.{Asked}
+use Rattle.flight_core.specs.Machine.{StepOn}
+use Rattle.flight_core.specs.Reacts.{Reacts}
+use Rattle.flight_core.specs.Seats.{Seat, lone_seat, Expires, Puts, alone}
 
 -- what is accepted has no first fault
 never_refused : {X : Type 0} (number : ℕ) (due : Result X Fault) → IsOk due → RefusesFirst (Ok number) due
@@ -67,3 +71,14 @@ expires_alone (Err fault) old new looks asks more version asked is = record {
   looks = refl;
   asks = asked;
 }
+
+-- a step goes from its log to its log
+pub alone_steps : (asked : Asked) (old new : Seat) (reply : ReplyAt) → Reacts alone (Ok asked) old reply new → StepOn old.log asked reply new.log
+alone_steps asked old new reply r =
+    subst (λ (log : Log). StepOn log asked reply new.log) r.goes.moved.0 (subst (λ (after : Log). StepOn r.log asked reply after) r.goes.moved.1 r.step)
+
+-- and each entry of it is its own
+pub alone_made : (asked : Asked) (old new : Seat) (reply : ReplyAt) → Reacts alone (Ok asked) old reply new → old.made ≡ old.log → new.made ≡ new.log
+alone_made asked old new reply r own =
+    let more = r.goes.made.0 in
+    r.goes.made.2 ∙ ap (λ (log : Log). log ++ more) (own ∙ sym r.goes.moved.0) ∙ sym r.goes.made.1 ∙ r.goes.moved.1
