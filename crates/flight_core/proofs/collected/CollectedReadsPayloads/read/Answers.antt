@@ -22,19 +22,19 @@ pub loop-parcel-smaller : goal.loop-parcel-smaller
 loop-parcel-smaller g c =
     let stream = g.P.Payloads.stream in
     let before = stream c.loop-parcel.payloads in
-    let after = stream c.next.new.self in
+    let after = stream c.next_parcel.new.payloads in
     let parcel = c.in-Some.parcel in
-    let gives : Gives before (Ok (Some parcel)) after = subst (λ (found : Option Parcel). Gives before (Ok found) after) c.in-Some.is c.in_ok-next_parcel-parcel.ensures in
+    let gives : Gives before (Ok (Some parcel)) after = subst (λ (found : Option Parcel). Gives before (Ok found) after) c.in-Some.is c.in_ok-parcel.ensures in
     fewer_turns before after parcel (gave before after parcel gives)
 
 pub loop-parcel-preserved : goal.loop-parcel-preserved
 loop-parcel-preserved g c =
     let stream = g.P.Payloads.stream in
     let before = stream c.loop-parcel.payloads in
-    let after = stream c.next.new.self in
+    let after = stream c.next_parcel.new.payloads in
     let parcel = c.in-Some.parcel in
     let payloads = c.loop-parcel.self.payloads.items in
-    let gives : GivesParcel before parcel after = gave before after parcel (subst (λ (found : Option Parcel). Gives before (Ok found) after) c.in-Some.is c.in_ok-next_parcel-parcel.ensures) in
+    let gives : GivesParcel before parcel after = gave before after parcel (subst (λ (found : Option Parcel). Gives before (Ok found) after) c.in-Some.is c.in_ok-parcel.ensures) in
     let pushed : c.push_parcel.new.payloads.items ≡ payloads ++ parcel = c.in_ok-push_parcel.ensures.ok in
     record {
       given = λ answer same. (
@@ -49,7 +49,7 @@ returns-in_err-parcel g c =
     let stream = g.P.Payloads.stream in
     let p = err_from_is_err_and c.from_residual.result c.from_residual.ensures.1 in
     record {
-      said = λ answer same. rw (p.1, p.2) (collected_before answer c.loop-parcel.self.payloads.items (stream c.loop-parcel.payloads) (stream c.next.new.self) c.in_err-parcel.field-0.0 (c.loop-parcel.invariant.given answer same) c.in_err-parcel.ensures);
+      said = λ answer same. rw (p.1, p.2) (collected_before answer c.loop-parcel.self.payloads.items (stream c.loop-parcel.payloads) (stream c.next_parcel.new.payloads) c.in_err-parcel.field-0.0 (c.loop-parcel.invariant.given answer same) c.in_err-parcel.ensures);
       fits = c.loop-parcel.invariant.fits;
     }
 
@@ -66,8 +66,8 @@ pub returns : goal.returns
 returns g c =
     let stream = g.P.Payloads.stream in
     let before = stream c.loop-parcel.payloads in
-    let after = stream c.next.new.self in
-    let gives : Gives before (Ok None) after = subst (λ (found : Option Parcel). Gives before (Ok found) after) c.in_default.is c.in_ok-next_parcel-parcel.ensures in
+    let after = stream c.next_parcel.new.payloads in
+    let gives : Gives before (Ok None) after = subst (λ (found : Option Parcel). Gives before (Ok found) after) c.in_default.is c.in_ok-parcel.ensures in
     let end = ended before after gives in
     record {
       said = λ answer same. record { stream = before; given = (c.loop-parcel.invariant.given answer same).1; stops = (end.0, end.1) };
