@@ -17,7 +17,7 @@ ghost use Rattle.flight_core.specs.Asked.{Asked};
 ghost use Rattle.flight_core.specs.Machine.{ReplyTo};
 
 use crate::answer::Answer;
-use crate::replies::floor_answer;
+use crate::payloads::floor_answer;
 use bytes::Bytes;
 use endpoint_split::Handle;
 use fetch_stream::{Execution, Executor, FetchStream, Opening, Parcel, Payloads, ReadsPayloads};

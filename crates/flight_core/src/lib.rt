@@ -11,9 +11,9 @@ pub mod event;
 pub mod laws;
 pub mod machine;
 pub mod operation;
+mod payloads;
 pub mod plain;
 pub mod put;
-mod replies;
 pub mod steps;
 
 pub use crate::answer::Answer;

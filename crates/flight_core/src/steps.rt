@@ -20,7 +20,7 @@ ghost use Rattle.flight_core.specs.Seats.{AsksNone, Learns};
 use crate::answer::Answer;
 use crate::backend::Backend;
 use crate::operation::Operation;
-use crate::replies::put_answer;
+use crate::payloads::put_answer;
 use endpoint_split::Handle;
 use fetch_stream::{Opening, read_ticket, version_of};
 use flight_info::{Reply, answer_info, answer_schema, answer_tables};

@@ -3,7 +3,7 @@ use Rattle.flight_proto.specs.PutResult.{rows_put_bytes}
 use Rattle.scan_base.specs.Limits.{most_rows}
 use Rattle.flight_core.proofs.Replies.{answer_fits}
 use Rattle.flight_info.proofs.Fitting.{none_fit, one_fits}
-use Rattle.flight_core.proofs.replies.put_answer.Goals as goal
+use Rattle.flight_core.proofs.payloads.put_answer.Goals as goal
 
 pub returns-clause-fits : goal.returns-clause-fits
 returns-clause-fits c =

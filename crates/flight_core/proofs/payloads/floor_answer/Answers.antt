@@ -2,7 +2,7 @@ use Rattle.std.proofs.Common.{◌≡◌, [], ◌∷◌, rules}
 use Rattle.flight_proto.specs.Expiry.{floor_bytes}
 use Rattle.flight_core.proofs.Expiring.{floor_fits}
 use Rattle.flight_info.proofs.Fitting.{none_fit, one_fits}
-use Rattle.flight_core.proofs.replies.floor_answer.Goals as goal
+use Rattle.flight_core.proofs.payloads.floor_answer.Goals as goal
 
 pub returns-clause-fits : goal.returns-clause-fits
 returns-clause-fits c =
