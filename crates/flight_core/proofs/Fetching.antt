@@ -1,6 +1,6 @@
 -- What a fetch shows, and its stream.
-use Rattle.std.proofs.Common.{◌≡◌, ◌≢◌, ◌<◌, ◌≤◌, ◌+◌, ℕ, Bool, true, false, nat_le, List, [], length, length-append, ◌⊎◌, Option, Some, None, Result, Ok, Err, refl, sym, ap, subst, ◌∙◌, inl, inr, arith}
-use Rattle.std.specs.Prelude.{IsOk, IfErr}
+use Rattle.std.proofs.Common.{◌≡◌, ◌≢◌, ◌<◌, ◌≤◌, ◌+◌, ℕ, Bool, true, false, nat_le, [], length, length-append, ◌⊎◌, Option, Some, None, Result, Ok, Err, refl, sym, ap, subst, inl, inr, arith}
+use Rattle.std.specs.Prelude.{IsOk}
 use Rattle.std.proofs.lemmas.Bool.{le-leb, leb-false, leb-true, lt-leb}
 use Rattle.scan_base.specs.declared.fault.Fault.{Fault}
 use Rattle.scan_base.specs.declared.fault.Fault.TheVariants.{BadTicket, OutOfMemory, VersionExpired, VersionUnknown}
@@ -18,7 +18,7 @@ use Rattle.flight_core.specs.declared.answer.Answer.TheVariants.{Stream, Whole}
 use Rattle.flight_core.specs.Answered.{AnsweredBy, ReactsBy}
 use Rattle.flight_core.specs.Asked.{Asked, fetch}
 use Rattle.flight_core.specs.Machine.{FetchBy, FetchIn, FetchShown, OpensBy, OpensIn, ReplyTo}
-use Rattle.flight_core.specs.Reacts.{Asks, IsBeyond, MayAsk}
+use Rattle.flight_core.specs.Reacts.{IsBeyond}
 use Rattle.flight_core.specs.Seats.{Seat, Moves, AsksNone, Learns}
 use Rattle.flight_core.specs.Shown.{handle_shown}
 use Rattle.flight_core.proofs.Reacting.{goes_by_look}

@@ -1,15 +1,15 @@
 -- Steps over a backend.
-use Rattle.std.proofs.Common.{◌≡◌, ◌≢◌, ◌<◌, ◌≤◌, ◌+◌, ℕ, Vec, List, [], ◌∷◌, ◌++◌, All, Option, Some, None, Result, Ok, Err, refl, sym, ap, subst, ◌∙◌, append-nil, inl, inr, arith}
+use Rattle.std.proofs.Common.{◌≡◌, ◌≢◌, ◌<◌, ℕ, Vec, List, [], ◌∷◌, ◌++◌, All, Some, None, Result, Ok, Err, refl, sym, ap, subst, ◌∙◌, append-nil, inl, inr, arith}
 use Rattle.std.specs.Global.{Global}
 use Rattle.std.specs.Prelude.{IsOk}
 use Rattle.std.proofs.lemmas.List.Elements.{All-push}
 use Rattle.scan_base.specs.declared.fault.Fault.{Fault}
 use Rattle.scan_base.specs.declared.fault.Fault.TheVariants.{OutOfMemory}
-use Rattle.table_versions.specs.Database.{Put, after}
+use Rattle.table_versions.specs.Database.{Put}
 use Rattle.flight_proto.specs.Expiry.{expiry_of, floor_bytes}
 use Rattle.flight_info.specs.Payloads.{Payload}
 use Rattle.flight_info.specs.Replies.{ReplyAt, refusal}
-use Rattle.version_log.specs.Log.{Log, added, expired, puts_of, puts_in, database_of, Begins}
+use Rattle.version_log.specs.Log.{Log, added, expired, puts_of, Begins}
 use Rattle.version_log.proofs.Logs.{puts_of-added, puts_of-expired}
 use Rattle.flight_core.specs.declared.answer.Answer.{Answer}
 use Rattle.flight_core.specs.declared.answer.Answer.TheVariants.{Whole, Accepted, Floor, Stream}
@@ -17,7 +17,7 @@ use Rattle.flight_core.specs.Answered.{fault_in, IsReplyOf, ReactsBy}
 use Rattle.flight_core.specs.Asked.{Asked, put, info, tables, schema, fetch, expire}
 use Rattle.flight_core.specs.Machine.{PutStep, ReplyTo}
 use Rattle.flight_core.specs.Puts.{put_glance, put_said}
-use Rattle.flight_core.specs.Reacts.{StartsAt, Looks, Asks, Goes, HasAsked, HasLooked, MayAsk, Reacts}
+use Rattle.flight_core.specs.Reacts.{StartsAt, Looks, Asks, Goes, MayAsk, Reacts}
 use Rattle.flight_core.specs.Refusals.{RefusedFor}
 use Rattle.flight_core.specs.Seats.{Seat, Moves, AsksNone, AsksOnce, Expires, Learns, LooksOnce, MarksAt, Puts}
 use Rattle.flight_core.proofs.Arriving.{glance_good}

@@ -1,4 +1,3 @@
-use Rattle.scan_base.specs.declared.fault.Fault.TheVariants.{OutOfMemory}
 use Rattle.table_versions.specs.Stored.{put_of}
 use Rattle.flight_core.proofs.Replies.{accepted_reply}
 use Rattle.flight_core.proofs.Reacting.{put_unread, put_tired, put_refused, put_made, more_puts, same_puts}
