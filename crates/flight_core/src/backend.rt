@@ -27,10 +27,8 @@ pub trait Backend {
     // What holds of each put that it accepts.
     ghost accepts: { database.Put → Type 0 };
 
-    // Whether it knows without memory which versions are there. Then `at` is refused memory only for one that is.
-    ghost KNOWS: { Bool };
-
-    const KNOWS: bool;
+    // Whether it knows without memory which versions are there.
+    ghost knows: { Bool };
 
     /// Makes the next version, with this put, gives its number, and learns of it.
     ///
@@ -77,13 +75,17 @@ pub trait Backend {
             × (number ≤ puts_in (seat self.new).log) × (snapshot.number ≡ number)
             × (tables_of snapshot.catalog ≡ version (seat self.new).log number)) }
         ensures kept { IfOk result (λ _. floor_of (seat self.new).log ≤ number) }
-        ensures known { result ≡ Err OutOfMemory → KNOWS ≡ true → LooksOnce (seat self.old) (seat self.new)
+        ensures known { result ≡ Err OutOfMemory → knows ≡ true → LooksOnce (seat self.old) (seat self.new)
             × (number ≤ puts_in (seat self.new).log) × (floor_of (seat self.new).log ≤ number) }
         ensures err { IfErr result (λ fault. ((fault ≡ OutOfMemory) × MayLook (seat self.old) (seat self.new))
             ⊎ (((fault ≡ VersionUnknown) × LooksOnce (seat self.old) (seat self.new)
             × (puts_in (seat self.new).log < number))
             ⊎ ((fault ≡ VersionExpired) × LooksOnce (seat self.old) (seat self.new)
             × (number ≤ puts_in (seat self.new).log) × (number < floor_of (seat self.new).log)))) };
+
+    /// Whether it knows without memory which versions are there. Then `at` is refused memory only for one that is.
+    fn knows() -> bool
+        ensures { result ≡ knows };
 
     /// Asks what others have done, and learns it. It is one ask, and no look.
     fn learn(&mut self)
@@ -187,9 +189,7 @@ impl Backend for Alone {
 
     ghost accepts = { IsPut };
 
-    ghost KNOWS = { true };
-
-    const KNOWS: bool = true;
+    ghost knows = { true };
 
     fn put(&mut self, alloc: Global, put: Put) -> Result<u64, Fault> {
         self.asks.raise();
@@ -210,6 +210,10 @@ impl Backend for Alone {
     fn at(&mut self, number: u64) -> Result<Snapshot, Fault> {
         self.looks.raise();
         Ok(self.plain.at(number)?.clone()?)
+    }
+
+    fn knows() -> bool {
+        true
     }
 
     // There are no others.

@@ -74,9 +74,7 @@ impl<'a, C: CellName, R: Wait + Drop, H: Wait> Backend for Shared<'a, C, R, H> {
 
     ghost accepts = { λ _. Unit {0} };
 
-    ghost KNOWS = { false };
-
-    const KNOWS: bool = false;
+    ghost knows = { false };
 
     fn put(&mut self, alloc: Global, put: Put) -> Result<u64, Fault> {
         self.putter.put(self.rt, alloc, &mut self.scanner, put)
@@ -93,6 +91,10 @@ impl<'a, C: CellName, R: Wait + Drop, H: Wait> Backend for Shared<'a, C, R, H> {
 
     fn at(&mut self, number: u64) -> Result<Snapshot, Fault> {
         self.scanner.at(number)
+    }
+
+    fn knows() -> bool {
+        false
     }
 
     // The putter's lock is taken once.
