@@ -5,7 +5,7 @@ use Rattle.scan_base.specs.declared.fault.Fault.{Fault}
 use Rattle.scan_base.specs.declared.fault.Fault.TheVariants.{Transport}
 use Rattle.grpc_frame.specs.Ends.{Tape}
 use Rattle.flight_calls.specs.declared.setting.Options.{Options}
-use Rattle.flight_calls.specs.Seats.{Moves, Seat}
+use Rattle.flight_core.specs.Seats.{Moves, Seat}
 use Rattle.flight_calls.specs.Owed.{Connection, Serves, connection_of}
 use Rattle.command_ends.specs.Network.{Ends, ends_of}
 use Rattle.commands.specs.Serve.{Accept, AcceptsThenCloses, Failed, Took, Worker, ServesInTurn, ServesUpTo, worker_of}

@@ -6,7 +6,7 @@ use Rattle.flight_core.specs.Headline.{Pairwise}
 use Rattle.version_log.specs.Log.{Log, IsLog, Begins}
 use Rattle.version_cell.specs.Merges.{MergesAll}
 use Rattle.flight_calls.specs.declared.setting.Options.{Options}
-use Rattle.flight_calls.specs.Seats.{Moves, Seat}
+use Rattle.flight_core.specs.Seats.{Moves, Seat}
 use Rattle.flight_calls.specs.Owed.{Connection, Serves, connection_of}
 use Rattle.shared_calls.specs.Sharing.{onward}
 use Rattle.command_ends.specs.Network.{Ends, ends_of}

@@ -9,7 +9,8 @@ ghost use Rattle.commands.specs.inside.Accepting.{TakesNext, TakesNone};
 
 use command_ends::{Announced, Listen};
 use connection_turns::{Drawer, Turns};
-use flight_calls::{Backend, Executor, Options, Setting};
+use flight_calls::{Executor, Options, Setting};
+use flight_core::Backend;
 use scan_base::Fault;
 use std::alloc::Global;
 use std::sync::Wait;

@@ -5,15 +5,13 @@
 #![tactic(auto)]
 
 mod answer;
-pub mod backend;
 mod call;
+mod keep;
 pub mod laws;
 mod request;
 mod server;
 mod setting;
-mod step;
 
-pub use crate::backend::{Alone, Backend};
 pub use crate::server::{serve, serve_alone};
 pub use crate::setting::{Options, Setting};
 pub use fetch_stream::{Executor, OneWorker};

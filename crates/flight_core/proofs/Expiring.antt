@@ -1,5 +1,5 @@
 -- Expiries, as they are answered.
-use Rattle.std.proofs.Common.{◌≡◌, ◌<◌, ◌≤◌, ℕ, Bool, true, false, nat_le, rules, List, [], ◌∷◌, length, length-append, None, Ok, Err, refl, ap, sym, ◌∙◌, max, arith, inl, inr}
+use Rattle.std.proofs.Common.{◌≡◌, ◌<◌, ◌≤◌, ℕ, Bool, true, false, nat_le, rules, List, [], ◌∷◌, length, length-append, None, Ok, Err, refl, ap, ◌∙◌, arith, inl, inr}
 use Rattle.std.specs.Prelude.{IsOk}
 use Rattle.byteorder.specs.Endian.{big_bytes}
 use Rattle.scan_base.specs.declared.fault.Fault.{Fault}
@@ -11,8 +11,7 @@ use Rattle.flight_proto.specs.Message.{set_fields, spelled}
 use Rattle.proto_wire.specs.Calls.{chunk_entry}
 use Rattle.proto_wire.specs.Writing.{spelling}
 use Rattle.version_log.specs.Expiry.{IsExpired, RefusesExpiry}
-use Rattle.version_log.specs.Log.{Log, puts_in, floor_of}
-use Rattle.version_log.proofs.Logs.{floor_of-expired}
+use Rattle.version_log.specs.Log.{Log, puts_in}
 use Rattle.flight_info.specs.Payloads.{Payload}
 use Rattle.flight_info.proofs.Sizes.{short_chunk, short_set}
 use Rattle.flight_core.specs.Refusals.{RefusedBy}
@@ -30,18 +29,15 @@ floor_fits floor =
 pub number_read : (action : Payload) (version : ℕ) → expiry_of action ≡ Ok version → IsOk (expiry_of action)
 number_read action version said = rw said refl
 
+-- and one that does not
+pub number_unread : (action : Payload) (fault : Fault) → expiry_of action ≡ Err fault → IsOk (expiry_of action) → ⊥
+number_unread action fault unread ok = let no = rw unread at ok in cc
+
 -- the mark was added, and the answer is the floor behind it
 pub expired_reply : (log new : Log) (action : Payload) (version floor : ℕ) (answers : List Payload) → expiry_of action ≡ Ok version
     → IsExpired (Ok floor) log version new → answers ≡ floor_bytes floor ∷ [] → ExpireStep log action answers None new
 expired_reply log new action version floor answers said is whole =
     (version, said, is.0, is.1, whole ∙ ap (λ (n : ℕ). floor_bytes n ∷ []) is.2)
-
--- the same of an answer that was made before the mark
-pub answered_before : (log new : Log) (action : Payload) (version floor said : ℕ) (answers : List Payload) → expiry_of action ≡ Ok version
-    → IsExpired (Ok floor) log version new → said ≡ max (floor_of log) version → answers ≡ floor_bytes said ∷ [] → ExpireStep log action answers None new
-answered_before log new action version floor said answers read is now whole =
-    let behind : floor ≡ said = is.2 ∙ ap floor_of is.1 ∙ floor_of-expired log version ∙ sym now in
-    expired_reply log new action version floor answers read is (whole ∙ ap (λ (n : ℕ). floor_bytes n ∷ []) (sym behind))
 
 -- an action that does not read is refused for its own fault
 pub unread_expiry : (log : Log) (action : Payload) (fault : Fault) → expiry_of action ≡ Err fault → RefusedBy (expiry_due log action) fault

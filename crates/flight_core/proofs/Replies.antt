@@ -1,16 +1,15 @@
 -- Replies put together.
-use Rattle.std.proofs.Common.{◌≡◌, ◌≤◌, ◌^◌, ℤ, ◌-◌, ℕ, pos, min, List, [], ◌∷◌, ◌++◌, length, length-append, refl, sym, ap, ◌∙◌, arith, ◌≢◌, Option, None, Some, Result, Ok, Err}
-use Rattle.std.specs.Prelude.{IsOk, IfErr, unwrap_or}
+use Rattle.std.proofs.Common.{◌≡◌, ◌≤◌, ◌^◌, ℤ, ◌-◌, ℕ, pos, min, List, [], ◌∷◌, ◌++◌, length, length-append, refl, ap, ◌∙◌, arith, ◌≢◌, None, Result, Ok, Err}
+use Rattle.std.specs.Prelude.{IsOk}
 use Rattle.scan_base.specs.declared.fault.Fault.{Fault}
 use Rattle.scan_base.specs.declared.fault.Fault.TheVariants.{OutOfMemory}
-use Rattle.scan_base.specs.Reading.{first_fault}
 use Rattle.std.specs.Int.{w64, cast_unsigned}
 use Rattle.flight_proto.specs.Message.{set_fields, spelled}
 use Rattle.flight_proto.specs.PutResult.{update_bytes, rows_put_bytes}
 use Rattle.proto_wire.specs.Calls.{chunk_entry, varint_entry}
 use Rattle.proto_wire.specs.Writing.{spelling}
 use Rattle.scan_base.specs.Limits.{most_message_bytes, most_rows}
-use Rattle.table_versions.specs.Database.{Database, Put, put_faults, after}
+use Rattle.table_versions.specs.Database.{Database, Put, after}
 use Rattle.table_versions.proofs.Accepted.{accepted_puts_are_few}
 use Rattle.flight_info.specs.Payloads.{Payload}
 use Rattle.flight_info.proofs.Sizes.{short_number, short_chunk, short_set}
@@ -43,17 +42,6 @@ pub refused_reply : (log : Log) (payloads : List Payload) (put : Put) (fault : F
     → (fault ≢ OutOfMemory → after (database_of log) (puts_in log) put ≡ Err fault) → RefusedFor (put_glance payloads) (database_put log payloads) fault
 refused_reply log payloads put fault said is =
     behind (put_glance payloads) (database_put log payloads) fault (glance_good payloads put said) (λ other. rw said (is other))
-
--- the fault of a put that is refused, or memory
-pub due : (database : Database) (n : ℕ) (put : Put) (first : Option Fault) (fault : Fault) → first ≡ first_fault (put_faults database n put) → fault ≡ unwrap_or first OutOfMemory
-    → fault ≢ OutOfMemory → after database n put ≡ Err fault
-due database n put (Some f) fault e is other = rw (← e) (ap Err (sym is))
-due database n put None fault e is other = absurd (other is)
-
-pub due_exactly : (database : Database) (n : ℕ) (put : Put) (first : Option Fault) (fault : Fault) → first ≡ first_fault (put_faults database n put) → fault ≡ unwrap_or first OutOfMemory
-    → IfErr (after database n put) (λ cause. Some fault ≡ Some cause)
-due_exactly database n put (Some f) fault e is = rw (← e) (ap Some is)
-due_exactly database n put None fault e is = rw (← e) tt
 
 -- the answer to a put
 pub answer_fits : (rows : ℤ) (payload : List ℕ) → payload ≡ rows_put_bytes rows → length payload ≤ most_message_bytes

@@ -3,7 +3,7 @@
 ghost use Rattle.std.specs.Prelude.{◌≡◌};
 ghost use Rattle.shared_calls.specs.Sharing.{seat_at};
 
-use flight_calls::Backend;
+use flight_core::Backend;
 use scan_base::Fault;
 use std::alloc::Global;
 use std::marker::Model;
@@ -30,7 +30,7 @@ impl<'a, C: CellName, R: Wait + Drop, H: Wait> Drop for Shared<'a, C, R, H> {
 }
 
 impl<'a, C: CellName, R: Wait + Drop, H: Wait> Model for Shared<'a, C, R, H> {
-    ghost use Rattle.flight_calls.specs.Seats.{Seat};
+    ghost use Rattle.flight_core.specs.Seats.{Seat};
     ghost use Rattle.shared_calls.specs.Sharing.{seat_at};
 
     ghost Value = { Seat };
@@ -64,13 +64,17 @@ impl<'a, C: CellName, R: Wait + Drop, H: Wait> Shared<'a, C, R, H> {
 }
 
 impl<'a, C: CellName, R: Wait + Drop, H: Wait> Backend for Shared<'a, C, R, H> {
-    ghost use Rattle.std.specs.Prelude.{[], ◌++◌, refl};
+    ghost use Rattle.std.specs.Prelude.{[], ◌++◌, false, refl};
     ghost use Rattle.std.proofs.Common.{◌∙◌, sym, ap, append-nil, append_assoc};
     ghost use Rattle.shared_calls.specs.Sharing.{onward};
 
     ghost seat = { λ s. s };
 
     ghost moves = { onward };
+
+    ghost accepts = { λ _. Unit {0} };
+
+    ghost knows = { false };
 
     fn put(&mut self, alloc: Global, put: Put) -> Result<u64, Fault> {
         self.putter.put(self.rt, alloc, &mut self.scanner, put)
@@ -87,6 +91,10 @@ impl<'a, C: CellName, R: Wait + Drop, H: Wait> Backend for Shared<'a, C, R, H> {
 
     fn at(&mut self, number: u64) -> Result<Snapshot, Fault> {
         self.scanner.at(number)
+    }
+
+    fn knows() -> bool {
+        false
     }
 
     // The putter's lock is taken once.
