@@ -18,6 +18,7 @@ use std::io;
 use std::net::{Net, TcpListener, TcpStream};
 use std::random::RandomSource;
 use std::thread::Threads;
+use std::time::Clock;
 
 // An Arrow IPC stream of one nullable column `s` of texts: 'b', NULL, 'a', NULL, 'b'. Its headers are laid out by
 // vectors/arrow/layout.py.
@@ -182,7 +183,7 @@ fn add_first(told: &mut String, said: &[u8], wanted: &str) -> Result<(), AllocEr
 // second one names the port.
 pub(crate) fn told_port<R>(rt: &R) -> io::Result<String>
 where
-    R: Net<Listener = TcpListener, Stream = TcpStream> + AllocGlobal,
+    R: Net<Listener = TcpListener, Stream = TcpStream> + AllocGlobal + Clock,
 {
     let alloc = rt.alloc();
     let port = Port::new(rt).listen(0, 0)?;
