@@ -37,7 +37,7 @@ pub counted_more : (counts : List ℕ) (log after : List Signed) (by count : ℕ
     → length made ≡ length (own by log) → more ≡ made ++ entry ∷ [] → count ≡ length more → after ≡ log ++ signed by entry ∷ [] → Counted (slice_set counts by count) after
 counted_more counts log after by count entry made more counted few same last is on seat within =
     rw on (counted_at counts log by count seat entry (seat == by) refl counted few
-        (omega (arith, same, is, ap length last, length-append made (entry ∷ []))) (omega (arith, within, length-set counts by count)))
+    (omega (arith, same, is, ap length last, length-append made (entry ∷ []))) (omega (arith, within, length-set counts by count)))
 
 -- one seat more has the next number
 pub numbered_last : (first : ℕ) (seats : List Seat) (one : Seat) → IsNumbered first seats → one.number ≡ first + length seats → IsNumbered first (seats ++ one ∷ [])

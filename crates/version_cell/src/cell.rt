@@ -55,17 +55,13 @@ impl Model for Blank {
         × IsIndexOf (arc_value b.index) [] };
 }
 
-/// A cell with so many seats, whose log stands in this book. Hashes of the values of its versions begin with the seed.
+/// A cell with so many seats, whose log stands in this book. Hashes of the values of its versions
+/// begin with the seed.
 ///
 /// # Errors
 ///
 /// F21 (`Fault::OutOfMemory`) where memory is refused.
-pub fn open(
-    alloc: Global,
-    seed: HashSeed,
-    seats: usize,
-    opened: Opened,
-) -> Result<Blank, Fault>
+pub fn open(alloc: Global, seed: HashSeed, seats: usize, opened: Opened) -> Result<Blank, Fault>
     requires { (0 < seats) × (seats ≤ most_seats) }
     ensures ok { IfOk result (λ blank. (blank.seats ≡ seats) × (blank.book ≡ opened)) }
     ensures err { IfErr result (λ fault. fault ≡ OutOfMemory) }
@@ -184,7 +180,8 @@ fn seat_all<C: CellName>(
     requires few { seats ≤ most_seats }
     requires cutter { cutter.old ≡ cutter_at 0 seats }
     ensures all { IfSome result (λ all. (length all.items ≡ seats)
-        × All (λ scanner. scanner ≡ seat scanner.number (log_of history.now.seen.log) [] 0 []) all.items) }
+        × All (λ scanner. scanner ≡ seat scanner.number (log_of history.now.seen.log) [] 0 [])
+        all.items) }
     ensures numbers { IfSome result (λ all. IsNumbered 0 all.items) }
     ensures left { IfSome result (λ _. cutter.new.left ≡ 0) }
 {
