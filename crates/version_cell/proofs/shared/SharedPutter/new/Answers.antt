@@ -1,5 +1,4 @@
 use Rattle.std.proofs.Common.{◌≡◌, [], refl, ◌∙◌}
-use Rattle.version_cell.specs.Signed.{log_of}
 use Rattle.version_cell.proofs.Counts.{none_signed}
 use Rattle.version_cell.proofs.shared.SharedPutter.new.Goals as goal
 
