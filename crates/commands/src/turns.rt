@@ -3,24 +3,28 @@
 ghost use Rattle.std.specs.Prelude.{◌≡◌, ◌<◌, IfErr, IfOk};
 ghost use Rattle.grpc_frame.specs.Ends.{FailsByTransport};
 ghost use Rattle.connection_turns.specs.Drawers as drawers;
+ghost use Rattle.version_cell.specs.Rests.{RestAt};
+ghost use Rattle.shared_calls.specs.Sharing.{onward};
 ghost use Rattle.command_ends.specs.Network.{ends_of};
+ghost use Rattle.commands.specs.Shown.{HasLearnt, WasShown};
 ghost use Rattle.commands.specs.Serve.{AcceptsThenCloses, Pays, ServesUpTo, worker_of};
 ghost use Rattle.commands.specs.inside.Accepting.{TakesNext, TakesNone};
 
-use command_ends::{Announced, Listen};
+use crate::shown::ShownSeat;
+use command_ends::{AcceptFailure, Announced, Listen};
 use connection_turns::{Drawer, Turns};
 use flight_calls::{Backend, Executor, Options, Setting};
 use scan_base::Fault;
+use shared_calls::{SeatName, Shared};
 use std::alloc::Global;
 use std::sync::Wait;
 use std::thread;
 use std::time::{Clock, Duration};
+use version_cell::CellName;
 
-// So many accepts that fail one behind the other end a worker.
-const MOST_FAILED_ACCEPTS: u32 = 100;
-
-// It waits so long behind each: what keeps a connection from being accepted may pass.
-const PAUSE_MILLISECONDS: u64 = 20;
+// A worker waits so long behind an accept that failed by what may pass, and twice as long behind each further one, up to the most.
+const LEAST_PAUSE_MILLISECONDS: u64 = 20;
+const MOST_PAUSE_MILLISECONDS: u64 = 1_000;
 
 /// How all workers serve, who makes the answers to fetches, how many connections are still to be accepted, and that the line of
 /// the port was printed.
@@ -34,53 +38,71 @@ pub struct Service<'a, 'h, T: Wait, X> {
     pub announced: &'a Announced,
 }
 
-/// Serves connections one behind the other, over one backend: one for each turn that it draws, until none is left. Each is served
-/// to its end and closed before the next one is accepted, also where turns never end: the listener asks for that.
+/// Serves connections one behind the other, for one seat: one for each turn that it draws, until none is left. Each is served to its
+/// end and closed before the next one is accepted, also where turns never end: the listener asks for that.
+///
+/// The seat asks what others have done at first, once a connection is taken, and when it has ended. So each connection begins with
+/// all that was done before it was taken, and what the listener is shown of the seat is exact.
 ///
 /// # Errors
 ///
-/// `Fault::Transport` (F22) where a hundred accepts failed one behind the other.
-pub fn serve_in_turn<L: Listen, B: Backend, T: Wait + Clock, X: Executor>(
-    service: &Service<'_, '_, T, X>,
+/// `Fault::Transport` (F22) where the listener broke.
+pub fn serve_in_turn<'h, L, C, N, T, X>(
+    service: &Service<'_, 'h, T, X>,
     drawer: &mut Drawer,
     network: &mut L,
-    backend: &mut B,
+    backend: &mut Shared<'_, C, N, &'h T, T>,
 ) -> Result<(), Fault>
+where
+    L: Listen<ShownSeat>,
+    C: CellName,
+    N: SeatName,
+    T: Wait + Clock,
+    X: Executor,
     requires drawer { drawer.old ≡ drawers.drawer_at service.now.turns.now.name 1 0 0 }
     requires at_rest { L.at_rest network.old }
     requires announced { service.now.announced.now ≡ L.port_of network.old }
 
+    // The listener is shown seats of this cell, and is this seat's.
+    requires cell { (seat : RestAt) → seat.book ≡ C.book → L.cell network.old seat }
+    requires rests { (seat : RestAt) × L.rests network.old seat × WasShown seat C.book N.number backend.old }
+
     // Whatever the network is owed for a connection, serving it is that.
-    requires owed { Pays B.moves service.now.options L.owed }
-    ensures serves { ServesUpTo (AcceptsThenCloses L.accepts L.closes) B.moves service.now.options drawer.new.drawn result
-        (worker_of network.old (B.seat backend.old)) (worker_of network.new (B.seat backend.new)) }
+    requires owed { Pays onward service.now.options L.owed }
+    ensures serves { ServesUpTo (AcceptsThenCloses L.accepts L.closes) onward service.now.options drawer.new.drawn result
+        (worker_of network.old backend.old) (worker_of network.new backend.new) }
     ensures drawer { (drawer.new.name ≡ service.now.turns.now.name) × (drawer.new.parts ≡ 1) }
     ensures ended { IfOk result (λ _. 0 < drawer.new.ended) }
 {
+    let mut shown = ShownSeat::new(backend.rest());
     for _ in service.rt.forever() {
         if !service.turns.draw(service.rt, drawer) {
             return Ok(());
         }
-        let (mut reader, mut writer) = accept_next(service.rt, network, service.announced)?;
+        let (mut reader, mut writer) = accept_next(service, network, &shown)?;
+        backend.learn();
         let setting = Setting {
             alloc: service.alloc,
             executor: service.executor,
             options: service.options,
         };
         let _ = flight_calls::serve(&setting, &mut reader, &mut writer, backend);
-        network.done(reader, writer);
+        shown = ShownSeat::new(backend.rest());
+        network.done(reader, writer, &shown);
     }
     unreachable!()
 }
 
-// The next connection. Accepts that fail are passed over, each behind a pause.
-fn accept_next<L: Listen>(
-    clock: &impl Clock,
+// The next connection. Accepts that fail by what may pass are passed over, each behind a pause.
+fn accept_next<L: Listen<ShownSeat>, T: Wait + Clock, X>(
+    service: &Service<'_, '_, T, X>,
     network: &mut L,
-    announced: &Announced,
+    seat: &ShownSeat,
 ) -> Result<(L::Reader, L::Writer), Fault>
     requires at_rest { L.at_rest network.old }
-    requires announced { announced.now ≡ L.port_of network.old }
+    requires announced { service.now.announced.now ≡ L.port_of network.old }
+    requires cell { L.cell network.old seat.now }
+    requires rests { (old : RestAt) × L.rests network.old old × HasLearnt old seat.now }
     ensures taken { IfOk result (λ ends. TakesNext L.accepts
         (ends_of (L.Reader.tape ends.0) (L.Writer.contents ends.1)) network.old network.new) }
     ensures none { IfErr result (λ _. TakesNone L.accepts network.old network.new) }
@@ -89,13 +111,20 @@ fn accept_next<L: Listen>(
     ensures holds { IfOk result (λ ends. L.holds network.new
         (ends_of (L.Reader.tape ends.0) (L.Writer.contents ends.1))) }
     ensures port { L.port_of network.new ≡ L.port_of network.old }
+    ensures rests { L.rests network.new seat.now }
+    ensures cell { (other : RestAt) → L.cell network.old other → L.cell network.new other }
     ensures kind { FailsByTransport result }
 {
-    for _ in 0..MOST_FAILED_ACCEPTS {
-        if let Ok(ends) = network.accept(announced) {
-            return Ok(ends);
+    let mut pause = LEAST_PAUSE_MILLISECONDS;
+    for _ in service.rt.forever() {
+        match network.accept(service.announced, seat) {
+            Ok(ends) => return Ok(ends),
+            Err(AcceptFailure::Broken) => return Err(Fault::Transport),
+            Err(AcceptFailure::MayPass) => {
+                thread::sleep(service.rt, Duration::from_millis(pause));
+                pause = pause.saturating_mul(2).min(MOST_PAUSE_MILLISECONDS);
+            }
         }
-        thread::sleep(clock, Duration::from_millis(PAUSE_MILLISECONDS));
     }
-    Err(Fault::Transport)
+    unreachable!()
 }

@@ -9,9 +9,10 @@ use crate::expiring::{expire_old, put_beyond_kept};
 use crate::formats::{run_formats, stream_in_turn};
 use crate::texts::push_text;
 use client_calls::Failure;
-use command_ends::{Announced, Listen};
+use command_ends::{AcceptFailure, Announced, Listen};
 use command_line::Serving;
 use commands::serve::{Host, serve};
+use commands::shown::ShownSeat;
 use grpc_frame::{Counted, MemoryOutput};
 use hash_seed::HashSeed;
 use loopback::{Port, SocketWriter};
@@ -23,6 +24,7 @@ use std::sync::Wait;
 use std::thread::Threads;
 use std::time::Clock;
 use std::{io, thread};
+use version_cell::Opened;
 
 // What calls a server.
 #[derive(Clone, Copy)]
@@ -86,7 +88,7 @@ struct Bound<'a, R> {
     ghost same: { port.number ≡ number },
 }
 
-impl<R: Net<Listener = TcpListener, Stream = TcpStream>> Listen for Bound<'_, R> {
+impl<R: Net<Listener = TcpListener, Stream = TcpStream>> Listen<ShownSeat> for Bound<'_, R> {
     type Reader = Counted<TcpStream>;
 
     type Writer = SocketWriter;
@@ -105,7 +107,11 @@ impl<R: Net<Listener = TcpListener, Stream = TcpStream>> Listen for Bound<'_, R>
 
     ghost holds = { λ _ _. Unit {0} };
 
-    ghost owed = { λ _ _. Unit {0} };
+    ghost rests = { λ _ _. Unit {0} };
+
+    ghost cell = { λ _ _. Unit {0} };
+
+    ghost owed = { λ _ _ _ _. Unit {0} };
 
     fn listen(&mut self, _port: u16, _idle: u16) -> io::Result<u16> {
         Ok(self.number)
@@ -113,17 +119,21 @@ impl<R: Net<Listener = TcpListener, Stream = TcpStream>> Listen for Bound<'_, R>
 
     fn share(&self) -> io::Result<Self> {
         Ok(Bound {
-            port: self.port.share()?,
+            port: Listen::<ShownSeat>::share(&self.port)?,
             number: self.number,
         })
     }
 
-    fn accept(&mut self, announced: &Announced) -> io::Result<(Counted<TcpStream>, SocketWriter)> {
-        self.port.accept(announced)
+    fn accept(
+        &mut self,
+        announced: &Announced,
+        seat: &ShownSeat,
+    ) -> Result<(Counted<TcpStream>, SocketWriter), AcceptFailure> {
+        self.port.accept(announced, seat)
     }
 
-    fn done(&mut self, reader: Counted<TcpStream>, writer: SocketWriter) {
-        self.port.done(reader, writer);
+    fn done(&mut self, reader: Counted<TcpStream>, writer: SocketWriter, seat: &ShownSeat) {
+        self.port.done(reader, writer, seat);
     }
 }
 
@@ -160,7 +170,8 @@ where
         parts: client.parts(),
         workers: 1,
     };
-    let status = serve(host, &mut bound, &mut output, &mut faults, serving).number();
+    let opened = Opened::new();
+    let status = serve(host, opened, &mut bound, &mut output, &mut faults, serving).number();
     let names_port = names_port(alloc, &output, bound.number);
     Served {
         status,
@@ -202,7 +213,7 @@ where
     let (alloc, seed) = (rt.alloc(), HashSeed::new(rt)?);
     let host = Host { rt, alloc, seed };
     let mut port = Port::new(rt);
-    let number = port.listen(0, 0)?;
+    let number = Listen::<ShownSeat>::listen(&mut port, 0, 0)?;
     let bound = Bound { port, number };
     let (served, told) = thread::join(
         rt,
