@@ -9,7 +9,26 @@ use std::alloc::Global;
 use std::marker::Model;
 use std::sync::Wait;
 use table_versions::{Put, Snapshot};
-use version_cell::{CellName, Scanner, SharedPutter};
+use version_cell::{CellName, Rest, Scanner, SharedPutter};
+
+/// A backend over a seat of a cell, which others may see as it rests.
+pub trait Resting: Backend {
+    ghost use Rattle.std.specs.Prelude.{◌≡◌};
+    ghost use Rattle.logbook.specs.Pages.{Book};
+    ghost use Rattle.flight_calls.specs.Seats.{AsksOnce, Learns};
+    ghost use Rattle.shared_calls.specs.Sharing.{RestsAs};
+
+    // The book of the cell.
+    ghost book: { Book };
+
+    /// Asks and learns, as [`Backend::learn`] does, and tells how the seat then rests: of all that it has then seen, the entries of
+    /// its number are just those that it made.
+    fn rest(&mut self) -> Rest
+        ensures learns { Learns Self.moves (Self.seat self.old) (Self.seat self.new) }
+        ensures asks { AsksOnce (Self.seat self.old) (Self.seat self.new) }
+        ensures looks { (Self.seat self.new).looks ≡ (Self.seat self.old).looks }
+        ensures rest { RestsAs result book (Self.seat self.new) };
+}
 
 /// The versions of a connection that shares them with others: its seat of their cell, and the cell's putter.
 pub struct Shared<'a, C: CellName, R: Wait + Drop, H: Wait> {
@@ -103,4 +122,12 @@ impl<'a, C: CellName, R: Wait + Drop, H: Wait> Backend for Shared<'a, C, R, H> {
       ),
       second.1,
     ) };
+}
+
+impl<'a, C: CellName, R: Wait + Drop, H: Wait> Resting for Shared<'a, C, R, H> {
+    ghost book = { C.book };
+
+    fn rest(&mut self) -> Rest {
+        self.putter.ask(self.rt, &mut self.scanner)
+    }
 }
