@@ -30,7 +30,9 @@ impl ShownSeat {
     }
 
     /// How many entries it has seen.
-    pub fn len(&self) -> u64 { self.rest.len() }
+    pub fn len(&self) -> u64 {
+        self.rest.len()
+    }
 }
 
 impl Known for ShownSeat {

@@ -4,7 +4,6 @@ ghost use Rattle.std.specs.Prelude.{◌≡◌, ◌<◌, IfErr, IfOk};
 ghost use Rattle.grpc_frame.specs.Ends.{FailsByTransport};
 ghost use Rattle.connection_turns.specs.Drawers as drawers;
 ghost use Rattle.version_cell.specs.Rests.{RestAt};
-ghost use Rattle.shared_calls.specs.Sharing.{onward};
 ghost use Rattle.command_ends.specs.Network.{ends_of};
 ghost use Rattle.commands.specs.Shown.{HasLearnt, WasShown};
 ghost use Rattle.commands.specs.Serve.{AcceptsThenCloses, Pays, ServesUpTo, worker_of};
@@ -13,17 +12,17 @@ ghost use Rattle.commands.specs.inside.Accepting.{TakesNext, TakesNone};
 use crate::shown::ShownSeat;
 use command_ends::{AcceptFailure, Announced, Listen};
 use connection_turns::{Drawer, Turns};
-use flight_calls::{Backend, Executor, Options, Setting};
+use flight_calls::{Executor, Options, Setting};
 use scan_base::Fault;
-use shared_calls::{SeatName, Shared};
+use shared_calls::Resting;
 use std::alloc::Global;
 use std::sync::Wait;
 use std::thread;
 use std::time::{Clock, Duration};
-use version_cell::CellName;
 
 // A worker waits so long behind an accept that failed by what may pass, and twice as long behind each further one, up to the most.
 const LEAST_PAUSE_MILLISECONDS: u64 = 20;
+
 const MOST_PAUSE_MILLISECONDS: u64 = 1_000;
 
 /// How all workers serve, who makes the answers to fetches, how many connections are still to be accepted, and that the line of
@@ -47,30 +46,24 @@ pub struct Service<'a, 'h, T: Wait, X> {
 /// # Errors
 ///
 /// `Fault::Transport` (F22) where the listener broke.
-pub fn serve_in_turn<'h, L, C, N, T, X>(
-    service: &Service<'_, 'h, T, X>,
+pub fn serve_in_turn<L: Listen<ShownSeat>, B: Resting, T: Wait + Clock, X: Executor>(
+    service: &Service<'_, '_, T, X>,
     drawer: &mut Drawer,
     network: &mut L,
-    backend: &mut Shared<'_, C, N, &'h T, T>,
+    backend: &mut B,
 ) -> Result<(), Fault>
-where
-    L: Listen<ShownSeat>,
-    C: CellName,
-    N: SeatName,
-    T: Wait + Clock,
-    X: Executor,
     requires drawer { drawer.old ≡ drawers.drawer_at service.now.turns.now.name 1 0 0 }
     requires at_rest { L.at_rest network.old }
     requires announced { service.now.announced.now ≡ L.port_of network.old }
 
     // The listener is shown seats of this cell, and is this seat's.
-    requires cell { (seat : RestAt) → seat.book ≡ C.book → L.cell network.old seat }
-    requires rests { (seat : RestAt) × L.rests network.old seat × WasShown seat C.book N.number backend.old }
+    requires cell { (seat : RestAt) → seat.book ≡ B.book → L.cell network.old seat }
+    requires rests { (seat : RestAt) × L.rests network.old seat × WasShown seat B.book B.number (B.seat backend.old) }
 
     // Whatever the network is owed for a connection, serving it is that.
-    requires owed { Pays onward service.now.options L.owed }
-    ensures serves { ServesUpTo (AcceptsThenCloses L.accepts L.closes) onward service.now.options drawer.new.drawn result
-        (worker_of network.old backend.old) (worker_of network.new backend.new) }
+    requires owed { Pays B.moves service.now.options L.owed }
+    ensures serves { ServesUpTo (AcceptsThenCloses L.accepts L.closes) B.moves service.now.options drawer.new.drawn result
+        (worker_of network.old (B.seat backend.old)) (worker_of network.new (B.seat backend.new)) }
     ensures drawer { (drawer.new.name ≡ service.now.turns.now.name) × (drawer.new.parts ≡ 1) }
     ensures ended { IfOk result (λ _. 0 < drawer.new.ended) }
 {

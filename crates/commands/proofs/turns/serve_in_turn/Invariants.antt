@@ -1,6 +1,5 @@
 use Rattle.std.proofs.Common.{◌≡◌}
 use Rattle.version_cell.specs.Rests.{RestAt}
-use Rattle.shared_calls.specs.Sharing.{onward}
 use Rattle.commands.specs.Shown.{HasLearnt, IsShownAs}
 use Rattle.commands.specs.Serve.{AcceptsThenCloses, worker_of}
 use Rattle.commands.proofs.Serving.{ServedSo}
@@ -10,9 +9,9 @@ abbrev pub invariant-loop : goal.invariant-loop
 invariant-loop g l =
     (goal.iterator-loop g).can_next l.iterator' × (goal.iterator-loop g).is_finite l.iterator'
     × (l.drawer.name ≡ l.service.turns.now.name) × (l.drawer.parts ≡ 1)
-    × ServedSo (AcceptsThenCloses g.L.Listen.accepts g.L.Listen.closes) onward l.service.options l.drawer.drawn
-    (worker_of l.initial.network l.initial.backend) (worker_of l.network l.backend)
+    × ServedSo (AcceptsThenCloses g.L.Listen.accepts g.L.Listen.closes) g.B.Backend.moves l.service.options l.drawer.drawn
+    (worker_of l.initial.network (g.B.Backend.seat l.initial.backend)) (worker_of l.network (g.B.Backend.seat l.backend))
     × g.L.Listen.at_rest l.network × (g.L.Listen.port_of l.network ≡ g.L.Listen.port_of l.initial.network)
-    × IsShownAs l.shown g.C.CellName.book g.N.SeatName.number l.backend
+    × IsShownAs l.shown g.B.Resting.book g.B.Resting.number (g.B.Backend.seat l.backend)
     × ((old : RestAt) × g.L.Listen.rests l.network old × HasLearnt old l.shown)
-    × ((seat : RestAt) → seat.book ≡ g.C.CellName.book → g.L.Listen.cell l.network seat)
+    × ((seat : RestAt) → seat.book ≡ g.B.Resting.book → g.L.Listen.cell l.network seat)
