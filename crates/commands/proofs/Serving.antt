@@ -4,12 +4,17 @@ use Rattle.std.proofs.Common.{◌≡◌, ◌∙◌, ℕ, zero, suc, ◌+◌, Lis
 use Rattle.scan_base.specs.declared.fault.Fault.{Fault}
 use Rattle.scan_base.specs.declared.fault.Fault.TheVariants.{Transport}
 use Rattle.grpc_frame.specs.Ends.{Tape}
+use Rattle.logbook.specs.Pages.{Book}
+use Rattle.version_log.specs.Log.{Begins, Log}
 use Rattle.version_cell.specs.Rests.{RestAt}
+use Rattle.version_cell.specs.Signed.{log_of}
+use Rattle.flight_core.proofs.Running.{begins_on, begins_same}
 use Rattle.flight_calls.specs.declared.setting.Options.{Options}
-use Rattle.flight_calls.specs.Seats.{Moves, Seat}
+use Rattle.flight_calls.specs.Seats.{Learns, Moves, Seat}
+use Rattle.shared_calls.specs.Sharing.{RestsAs}
 use Rattle.flight_calls.specs.Owed.{Connection, Serves, connection_of}
 use Rattle.command_ends.specs.Network.{Accepting, Ends, ends_of}
-use Rattle.commands.specs.Shown.{IsSameSeat, seat_shown}
+use Rattle.commands.specs.Shown.{HasLearnt, IsSameSeat, IsShownAs, WasShown, seat_shown}
 use Rattle.commands.specs.Serve.{Accept, AcceptsThenCloses, AsksOthers, Broke, Failed, IsServedTo, Took, Worker, ServesInTurn, ServesNext, ServesUpTo, worker_of}
 use Rattle.commands.specs.inside.Accepting.{FailsSo, TakesNext, TakesNone}
 
@@ -118,3 +123,30 @@ served_to moves options before behind old new made left result last serves leave
       leaves = leaves;
       same = same;
     }
+
+-- ---- what is shown of a seat
+
+-- what a backend tells of its seat when it asked
+pub told_so : (rest : RestAt) (book : Book) (number : ℕ) (seat : Seat) → RestsAs rest book seat → rest.seat ≡ number → IsShownAs rest book number seat
+told_so rest book number seat rests same = (rests.book, same, rests.log, rests.made, rests.asks)
+
+-- the seat itself, behind its looks
+pub as_shown : (shown : RestAt) (book : Book) (number : ℕ) (seat : Seat) → IsShownAs shown book number seat → seat ≡ seat_shown shown seat.looks
+as_shown shown book number seat is = rw (is.2, is.3, is.4) refl
+
+-- a seat that asked has learnt since it was shown last
+pub learnt_so : (moves : Moves) (shown rest : RestAt) (book : Book) (number : ℕ) (old new : Seat)
+    → WasShown shown book number old → Learns moves old new → IsShownAs rest book number new → HasLearnt shown rest
+learnt_so moves shown rest book number old new was learns is = (
+  (is.0 ∙ sym was.0, is.1 ∙ sym was.1),
+  subst (λ (log : Log). Begins (log_of shown.log) log) (sym is.2) (begins_on (log_of shown.log) old.log new.log was.2 learns.0),
+  is.3 ∙ learns.1 ∙ sym was.3,
+)
+
+-- a seat that is shown as it was has learnt nothing
+pub learnt_none : (shown : RestAt) → HasLearnt shown shown
+learnt_none shown = ((refl, refl), begins_same (log_of shown.log) (log_of shown.log) refl, refl)
+
+-- seats that are shown of one cell, with one number, are one
+pub same_seat : (before behind : RestAt) (book : Book) (number : ℕ) (old new : Seat) → IsShownAs before book number old → IsShownAs behind book number new → IsSameSeat before behind
+same_seat before behind book number old new was is = (is.0 ∙ sym was.0, is.1 ∙ sym was.1)
