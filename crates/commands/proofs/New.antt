@@ -5,7 +5,7 @@ use Rattle.scan_base.specs.declared.fault.Fault.{Fault}
 use Rattle.flight_info.proofs.Results.{same_some}
 use Rattle.flight_calls.specs.declared.setting.Options.{Options}
 use Rattle.flight_calls.specs.Laws.{IsNew}
-use Rattle.flight_calls.specs.Seats.{Seat}
+use Rattle.flight_core.specs.Seats.{Seat}
 use Rattle.flight_calls.specs.Owed.{Connection, Serves, connection_of}
 use Rattle.flight_calls.proofs.New.{new_whole}
 use Rattle.shared_calls.specs.Sharing.{onward}

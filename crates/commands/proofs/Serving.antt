@@ -10,7 +10,7 @@ use Rattle.version_cell.specs.Rests.{RestAt}
 use Rattle.version_cell.specs.Signed.{log_of}
 use Rattle.flight_core.proofs.Running.{begins_on, begins_same}
 use Rattle.flight_calls.specs.declared.setting.Options.{Options}
-use Rattle.flight_calls.specs.Seats.{Learns, Moves, Seat}
+use Rattle.flight_core.specs.Seats.{Learns, Moves, Seat}
 use Rattle.shared_calls.specs.Sharing.{RestsAs}
 use Rattle.flight_calls.specs.Owed.{Connection, Serves, connection_of}
 use Rattle.command_ends.specs.Network.{Accepting, Ends, ends_of}

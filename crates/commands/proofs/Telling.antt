@@ -15,7 +15,7 @@ use Rattle.flight_calls.specs.Calls.{Call, asked_by}
 use Rattle.flight_calls.specs.declared.setting.Options.{Options}
 use Rattle.flight_calls.specs.Exchanges.{Exchange, exchanges_of, IsOwn, WithOwn}
 use Rattle.flight_calls.specs.Laws.{entries_in, entries_of, marked_by}
-use Rattle.flight_calls.specs.Seats.{Moves, Seat}
+use Rattle.flight_core.specs.Seats.{Moves, Seat}
 use Rattle.flight_calls.proofs.Exchanging.{asks_nothing}
 use Rattle.flight_calls.proofs.Making.{puts_made}
 use Rattle.shared_calls.specs.Sharing.{onward}

@@ -13,7 +13,7 @@ use Rattle.version_log.specs.Log.{Log, puts_of, puts_in, Begins}
 use Rattle.version_log.proofs.Logs.{begun_puts}
 use Rattle.flight_core.proofs.Running.{begins_on, begins_same}
 use Rattle.flight_calls.specs.declared.setting.Options.{Options}
-use Rattle.flight_calls.specs.Seats.{Moves, Seat}
+use Rattle.flight_core.specs.Seats.{Moves, Seat}
 use Rattle.flight_calls.specs.Owed.{Connection, Serves, connection_of}
 use Rattle.flight_calls.specs.Joining.{Replied, FetchServed, InfoServed}
 use Rattle.flight_calls.proofs.Joining.{answers_keep, begins_last, seats_meet_joined}

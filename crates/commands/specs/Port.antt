@@ -5,7 +5,7 @@ use Rattle.scan_base.specs.declared.fault.Fault.{Fault}
 use Rattle.scan_base.specs.declared.fault.Fault.TheVariants.{OutOfMemory, Transport}
 use Rattle.grpc_frame.specs.Ends.{AppendsBeginning}
 use Rattle.flight_calls.specs.declared.setting.Options.{Options}
-use Rattle.flight_calls.specs.Seats.{seat_of}
+use Rattle.flight_core.specs.Seats.{seat_of}
 use Rattle.command_line.specs.declared.request.Serving.{Serving}
 use Rattle.command_ends.specs.Network.{Accepting}
 use Rattle.command_ends.specs.Printing.{Said, Prints, cause_lines, fault_line, listening_line}

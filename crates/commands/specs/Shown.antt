@@ -4,7 +4,7 @@ use Rattle.logbook.specs.Pages.{Book}
 use Rattle.version_log.specs.Log.{Begins}
 use Rattle.version_cell.specs.Rests.{RestAt}
 use Rattle.version_cell.specs.Signed.{log_of}
-use Rattle.flight_calls.specs.Seats.{Seat}
+use Rattle.flight_core.specs.Seats.{Seat}
 
 -- the seat that is shown so, behind so many looks
 abbrev pub seat_shown : RestAt → ℕ → Seat

@@ -7,7 +7,7 @@ use Rattle.version_cell.specs.Merges.{MergesAll}
 use Rattle.flight_calls.specs.declared.setting.Options.{Options}
 use Rattle.flight_calls.specs.Exchanges.{exchanges_of}
 use Rattle.flight_calls.specs.Laws.{entries_in}
-use Rattle.flight_calls.specs.Seats.{Moves}
+use Rattle.flight_core.specs.Seats.{Moves}
 use Rattle.shared_calls.specs.Sharing.{onward}
 use Rattle.command_ends.specs.Network.{Accepting, Ends}
 use Rattle.commands.specs.Port.{IsFresh}

@@ -1,8 +1,8 @@
 //! Connections one after another over one catalog, and a writer whose flush fails.
 
 use crate::first_run::{PUT, PUT_ANSWER};
-use flight_calls::{Alone, OneWorker, Options, Setting, serve};
-use flight_core::Plain;
+use flight_calls::{OneWorker, Options, Setting, serve};
+use flight_core::{Alone, Plain};
 use grpc_frame::{Counted, MemoryInput, MemoryOutput, Output};
 use hash_seed::HashSeed;
 use scan_base::Fault;

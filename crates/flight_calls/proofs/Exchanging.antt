@@ -10,7 +10,7 @@ use Rattle.flight_calls.specs.declared.setting.Options.{Options}
 use Rattle.flight_calls.specs.Calls.{Call, asked_by}
 use Rattle.flight_calls.specs.Exchanges.{Exchange, exchange, IsOwn, WithOwn}
 use Rattle.flight_calls.specs.Laws.{AllKeptAsksNothing}
-use Rattle.flight_calls.specs.Seats.{Seat, Moves}
+use Rattle.flight_core.specs.Seats.{Seat, Moves}
 use Rattle.flight_calls.specs.Reacts.{Reacts, Answers, oldest_kept, expired_behind, AsksItself}
 
 -- each from the seat that the one before left

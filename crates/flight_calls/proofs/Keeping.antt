@@ -24,7 +24,7 @@ use Rattle.flight_calls.specs.declared.request.Single.{Single}
 use Rattle.flight_calls.specs.declared.request.Single.TheVariants.{DoGet, GetFlightInfo, GetSchema, DoAction}
 use Rattle.flight_calls.specs.declared.setting.Options.{Options}
 use Rattle.flight_calls.specs.Calls.{ReplyTo, asked_with, info_asked}
-use Rattle.flight_calls.specs.Seats.{Seat, Moves, Puts, Expires}
+use Rattle.flight_core.specs.Seats.{Seat, Moves, Puts, Expires}
 use Rattle.flight_calls.specs.Reacts.{Reacts, Responds, HasAsked, HasLooked, oldest_kept, expired_behind, AsksItself}
 use Rattle.flight_calls.specs.Answered.{AnsweredBy, IsReplyOf, fault_in, ReactsBy, RespondsBy}
 use Rattle.flight_calls.proofs.Reacting.{begins_itself, looks_not, one_more_ask, said_ok, expiry_made, expiry_refused}

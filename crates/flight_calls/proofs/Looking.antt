@@ -18,7 +18,7 @@ use Rattle.flight_calls.specs.Calls.{info_asked}
 use Rattle.flight_calls.specs.declared.answer.Answer.TheVariants.{Stream, Whole}
 use Rattle.flight_calls.specs.Answered.{ReactsBy}
 use Rattle.flight_calls.specs.Reacts.{Asks, IsBeyond, Looks}
-use Rattle.flight_calls.specs.Seats.{Seat, Moves, Learns}
+use Rattle.flight_core.specs.Seats.{Seat, Moves, Learns}
 use Rattle.flight_calls.proofs.Fetching.{not_opened}
 use Rattle.flight_calls.proofs.Reacting.{goes_by_look}
 

@@ -11,7 +11,7 @@ use Rattle.flight_proto.specs.Expiry.{expiry_of}
 use Rattle.flight_core.specs.Puts.{put_said}
 use Rattle.flight_calls.specs.Calls.{ReplyTo}
 use Rattle.flight_calls.specs.Exchanges.{Exchange}
-use Rattle.flight_calls.specs.Seats.{Seat, Moves}
+use Rattle.flight_core.specs.Seats.{Seat, Moves}
 use Rattle.flight_calls.specs.Reacts.{Reacts}
 use Rattle.flight_calls.specs.Laws.{accepted_by, marked_by, entries_of, entries_in, PutsAreMade}
 use Rattle.flight_calls.proofs.Exchanging.{Steps, exchanged}

@@ -5,7 +5,7 @@ use Rattle.scan_base.specs.declared.fault.Fault.{Fault}
 use Rattle.grpc_frame.specs.Ends.{AppendsBeginning}
 use Rattle.flight_calls.specs.declared.setting.Options.{Options}
 use Rattle.flight_calls.specs.Laws.{IsNew, IsWhole}
-use Rattle.flight_calls.specs.Seats.{Moves}
+use Rattle.flight_core.specs.Seats.{Moves}
 use Rattle.flight_calls.specs.Owed.{Connection, Serves, Why, Wrote, calls_bytes, items_owed}
 use Rattle.flight_calls.proofs.Serving.{joined, joined_more}
 

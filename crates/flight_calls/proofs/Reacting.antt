@@ -3,17 +3,14 @@ use Rattle.std.proofs.Common.{◌≡◌, ◌≢◌, ◌<◌, ◌+◌, ℕ, List,
 use Rattle.std.specs.Prelude.{IsOk}
 use Rattle.scan_base.specs.declared.fault.Fault.{Fault}
 use Rattle.scan_base.specs.declared.fault.Fault.TheVariants.{OutOfMemory}
-use Rattle.scan_base.specs.Reading.{RefusesFirst}
 use Rattle.table_versions.specs.Database.{Put, after}
 use Rattle.flight_proto.specs.Expiry.{expiry_of, floor_bytes}
 use Rattle.flight_info.specs.Payloads.{Payload}
 use Rattle.flight_info.specs.Replies.{ReplyAt, refusal}
 use Rattle.flight_core.specs.Asked.{Asked, put, info, tables, schema, fetch, expire}
-use Rattle.version_log.specs.Expiry.{IsExpired}
 use Rattle.version_log.specs.Log.{Log, added, expired, puts_in, database_of, Begins}
 use Rattle.flight_core.specs.Puts.{put_glance, put_said}
 use Rattle.flight_core.specs.Refusals.{RefusedFor}
-use Rattle.flight_info.proofs.Results.{first_for}
 use Rattle.flight_core.proofs.Arriving.{glance_good}
 use Rattle.flight_core.proofs.Expiring.{number_read, expired_reply, unread_expiry, refused_expiry}
 use Rattle.flight_core.proofs.Replies.{refused_reply, unread_reply}
@@ -22,45 +19,10 @@ use Rattle.flight_calls.specs.declared.request.Single.{Single}
 use Rattle.flight_calls.specs.declared.setting.Options.{Options}
 use Rattle.flight_calls.specs.Calls.{ReplyTo, asked_with}
 use Rattle.flight_calls.specs.Requests.{IsRefused}
-use Rattle.flight_calls.specs.Seats.{Seat, lone_seat, Moves, AsksOnce, Expires, Learns, LooksOnce, Puts, alone}
+use Rattle.flight_core.specs.Seats.{Seat, Moves, AsksOnce, Expires, Learns, LooksOnce, Puts}
 use Rattle.flight_calls.specs.Reacts.{StartsAt, Looks, Asks, Goes, Reacts}
 use Rattle.flight_calls.specs.Answered.{ReactsBy}
 use Rattle.flight_calls.proofs.Asking.{number_unread}
-
--- ---- the backend of a log that nobody shares
-
--- what is accepted has no first fault
-never_refused : {X : Type 0} (number : ℕ) (due : Result X Fault) → IsOk due → RefusesFirst (Ok number) due
-never_refused number (Ok x) ok = tt
-never_refused number (Err cause) ok = let no = ok in cc
-
-pub put_alone : (old new : Log) (looks asks more number : ℕ) (made : Put) → more ≡ asks + 1 → new ≡ old ++ added made ∷ [] → IsOk (after (database_of old) (puts_in old) made) → number ≡ puts_in new
-    → Puts alone (Ok number) (lone_seat old looks asks) made (lone_seat new looks more)
-put_alone old new looks asks more number made asked is accepts count = record {
-  log = old;
-  next = new;
-  at = (accepts, is, is, count);
-  first = never_refused number (after (database_of old) (puts_in old) made) accepts;
-  moved = (refl, refl);
-  kept = (added made ∷ [], is);
-  learnt = ([], sym (append-nil new));
-  looks = refl;
-  asks = asked;
-}
-
-pub refused_alone : (fault : Fault) (old new : Log) (looks asks more : ℕ) (made : Put) → more ≡ asks + 1 → (new ≡ old) × (fault ≢ OutOfMemory → after (database_of old) (puts_in old) made ≡ Err fault)
-    → RefusesFirst {X = Unit {0}} (Err fault) (after (database_of old) (puts_in old) made) → Puts alone (Err fault) (lone_seat old looks asks) made (lone_seat new looks more)
-refused_alone fault old new looks asks more made asked err first = record {
-  log = old;
-  next = new;
-  at = (err.0, err.0, err.1);
-  first = first_for (Unit {0}) ℕ fault (after (database_of old) (puts_in old) made) first;
-  moved = (refl, refl);
-  kept = ([], err.0 ∙ sym (append-nil old));
-  learnt = ([], sym (append-nil new));
-  looks = refl;
-  asks = asked;
-}
 
 -- ---- how a step goes
 
@@ -187,32 +149,6 @@ put_refused moves old new payloads made fault p said = record {
 }
 
 -- ---- expiries
-
--- of a log that nobody shares
-pub expires_alone : (result : Result ℕ Fault) (old new : Log) (looks asks more version : ℕ) → more ≡ asks + 1 → IsExpired result old version new
-    → Expires alone result (lone_seat old looks asks) version (lone_seat new looks more)
-expires_alone (Ok floor) old new looks asks more version asked is = record {
-  log = old;
-  next = new;
-  at = is;
-  marks = is.1;
-  moved = (refl, refl);
-  kept = (expired version ∷ [], is.1);
-  learnt = ([], sym (append-nil new));
-  looks = refl;
-  asks = asked;
-}
-expires_alone (Err fault) old new looks asks more version asked is = record {
-  log = old;
-  next = new;
-  at = is;
-  marks = is.0;
-  moved = (refl, refl);
-  kept = ([], is.0 ∙ sym (append-nil old));
-  learnt = ([], sym (append-nil new));
-  looks = refl;
-  asks = asked;
-}
 
 expiry_looks_not : (action : Payload) → Looks (Ok (expire action)) → ⊥
 expiry_looks_not action looks = looks

@@ -6,7 +6,7 @@ use Rattle.flight_info.specs.Replies.{ReplyAt}
 use Rattle.version_log.specs.Log.{Log}
 use Rattle.flight_core.specs.Machine.{Run}
 use Rattle.flight_core.specs.Headline.{RunsMeetHeadline}
-use Rattle.flight_calls.specs.Seats.{Seat, alone}
+use Rattle.flight_core.specs.Seats.{Seat, alone}
 use Rattle.flight_calls.specs.Calls.{ReplyTo}
 use Rattle.flight_calls.specs.Exchanges.{Exchange, with_asked, asked_in, with_reply, replies_in}
 use Rattle.flight_calls.specs.Laws.{AnswersAreARun, ServedMeetsHeadline}

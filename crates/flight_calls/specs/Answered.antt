@@ -18,7 +18,7 @@ use Rattle.flight_core.specs.Machine.{OpensIn}
 use Rattle.flight_calls.specs.declared.answer.Answer.{Answer}
 use Rattle.flight_calls.specs.declared.answer.Answer.TheVariants.{Whole, Floor, Stream}
 use Rattle.flight_calls.specs.Calls.{ReplyTo}
-use Rattle.flight_calls.specs.Seats.{Seat, Moves}
+use Rattle.flight_core.specs.Seats.{Seat, Moves}
 use Rattle.flight_calls.specs.Reacts.{Goes, HasAsked, HasLooked, expired_behind, AsksItself}
 use Rattle.flight_calls.specs.Owed.{answer_bytes}
 

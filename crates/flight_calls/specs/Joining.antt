@@ -17,7 +17,7 @@ use Rattle.flight_core.specs.Headline.{Pairwise}
 use Rattle.version_log.specs.Log.{Log, puts_in, database_of, Begins}
 use Rattle.flight_calls.specs.declared.setting.Options.{Options}
 use Rattle.flight_calls.specs.Calls.{Call, asked_by}
-use Rattle.flight_calls.specs.Seats.{Seat, Moves}
+use Rattle.flight_core.specs.Seats.{Seat, Moves}
 use Rattle.flight_calls.specs.Reacts.{StartsAt, Responds, Answers}
 use Rattle.flight_calls.specs.Owed.{Connection, Serves}
 

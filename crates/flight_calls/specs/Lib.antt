@@ -1,6 +1,4 @@
 pub mod Calls
-pub mod Counts
-pub mod Seats
 pub mod Reacts
 pub mod Owed
 pub mod Ending

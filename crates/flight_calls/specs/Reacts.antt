@@ -12,7 +12,7 @@ use Rattle.version_log.specs.Log.{Log, puts_in, Begins}
 use Rattle.flight_core.specs.Puts.{put_said}
 use Rattle.flight_calls.specs.declared.setting.Options.{Options}
 use Rattle.flight_calls.specs.Calls.{Call, asked_by, ReplyTo}
-use Rattle.flight_calls.specs.Seats.{Seat, Moves}
+use Rattle.flight_core.specs.Seats.{Seat, Moves}
 
 -- a put or an expiry that was read may go by another log than the seat's; all else by one that begins with what the seat had
 -- seen

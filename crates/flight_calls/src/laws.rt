@@ -4,7 +4,7 @@ ghost use Rattle.flight_calls.specs.Joining.{LaterCallsSee, SeatsMeetJoined};
 ghost use Rattle.flight_calls.specs.Laws.{FailedReadsAnswerAll, NewConnectionsAreWhole, PutsAreMade, AnswersAreARun};
 ghost use Rattle.flight_calls.specs.Laws.{ServedMeetsHeadline, AllKeptAsksNothing};
 
-use crate::backend::Backend;
+use flight_core::Backend;
 pub use flight_core::laws::joined;
 use flight_core::laws::runs_meet_headline;
 

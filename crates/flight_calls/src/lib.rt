@@ -5,7 +5,6 @@
 #![tactic(auto)]
 
 mod answer;
-pub mod backend;
 mod call;
 pub mod laws;
 mod request;
@@ -13,7 +12,6 @@ mod server;
 mod setting;
 mod step;
 
-pub use crate::backend::{Alone, Backend};
 pub use crate::server::{serve, serve_alone};
 pub use crate::setting::{Options, Setting};
 pub use fetch_stream::{Executor, OneWorker};

@@ -8,11 +8,10 @@ ghost use Rattle.flight_calls.specs.Answered.{ReactsBy, RespondsBy, FitsMessages
 ghost use Rattle.flight_calls.specs.Requests.{IsRefused, Holds};
 
 use crate::answer::Answer;
-use crate::backend::Backend;
 use crate::setting::Options;
 use crate::step::{expire_on, fetch_on, info_on, put_on, schema_on};
 use bytes::Bytes;
-use flight_core::{PutReader, Reply};
+use flight_core::{Backend, PutReader, Reply};
 use flight_proto::read_expiry;
 use flight_proto::wanted::MAX_REQUEST_LEN;
 use scan_base::Fault;

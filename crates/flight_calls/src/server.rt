@@ -2,16 +2,15 @@
 
 ghost use Rattle.std.specs.Prelude.{◌≡◌, []};
 ghost use Rattle.grpc_frame.specs.Ends.{CanFail};
-ghost use Rattle.flight_calls.specs.Seats.{Seat, seat_of, alone};
+ghost use Rattle.flight_core.specs.Seats.{Seat, seat_of, alone};
 ghost use Rattle.flight_calls.specs.Owed.{Serves, connection_of};
 ghost use Rattle.flight_calls.specs.Ending.{RefusesBy};
 
 use crate::answer::{write_answer, write_last_status};
-use crate::backend::{Alone, Backend};
 use crate::call::{Arrival, read_call};
 use crate::setting::Setting;
 use fetch_stream::Executor;
-use flight_core::Plain;
+use flight_core::{Alone, Backend, Plain};
 use grpc_frame::{Inbox, Input, Outbox, Output};
 use hash_seed::HashSeed;
 use scan_base::Fault;

@@ -12,14 +12,13 @@ ghost use Rattle.flight_core.specs.Machine.{OpensIn};
 ghost use Rattle.flight_core.specs.Puts.{put_glance, put_said};
 ghost use Rattle.flight_core.specs.Refusals.{GivesBehind, RefusedBy};
 ghost use Rattle.flight_calls.specs.Calls.{info_asked};
-ghost use Rattle.flight_calls.specs.Seats.{Learns};
+ghost use Rattle.flight_core.specs.Seats.{Learns};
 ghost use Rattle.flight_calls.specs.Reacts.{AsksItself, IsBeyond, Reacts, Responds, oldest_kept};
 ghost use Rattle.flight_calls.specs.Answered.{ReactsBy, FitsMessages};
 
 use crate::answer::Answer;
-use crate::backend::Backend;
 use fetch_stream::{Opening, read_ticket, version_of};
-use flight_core::put_answer;
+use flight_core::{Backend, put_answer};
 use flight_info::{Reply, answer_schema, answer_wanted};
 use flight_proto::{Wanted, read_expiry, read_wanted};
 use scan_base::Fault;

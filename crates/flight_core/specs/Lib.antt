@@ -8,4 +8,6 @@ pub mod Machine
 pub mod Headline
 pub mod Laws
 pub mod Versions
+pub mod Counts
+pub mod Seats
 pub mod Stored

@@ -3,12 +3,14 @@
 //! `specs/Machine.antt` says what a step and a run are, and `specs/Puts.antt` what a put's payloads say.
 #![tactic(auto)]
 
+pub mod backend;
 pub mod event;
 pub mod laws;
 pub mod machine;
 pub mod plain;
 pub mod put;
 
+pub use crate::backend::{Alone, Backend};
 pub use crate::event::Event;
 pub use crate::machine::{put_answer, run, step, step_put};
 pub use crate::plain::Plain;

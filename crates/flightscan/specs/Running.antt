@@ -10,7 +10,7 @@ use Rattle.csv_input.specs.Input.{form_of}
 use Rattle.version_cell.specs.Rests.{RestAt}
 use Rattle.flight_calls.specs.declared.setting.Options.{Options}
 use Rattle.flight_calls.specs.Owed.{Connection, connection_of}
-use Rattle.flight_calls.specs.Seats.{Seat, seat_of}
+use Rattle.flight_core.specs.Seats.{Seat, seat_of}
 use Rattle.shared_calls.specs.Sharing.{onward}
 use Rattle.command_line.specs.declared.request.Format.{Format}
 use Rattle.command_line.specs.declared.request.PutForm.{PutForm}

@@ -6,7 +6,7 @@ use Rattle.version_log.specs.Log.{Log, puts_in, Begins}
 use Rattle.version_cell.specs.Expiries.{CountsExpiry, ExpiresBehind}
 use Rattle.version_cell.specs.Puts.{PutsBehind, CountsPut}
 use Rattle.version_cell.specs.Seats as cell
-use Rattle.flight_calls.specs.Seats.{Seat, Expires, Puts}
+use Rattle.flight_core.specs.Seats.{Seat, Expires, Puts}
 use Rattle.shared_calls.specs.Sharing.{onward, seat_at}
 
 -- the same log begins with all of it

@@ -3,7 +3,7 @@
 ghost use Rattle.std.specs.Prelude.{◌≡◌};
 ghost use Rattle.shared_calls.specs.Sharing.{seat_at};
 
-use flight_calls::Backend;
+use flight_core::Backend;
 use scan_base::Fault;
 use std::alloc::Global;
 use std::marker::{Brand, Model, PhantomData};
@@ -15,7 +15,7 @@ use version_cell::{CellName, Rest, Scanner, SharedPutter};
 pub trait Resting: Backend {
     ghost use Rattle.std.specs.Prelude.{◌≡◌, ℕ};
     ghost use Rattle.logbook.specs.Pages.{Book};
-    ghost use Rattle.flight_calls.specs.Seats.{AsksOnce, Learns};
+    ghost use Rattle.flight_core.specs.Seats.{AsksOnce, Learns};
     ghost use Rattle.shared_calls.specs.Sharing.{RestsAs};
 
     // The book of the cell.
@@ -67,7 +67,7 @@ impl<'a, C: CellName, N: SeatName, R: Wait + Drop, H: Wait> Drop for Shared<'a, 
 
 impl<'a, C: CellName, N: SeatName, R: Wait + Drop, H: Wait> Model for Shared<'a, C, N, R, H> {
     ghost use Rattle.std.specs.Prelude.{◌≡◌};
-    ghost use Rattle.flight_calls.specs.Seats.{Seat};
+    ghost use Rattle.flight_core.specs.Seats.{Seat};
     ghost use Rattle.shared_calls.specs.Sharing.{seat_at};
 
     ghost Value = { Seat };

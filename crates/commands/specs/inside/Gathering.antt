@@ -7,7 +7,7 @@ use Rattle.logbook.specs.Pages.{Book}
 use Rattle.version_cell.specs.Rests.{RestAt}
 use Rattle.version_cell.specs.Seats as cell
 use Rattle.flight_calls.specs.declared.setting.Options.{Options}
-use Rattle.flight_calls.specs.Seats.{Seat, seat_of}
+use Rattle.flight_core.specs.Seats.{Seat, seat_of}
 use Rattle.shared_calls.specs.Sharing.{onward, seat_at}
 use Rattle.connection_turns.specs.Drawers.{DrawerAt, drawer_at}
 use Rattle.command_ends.specs.Network.{Accepting, Ends}

@@ -1,5 +1,5 @@
 use Rattle.std.proofs.Common.{refl, rules, []}
-use Rattle.flight_calls.specs.Seats.{seat_of, alone}
+use Rattle.flight_core.specs.Seats.{seat_of, alone}
 use Rattle.flight_calls.proofs.Serving.{refused_first}
 use Rattle.flight_calls.proofs.server.serve_alone.Goals as goal
 

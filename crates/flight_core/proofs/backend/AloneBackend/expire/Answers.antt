@@ -1,5 +1,5 @@
-use Rattle.flight_calls.proofs.Reacting.{expires_alone}
-use Rattle.flight_calls.proofs.backend.AloneBackend.expire.Goals as goal
+use Rattle.flight_core.proofs.Alone.{expires_alone}
+use Rattle.flight_core.proofs.backend.AloneBackend.expire.Goals as goal
 
 pub returns : goal.returns
 returns c =

@@ -2,7 +2,7 @@
 
 ghost use Rattle.std.specs.Prelude.{◌≡◌, ◌+◌};
 
-use flight_core::Plain;
+use crate::plain::Plain;
 use scan_base::Fault;
 use std::alloc::Global;
 use std::marker::Model;
@@ -15,7 +15,7 @@ pub trait Backend {
     ghost use Rattle.scan_base.specs.declared.fault.Fault.TheVariants.{OutOfMemory, VersionExpired, VersionUnknown};
     ghost use Rattle.table_versions.specs.Stored.{put_of, tables_of};
     ghost use Rattle.version_log.specs.Log.{Log, puts_in, floor_of, database_of, version};
-    ghost use Rattle.flight_calls.specs.Seats.{Seat, AsksNone, AsksOnce, Expires, Learns, LooksOnce, MayLook, Puts};
+    ghost use Rattle.flight_core.specs.Seats.{Seat, AsksNone, AsksOnce, Expires, Learns, LooksOnce, MayLook, Puts};
 
     // The log that it has seen, its looks, the entries that it made, and its asks.
     ghost seat: { Self → Seat };
@@ -95,7 +95,7 @@ struct Times {
 
 impl Model for Times {
     ghost use Rattle.std.specs.Prelude.{ℕ};
-    ghost use Rattle.flight_calls.specs.Counts.{one_more};
+    ghost use Rattle.flight_core.specs.Counts.{one_more};
 
     ghost Value = { ℕ };
 
@@ -141,7 +141,7 @@ impl Drop for Alone {
 }
 
 impl Model for Alone {
-    ghost use Rattle.flight_calls.specs.Seats.{Seat, lone_seat};
+    ghost use Rattle.flight_core.specs.Seats.{Seat, lone_seat};
 
     ghost Value = { Seat };
 
@@ -149,7 +149,7 @@ impl Model for Alone {
 }
 
 impl Alone {
-    ghost use Rattle.flight_calls.specs.Seats.{seat_of};
+    ghost use Rattle.flight_core.specs.Seats.{seat_of};
 
     /// Those of a log, at which no look was made. Nobody was asked.
     pub fn new(plain: Plain) -> Alone
@@ -166,7 +166,7 @@ impl Alone {
 impl Backend for Alone {
     ghost use Rattle.std.specs.Prelude.{refl};
     ghost use Rattle.std.proofs.Common.{◌∙◌};
-    ghost use Rattle.flight_calls.specs.Seats.{alone};
+    ghost use Rattle.flight_core.specs.Seats.{alone};
 
     ghost seat = { λ a. a };
 
