@@ -1,6 +1,6 @@
 //! What a listener is shown of a seat.
 
-ghost use Rattle.std.specs.Prelude.{◌≡◌};
+ghost use Rattle.std.specs.Prelude.{◌≡◌, length};
 
 use command_ends::Known;
 use std::marker::Model;
@@ -30,7 +30,9 @@ impl ShownSeat {
     }
 
     /// How many entries it has seen.
-    pub fn len(&self) -> u64 {
+    pub fn len(&self) -> u64
+        ensures { result ≡ length self.now.log }
+    {
         self.rest.len()
     }
 }

@@ -1,6 +1,6 @@
 //! What the listeners of a server were shown.
 
-ghost use Rattle.std.specs.Prelude.{◌≡◌, ◌++◌, ◌∷◌, [], IfSome};
+ghost use Rattle.std.specs.Prelude.{◌≡◌, ◌++◌, ◌∷◌, [], length, IfSome};
 ghost use Rattle.version_cell.specs.Signed.{GoesOn};
 ghost use Rattle.server_cases.specs.History.{log_in, SawOne};
 
@@ -92,7 +92,9 @@ impl<C: BookName> History<C> {
     }
 
     /// How many entries the one log has, so far as it was shown.
-    pub(crate) fn entries(&self) -> u64 {
+    pub(crate) fn entries(&self) -> u64
+        ensures { result ≡ length self.now.log }
+    {
         match &self.longest {
             None => 0,
             Some(seat) => seat.len(),

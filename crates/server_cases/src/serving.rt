@@ -64,7 +64,7 @@ impl Client {
 }
 
 // Has a client call the server at this port, and adds what comes of it.
-fn call<R>(rt: &R, client: Client, port: u16, told: &mut String) -> Result<(), Failure>
+pub(crate) fn call<R>(rt: &R, client: Client, port: u16, told: &mut String) -> Result<(), Failure>
 where
     R: Net<Listener = TcpListener, Stream = TcpStream> + RandomSource + AllocGlobal,
     R: Threads + Clock + Sync,
@@ -138,7 +138,7 @@ impl<R: Net<Listener = TcpListener, Stream = TcpStream>> Listen<ShownSeat> for B
 }
 
 // Whether a server has printed the line of its port, and nothing else.
-fn names_port(alloc: Global, output: &MemoryOutput, port: u16) -> bool {
+pub(crate) fn names_port(alloc: Global, output: &MemoryOutput, port: u16) -> bool {
     match format!(in alloc; "listening 127.0.0.1:{port}\n") {
         Ok(line) => output.as_slice() == line.as_bytes(),
         Err(_) => false,
@@ -181,7 +181,7 @@ where
 }
 
 // The fault of a failure, wherever it was found.
-fn fault_of(failure: Failure) -> Fault {
+pub(crate) fn fault_of(failure: Failure) -> Fault {
     match failure {
         Failure::Answered(fault) | Failure::Found(fault) => fault,
     }

@@ -145,6 +145,13 @@ impl History {
         self.puts
     }
 
+    /// How many entries it has.
+    pub fn len(&self) -> u64
+        ensures { result ≡ length self.now.seen.log }
+    {
+        self.entries
+    }
+
     /// Whether it has as many entries as it may have.
     pub fn is_full(&self) -> bool
         ensures { MatchBool result (2 ^ 62 ≤ length self.now.seen.log) (length self.now.seen.log < 2 ^ 62) }

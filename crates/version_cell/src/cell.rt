@@ -60,12 +60,7 @@ impl Model for Blank {
 /// # Errors
 ///
 /// F21 (`Fault::OutOfMemory`) where memory is refused.
-pub fn open(
-    alloc: Global,
-    seed: HashSeed,
-    seats: usize,
-    opened: Opened,
-) -> Result<Blank, Fault>
+pub fn open(alloc: Global, seed: HashSeed, seats: usize, opened: Opened) -> Result<Blank, Fault>
     requires { (0 < seats) × (seats ≤ most_seats) }
     ensures ok { IfOk result (λ blank. (blank.seats ≡ seats) × (blank.book ≡ opened)) }
     ensures err { IfErr result (λ fault. fault ≡ OutOfMemory) }

@@ -48,11 +48,7 @@ impl<C: CellName, R: Wait + Drop> Model for Putter<C, R> {
 }
 
 impl<C: CellName, R: Wait + Drop> Putter<C, R> {
-    pub(crate) fn new(
-        publisher: Publisher<C, R>,
-        tally: Tally<C>,
-        counts: Vec<u64>,
-    ) -> Putter<C, R>
+    pub(crate) fn new(publisher: Publisher<C, R>, tally: Tally<C>, counts: Vec<u64>) -> Putter<C, R>
         requires tally { tally ≡ 0 }
         requires counts { Counted counts.items [] }
         ensures { result ≡ log_of publisher }

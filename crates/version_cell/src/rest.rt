@@ -1,6 +1,6 @@
 //! How a seat rests, for others to see.
 
-ghost use Rattle.std.specs.Prelude.{◌≡◌, MatchBool};
+ghost use Rattle.std.specs.Prelude.{◌≡◌, length, MatchBool};
 ghost use Rattle.version_cell.specs.Rests.{rest_at};
 ghost use Rattle.version_cell.specs.Signed.{own, GoesOn};
 
@@ -54,6 +54,13 @@ impl Rest {
         ensures { result ≡ self.now.seat }
     {
         self.seat
+    }
+
+    /// How many entries the log has that it has seen.
+    pub fn len(&self) -> u64
+        ensures { result ≡ length self.now.log }
+    {
+        self.history.len()
     }
 
     /// What was made through the seat is just what the log that it has seen has of its number.
