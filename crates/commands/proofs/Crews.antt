@@ -15,12 +15,13 @@ use Rattle.version_cell.specs.Merges.{MergesAll}
 use Rattle.logbook.specs.Pages.{Book}
 use Rattle.version_cell.specs.Rests.{RestAt}
 use Rattle.version_cell.specs.Seats as cell
+use Rattle.flight_core.specs.Seats.{Seat, seat_of}
 use Rattle.shared_calls.specs.Sharing.{onward, seat_at}
 use Rattle.connection_turns.specs.Drawers.{DrawerAt, drawer_at}
 use Rattle.command_line.specs.declared.request.Serving.{Serving}
 use Rattle.command_ends.specs.Network.{Accepting, Ends}
 use Rattle.command_ends.specs.Printing.{Said, listening_line}
-use Rattle.commands.specs.Shown.{IsNewSeat}
+use Rattle.commands.specs.Shown.{IsNewSeat, WasShown}
 use Rattle.commands.specs.Port.{IsFresh, IsServed, ServesPort, most_of, options_of}
 use Rattle.commands.specs.Serve.{DrawsAll, Pays, Work, IsPartOf, ServesSideBySide, both, first_fault, made_by, made_by_each}
 use Rattle.commands.specs.inside.Gathering.{Begun, Gathered, HasDrawn, HasWorked, HiredWorker, IsAtRest, IsNew, IsWithin, MayServe, seat_in, state_of, work_of}
@@ -87,6 +88,17 @@ may_serve {L} shares at_rest port_of rests known owed options heard at port book
     (may_serve shares at_rest port_of rests known owed options heard at port book name all same pays
     (All-tail (λ (h : HiredWorker L). IsFresh shares heard (state_of h)) hired all fresh) (All-tail (IsNew name) hired all new)
     (All-tail (IsAtRest at_rest port_of rests known at book) hired all may))
+
+-- a seat that is new, as it would be shown
+abbrev pub new_rest : Book → ℕ → RestAt
+new_rest book number = record { book = book; seat = number; log = []; made = []; asks = 0 }
+
+-- a listener that was shown none may be shown the seat of its worker
+pub new_shown : (book : Book) (held : Option cell.Seat) (found : cell.Seat) → held ≡ Some found → seat_in held ≡ seat_of [] 0
+    → WasShown (new_rest book found.number) book found.number (seat_at found)
+new_shown book held found is fresh =
+    let here : seat_at found ≡ seat_of [] 0 = rw is at fresh in
+    (refl, refl, (found.log, refl), sym (ap (λ (seat : Seat). seat.made) here))
 
 -- ---- workers that have ended
 

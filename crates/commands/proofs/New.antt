@@ -34,7 +34,7 @@ taken_so {L} accepts options (Broke listener ∷ all) zero result old new place 
 taken_so {L} accepts options (Broke listener ∷ all) (suc more) result old new zero at ends served last s e = absurd cc
 taken_so {L} accepts options (Broke listener ∷ all) (suc more) result old new (suc place) at ends served last s e =
     let none : slice_get [] place ≡ Some (Took at ends served last) = rw s.1 at e in
-    absurd cc
+    absurd (cc none)
 taken_so {L} accepts options (Took listener its found end ∷ all) zero result old new place at ends served last s e = absurd s
 taken_so {L} accepts options (Took listener its found end ∷ all) (suc more) result old new zero at ends served last s e =
     let so : found ≡ served = cc (same_some e) in

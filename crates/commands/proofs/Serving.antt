@@ -130,9 +130,14 @@ served_to moves options before behind old new made left result last serves leave
 pub told_so : (rest : RestAt) (book : Book) (number : ℕ) (seat : Seat) → RestsAs rest book seat → rest.seat ≡ number → IsShownAs rest book number seat
 told_so rest book number seat rests same = (rests.book, same, rests.log, rests.made, rests.asks)
 
+abbrev seat_with : ℕ → Log → Log → ℕ → Seat
+seat_with looks log made asks = record { log = log; looks = looks; made = made; asks = asks }
+
 -- the seat itself, behind its looks
 pub as_shown : (shown : RestAt) (book : Book) (number : ℕ) (seat : Seat) → IsShownAs shown book number seat → seat ≡ seat_shown shown seat.looks
-as_shown shown book number seat is = rw (is.2, is.3, is.4) refl
+as_shown shown book number seat is =
+    sym (ap (λ (log : Log). seat_with seat.looks log shown.made shown.asks) is.2
+    ∙ (ap (λ (made : Log). seat_with seat.looks seat.log made shown.asks) is.3 ∙ ap (seat_with seat.looks seat.log seat.made) is.4))
 
 -- a seat that asked has learnt since it was shown last
 pub learnt_so : (moves : Moves) (shown rest : RestAt) (book : Book) (number : ℕ) (old new : Seat)

@@ -66,7 +66,7 @@ left_within {L} accepts moves options (Broke listener ∷ all) zero result old n
 left_within {L} accepts moves options (Broke listener ∷ all) (suc more) result old new zero at ends served last s e = absurd cc
 left_within {L} accepts moves options (Broke listener ∷ all) (suc more) result old new (suc place) at ends served last s e =
     let none : slice_get [] place ≡ Some (Took at ends served last) = rw s.1 at e in
-    absurd cc
+    absurd (cc none)
 left_within {L} accepts moves options (Took listener its found end ∷ all) zero result old new place at ends served last s e = absurd s
 left_within {L} accepts moves options (Took listener its found end ∷ all) (suc more) result old new zero at ends served last s e =
     let same : end ≡ last = cc (same_some e) in

@@ -6,9 +6,8 @@ ghost use Rattle.version_cell.specs.Rests.{RestAt};
 ghost use Rattle.version_cell.specs.Seats.{seat};
 ghost use Rattle.connection_turns.specs.Drawers as drawers;
 ghost use Rattle.commands.specs.Port.{IsFresh};
-ghost use Rattle.commands.specs.Serve.{AcceptsThenCloses, DrawsAll, ServesSideBySide, first_fault, made_by, made_by_each};
+ghost use Rattle.commands.specs.Serve.{AcceptsThenCloses, DrawsAll, Pays, ServesSideBySide, ServesUpTo, first_fault, made_by, made_by_each, worker_of};
 ghost use Rattle.shared_calls.specs.Sharing.{onward, seat_at};
-ghost use Rattle.commands.specs.Serve.{ServesUpTo, worker_of};
 ghost use Rattle.commands.specs.Shown.{WasShown};
 ghost use Rattle.commands.specs.inside.Gathering.{HasDrawn, HasWorked, IsAtRest, IsNew, IsWithin, MayServe, state_of, work_of};
 

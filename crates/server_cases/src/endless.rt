@@ -5,15 +5,12 @@ ghost use Rattle.std.specs.Prelude.{◌≡◌};
 use crate::asking::connected;
 use crate::history::BookName;
 use crate::keeping::{Keeping, Kept};
-use crate::serving::{Client, call, fault_of, names_port};
+use crate::serving::{Bound, Client, call, fault_of, names_port};
 use crate::texts::push_text;
-use command_ends::Listen;
 use command_line::Serving;
 use commands::serve::{Host, serve};
-use commands::shown::ShownSeat;
 use grpc_frame::MemoryOutput;
 use hash_seed::HashSeed;
-use loopback::Port;
 use std::alloc::AllocGlobal;
 use std::marker::Brand;
 use std::net::{Net, TcpListener, TcpStream};
@@ -38,30 +35,28 @@ struct Ended {
 }
 
 // Serves connections without an end, from a cell that is opened here.
-fn serve_endless<R>(host: Host<'_, R>, port: Port<'_, R>, number: u16, connections: u16) -> Ended
+fn serve_endless<R>(host: Host<'_, R>, bound: Bound<'_, R>, connections: u16) -> Ended
 where
     R: Net<Listener = TcpListener, Stream = TcpStream> + Threads + Wait + Clock + Sync,
-    requires { port.number ≡ number }
 {
-    serve_opened::<Brand, R>(host, Opened::new(), port, number, connections)
+    serve_opened::<Brand, R>(host, Opened::new(), bound, connections)
 }
 
 // The same, from a cell whose book C names.
 fn serve_opened<C: BookName, R>(
     host: Host<'_, R>,
     opened: Opened,
-    port: Port<'_, R>,
-    number: u16,
+    bound: Bound<'_, R>,
     connections: u16,
 ) -> Ended
 where
     C: Send + Sync,
     R: Net<Listener = TcpListener, Stream = TcpStream> + Threads + Wait + Clock + Sync,
-    requires book { opened ≡ C.book }
-    requires number { port.number ≡ number }
+    requires { opened ≡ C.book }
 {
+    let number = bound.number;
     let kept = Mutex::new(Kept::<C>::new(connections));
-    let mut network = Keeping::new(host.rt, &kept, port, number);
+    let mut network = Keeping::new(host.rt, &kept, bound);
     let mut output = MemoryOutput::new(host.alloc);
     let mut faults = MemoryOutput::new(host.alloc);
     let serving = Serving {
@@ -119,11 +114,11 @@ where
 {
     let (alloc, seed) = (rt.alloc(), HashSeed::new(rt)?);
     let host = Host { rt, alloc, seed };
-    let mut port = Port::new(rt);
-    let number = Listen::<ShownSeat>::listen(&mut port, 0, 0)?;
+    let bound = Bound::new(rt)?;
+    let number = bound.number;
     let (ended, told) = thread::join(
         rt,
-        move || serve_endless(host, port, number, connections),
+        move || serve_endless(host, bound, connections),
         || called(rt, client, number, connections),
     );
     let mut line = format!(in alloc; "server {} {}", ended.status, ended.names_port)?;

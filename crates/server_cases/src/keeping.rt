@@ -1,12 +1,11 @@
 //! A listener that keeps what it was shown, and breaks behind so many connections.
 
-ghost use Rattle.std.specs.Prelude.{◌≡◌};
-
 use crate::history::{BookName, History};
+use crate::serving::Bound;
 use command_ends::{AcceptFailure, Announced, Known, Listen};
 use commands::shown::ShownSeat;
 use grpc_frame::Counted;
-use loopback::{Port, SocketWriter};
+use loopback::SocketWriter;
 use std::io;
 use std::net::{Net, TcpListener, TcpStream};
 use std::sync::{Mutex, Wait};
@@ -45,11 +44,9 @@ impl<C: BookName> Kept<C> {
 pub(crate) struct Keeping<'a, C: BookName, R: Wait> {
     rt: &'a R,
     kept: &'a Mutex<Kept<C>>,
-    port: Port<'a, R>,
-    number: u16,
+    bound: Bound<'a, R>,
     // None stands for a new seat that was not shown yet.
     seat: Option<ShownSeat>,
-    ghost same: { port.number ≡ number },
 }
 
 impl<'a, C: BookName, R: Wait> Keeping<'a, C, R> {
@@ -57,16 +54,12 @@ impl<'a, C: BookName, R: Wait> Keeping<'a, C, R> {
     pub(crate) fn new(
         rt: &'a R,
         kept: &'a Mutex<Kept<C>>,
-        port: Port<'a, R>,
-        number: u16,
-    ) -> Keeping<'a, C, R>
-        requires { port.number ≡ number }
-    {
+        bound: Bound<'a, R>,
+    ) -> Keeping<'a, C, R> {
         Keeping {
             rt,
             kept,
-            port,
-            number,
+            bound,
             seat: None,
         }
     }
@@ -94,7 +87,7 @@ where
 
     ghost closes = { λ _ _. Unit {0} };
 
-    ghost port_of = { λ keeping. keeping.number };
+    ghost port_of = { λ keeping. keeping.bound.number };
 
     ghost at_rest = { λ _. Unit {0} };
 
@@ -108,15 +101,14 @@ where
     ghost owed = { IsServedTo onward case_options };
 
     fn listen(&mut self, _port: u16, _idle: u16) -> io::Result<u16> {
-        Ok(self.number)
+        Ok(self.bound.number)
     }
 
     fn share(&self) -> io::Result<Self> {
         Ok(Keeping {
             rt: self.rt,
             kept: self.kept,
-            port: Listen::<ShownSeat>::share(&self.port)?,
-            number: self.number,
+            bound: self.bound.share()?,
             seat: None,
         })
     }
@@ -128,7 +120,7 @@ where
     ) -> Result<(Counted<TcpStream>, SocketWriter), AcceptFailure> {
         self.seat = Some(seat.again());
         self.kept.lock(self.rt).history.add(seat);
-        let ends = self.port.accept(announced, seat)?;
+        let ends = self.bound.accept(announced, seat)?;
         if self.kept.lock(self.rt).give_one() {
             return Ok(ends);
         }
@@ -138,6 +130,6 @@ where
     fn done(&mut self, reader: Counted<TcpStream>, writer: SocketWriter, seat: &ShownSeat) {
         self.seat = Some(seat.again());
         self.kept.lock(self.rt).history.add(seat);
-        self.port.done(reader, writer, seat);
+        self.bound.done(reader, writer, seat);
     }
 }

@@ -82,13 +82,25 @@ where
 
 // A port that is listened to already.
 #[derive(Drop)]
-struct Bound<'a, R> {
+pub(crate) struct Bound<'a, R> {
     port: Port<'a, R>,
-    number: u16,
+    pub(crate) number: u16,
     ghost same: { port.number ≡ number },
 }
 
+impl<'a, R: Net<Listener = TcpListener, Stream = TcpStream>> Bound<'a, R> {
+    // A port that is free.
+    pub(crate) fn new(rt: &'a R) -> io::Result<Bound<'a, R>> {
+        let mut port = Port::new(rt);
+        let number = Listen::<ShownSeat>::listen(&mut port, 0, 0)?;
+        Ok(Bound { port, number })
+    }
+}
+
 impl<R: Net<Listener = TcpListener, Stream = TcpStream>> Listen<ShownSeat> for Bound<'_, R> {
+    ghost use Rattle.std.specs.Prelude.{IfOk};
+    ghost use Rattle.command_ends.specs.Network.{AreNew};
+
     type Reader = Counted<TcpStream>;
 
     type Writer = SocketWriter;
@@ -97,7 +109,8 @@ impl<R: Net<Listener = TcpListener, Stream = TcpStream>> Listen<ShownSeat> for B
 
     ghost shares = { λ _ _. Unit {0} };
 
-    ghost accepts = { λ _ _ _. Unit {0} };
+    // Nothing was read or written yet.
+    ghost accepts = { λ _ made _. IfOk made (λ ends. AreNew ends) };
 
     ghost closes = { λ _ _. Unit {0} };
 
@@ -212,9 +225,8 @@ where
 {
     let (alloc, seed) = (rt.alloc(), HashSeed::new(rt)?);
     let host = Host { rt, alloc, seed };
-    let mut port = Port::new(rt);
-    let number = Listen::<ShownSeat>::listen(&mut port, 0, 0)?;
-    let bound = Bound { port, number };
+    let bound = Bound::new(rt)?;
+    let number = bound.number;
     let (served, told) = thread::join(
         rt,
         move || serve_bound(host, bound, accept, client),
