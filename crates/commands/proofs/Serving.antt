@@ -14,6 +14,7 @@ use Rattle.flight_core.specs.Seats.{Learns, Moves, Seat}
 use Rattle.shared_calls.specs.Sharing.{RestsAs}
 use Rattle.flight_calls.specs.Owed.{Connection, Serves, connection_of}
 use Rattle.command_ends.specs.Network.{Accepting, Ends, ends_of}
+use Rattle.command_ends.specs.declared.accept_failure.AcceptFailure.TheVariants.{MayPass}
 use Rattle.commands.specs.Shown.{HasLearnt, IsSameSeat, IsShownAs, WasShown, seat_shown}
 use Rattle.commands.specs.Serve.{Accept, AcceptsThenCloses, AsksOthers, Broke, Failed, IsServedTo, Took, Worker, ServesInTurn, ServesNext, ServesUpTo, worker_of}
 use Rattle.commands.specs.inside.Accepting.{FailsSo, TakesNext, TakesNone}
@@ -22,6 +23,11 @@ use Rattle.commands.specs.inside.Accepting.{FailsSo, TakesNext, TakesNone}
 abbrev pub ServesRest : {L : Type 0} → Accepting L → Moves → Options → ℕ → Result (Unit {0}) Fault → Worker L → Worker L → Type 0
 ServesRest {L} accepts moves options more result old new =
     (all : List (Accept L)) × ServesInTurn accepts moves options all more result old new
+
+-- one accept more that failed
+pub fails_more : {L : Type 0} (accepts : Accepting L) (old middle new : L) → ((failed : ℕ) × FailsSo accepts failed old middle) → accepts middle (Err MayPass) new
+    → (failed : ℕ) × FailsSo accepts failed old new
+fails_more {L} accepts old middle new so failed = (suc so.0, (middle, so.1, failed))
 
 -- accepts that failed took no connection that is closed
 no_closing : {L : Type 0} (accepts : Accepting L) (closes : L → L → Type 0) (failed : ℕ) (old new : L) → FailsSo accepts failed old new
