@@ -5,8 +5,8 @@ ghost use Rattle.grpc_frame.specs.Ends.{FailsByTransport};
 ghost use Rattle.connection_turns.specs.Drawers as drawers;
 ghost use Rattle.version_cell.specs.Rests.{RestAt};
 ghost use Rattle.command_ends.specs.Network.{ends_of};
-ghost use Rattle.commands.specs.Shown.{HasLearnt, WasShown};
-ghost use Rattle.commands.specs.Serve.{AcceptsThenCloses, Pays, ServesUpTo, worker_of};
+ghost use Rattle.commands.specs.Shown.{HasLearnt, IsShownAs, WasShown};
+ghost use Rattle.commands.specs.Serve.{AcceptsThenCloses, AsksOthers, Pays, ServesUpTo, worker_of};
 ghost use Rattle.commands.specs.inside.Accepting.{TakesNext, TakesNone};
 
 use crate::shown::ShownSeat;
@@ -67,7 +67,7 @@ pub fn serve_in_turn<L: Listen<ShownSeat>, B: Resting, T: Wait + Clock, X: Execu
     ensures drawer { (drawer.new.name ≡ service.now.turns.now.name) × (drawer.new.parts ≡ 1) }
     ensures ended { IfOk result (λ _. 0 < drawer.new.ended) }
 {
-    let mut shown = ShownSeat::new(backend.rest());
+    let mut shown = shown_of(backend);
     for _ in service.rt.forever() {
         if !service.turns.draw(service.rt, drawer) {
             return Ok(());
@@ -80,10 +80,19 @@ pub fn serve_in_turn<L: Listen<ShownSeat>, B: Resting, T: Wait + Clock, X: Execu
             options: service.options,
         };
         let _ = flight_calls::serve(&setting, &mut reader, &mut writer, backend);
-        shown = ShownSeat::new(backend.rest());
+        shown = shown_of(backend);
         network.done(reader, writer, &shown);
     }
     unreachable!()
+}
+
+// The seat as a listener is shown it, behind one ask.
+#[tactic(auto, using(crate::proofs::Serving::told_so))]
+fn shown_of<B: Resting>(backend: &mut B) -> ShownSeat
+    ensures asks { AsksOthers B.moves (B.seat backend.old) (B.seat backend.new) }
+    ensures shown { IsShownAs result B.book B.number (B.seat backend.new) }
+{
+    ShownSeat::new(backend.rest())
 }
 
 // The next connection. Accepts that fail by what may pass are passed over, each behind a pause.
