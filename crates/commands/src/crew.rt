@@ -241,15 +241,16 @@ where
     ensures { ServesSideBySide (AcceptsThenCloses L.accepts L.closes) service.options service.turns.now.most
         (map state_of workers.items) result }
 {
+    let (rt, turns) = (service.rt, service.turns);
     let crew = Crew {
         service,
         putter: &putter,
     };
-    work_side_by_side(crew.service.rt, &crew, workers.as_mut_slice());
-    let Crew { service, putter: _ } = crew;
+    work_side_by_side(rt, &crew, workers.as_mut_slice());
+    drop(crew);
     let none = putter.gather();
-    let (first, seats) = first_of(service.turns, drawer, none, workers);
+    let (first, seats) = first_of(turns, drawer, none, workers);
     // The history of all: contracts alone look at it.
-    putter.whole_log(service.rt, seats);
+    putter.whole_log(rt, seats);
     first
 }
