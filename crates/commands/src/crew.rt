@@ -119,16 +119,31 @@ where
         crew.service.turns.now.name old new };
 
     fn work(&self, worker: &mut ServingWorker<L, C>) {
-        let scanner = worker.scanner.take().unwrap();
-        let (served, scanner) = serve_seat::<L, C, Brand, T, X>(
-            self,
-            &mut worker.drawer,
-            &mut worker.listener,
-            scanner,
-        );
-        worker.served = served;
-        worker.scanner = Some(scanner);
+        serve_by(self, worker);
     }
+}
+
+// Serves connections by a worker, with its seat.
+fn serve_by<L, C, T, X>(crew: &Crew<'_, '_, C, T, X>, worker: &mut ServingWorker<L, C>)
+where
+    L: Listen<ShownSeat>,
+    C: CellName,
+    T: Wait + Clock,
+    X: Executor,
+    requires { MayServe L.at_rest L.port_of L.rests L.cell L.owed crew.now.service.options
+        crew.now.service.announced.now C.book crew.now.service.turns.now.name worker.old }
+    ensures { HasWorked (AcceptsThenCloses L.accepts L.closes) crew.now.service.options
+        crew.now.service.turns.now.name worker.old worker.new }
+{
+    let scanner = worker.scanner.take().unwrap();
+    let (served, scanner) = serve_seat::<L, C, Brand, T, X>(
+        crew,
+        &mut worker.drawer,
+        &mut worker.listener,
+        scanner,
+    );
+    worker.served = served;
+    worker.scanner = Some(scanner);
 }
 
 // Serves connections through a seat, whose number N is.

@@ -1,6 +1,6 @@
 use Rattle.std.proofs.Common.{refl, rules}
 use Rattle.commands.proofs.Crews.{new_rest, new_shown}
-use Rattle.commands.proofs.crew.Crew.work.Goals as goal
+use Rattle.commands.proofs.crew.serve_by.Goals as goal
 
 pub serve_seat-requires-clause-rests : goal.serve_seat-requires-clause-rests
 serve_seat-requires-clause-rests g c κs lives = (

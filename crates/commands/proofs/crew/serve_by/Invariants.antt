@@ -1,4 +1,4 @@
-use Rattle.commands.proofs.crew.Crew.work.Given as goal
+use Rattle.commands.proofs.crew.serve_by.Given as goal
 
 -- the number of the worker's seat
 abbrev pub ghosts-serve_seat : goal.ghosts-serve_seat
