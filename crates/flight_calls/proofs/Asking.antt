@@ -9,7 +9,7 @@ use Rattle.scan_base.specs.Reading.{◌>>=◌}
 use Rattle.flight_proto.specs.Expiry.{expiry_of}
 use Rattle.flight_proto.specs.Wanted.{Wanted, wanted_in}
 use Rattle.flight_core.specs.Asked.{put, info, schema}
-use Rattle.flight_core.proofs.Expiring.{unread_expiry}
+use Rattle.flight_core.proofs.Expiring.{number_unread, unread_expiry}
 use Rattle.flight_info.specs.Replies.{refusal}
 use Rattle.flight_info.specs.Infos.{only_rows, short_enough, rows_wanted, schema_wanted, InfoAt, SchemaAt}
 use Rattle.version_log.specs.Log.{Log, database_of, puts_in}
@@ -69,9 +69,6 @@ command_too_long one message (inl is) long = rw (is, too_long message long) ((λ
 command_too_long one message (inr is) long = rw is ((λ options log. schema_too_long log message long), (λ options looks. schema_unread message long looks), λ options log asks. asks)
 
 -- an action that does not read
-pub number_unread : (message : Payload) (fault : Fault) → expiry_of message ≡ Err fault → IsOk (expiry_of message) → ⊥
-number_unread message fault unread ok = let no = rw unread at ok in cc
-
 pub action_unread : (one : Single) (message : Payload) (fault : Fault) → one ≡ DoAction → expiry_of message ≡ Err fault → IsRefused one message fault
 action_unread one message fault is unread =
     rw is ((λ options log. (refl, refl, unread_expiry log message fault unread)), (λ options looks. looks), λ options log asks. number_unread message fault unread asks)

@@ -11,7 +11,8 @@ use Rattle.flight_calls.specs.Calls.{Call, asked_by}
 use Rattle.flight_calls.specs.Exchanges.{Exchange, exchange, IsOwn, WithOwn}
 use Rattle.flight_calls.specs.Laws.{AllKeptAsksNothing}
 use Rattle.flight_core.specs.Seats.{Seat, Moves}
-use Rattle.flight_calls.specs.Reacts.{Reacts, Answers, oldest_kept, expired_behind, AsksItself}
+use Rattle.flight_core.specs.Reacts.{Reacts}
+use Rattle.flight_calls.specs.Responds.{Answers, oldest_kept, expired_behind, AsksItself}
 
 -- each from the seat that the one before left
 abbrev pub Steps : Moves → Seat → List Exchange → Seat → Type 0

@@ -12,24 +12,12 @@ use Rattle.fetch_stream.specs.Streams.{StreamAt, Opens}
 use Rattle.flight_core.specs.Asked.{Asked}
 use Rattle.version_log.specs.Log.{Log, puts_in, floor_of, version}
 use Rattle.flight_core.specs.Machine.{FetchBy, FetchIn, OpensBy, OpensIn}
-use Rattle.flight_calls.specs.declared.answer.Answer.TheVariants.{Stream}
-use Rattle.flight_calls.specs.Calls.{ReplyTo}
-use Rattle.flight_calls.specs.Answered.{AnsweredBy, IsReplyOf, SendsReply}
+use Rattle.flight_core.specs.declared.answer.Answer.TheVariants.{Stream}
+use Rattle.flight_core.specs.Machine.{ReplyTo}
+use Rattle.flight_core.specs.Answered.{AnsweredBy, IsReplyOf}
+use Rattle.flight_calls.specs.Sends.{SendsReply}
+use Rattle.flight_core.proofs.Fetching.{shows}
 use Rattle.flight_calls.proofs.Streaming.{SendsFetch}
-
--- what the ticket shows, and its stream
-record Shows (log : Log) (ticket : Payload) (stream : StreamAt) : Type 0 where
-  handle : HandleAt
-  shown : handle_shown (floor_of log) (puts_in log) ticket ≡ Ok handle
-  opens : Opens (version log (version_of handle)) handle (Ok stream)
-
-shows : (log : Log) (ticket : Payload) (stream : StreamAt) → OpensIn log ticket (Ok stream) → Shows log ticket stream
-shows log ticket stream (inr lacks) = absurd cc
-shows log ticket stream (inl opens) = by (handle_shown (floor_of log) (puts_in log) ticket) refl opens
-  where
-    by : (seen : Result HandleAt Fault) → handle_shown (floor_of log) (puts_in log) ticket ≡ seen → OpensBy log seen (Ok stream) → Shows log ticket stream
-    by (Ok handle) is opens = record { handle = handle; shown = is; opens = opens }
-    by (Err cause) is opens = absurd cc
 
 pub stream_sent : (asked : Result Asked Fault) (log new : Log) (stream : StreamAt) (r : Result (Unit {0}) Fault) (a b : Option (List ℕ)) (before after : List ℕ) → AnsweredBy asked log (Stream stream) new
     → ((database : Database) (handle : HandleAt) → Opens database handle (Ok stream) → SendsFetch database handle r a b before after)
@@ -47,14 +35,3 @@ stream_sent asked log new stream r a b before after answered sends =
       fits = sent.fits;
       sent = sent.sent;
     }
-
--- where there is no stream, its fault is the answer
-pub not_opened : (log : Log) (ticket : Payload) (fault : Fault) → OpensIn log ticket (Err fault) → FetchIn log ticket [] (Some fault)
-not_opened log ticket fault (inr lacks) = inr (lacks.0, refl, cc)
-not_opened log ticket fault (inl opens) = inl (by (handle_shown (floor_of log) (puts_in log) ticket) fault opens)
-  where
-    by : (seen : Result HandleAt Fault) (fault : Fault) → OpensBy log seen (Err fault) → FetchBy log seen [] (Some fault)
-    by (Err cause) fault is = (refl, cc)
-    by (Ok handle) BadTicket none = (refl, none)
-    by (Ok handle) OutOfMemory tired = inl refl
-    by (Ok handle) fault never = absurd never

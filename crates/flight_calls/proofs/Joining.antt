@@ -12,9 +12,11 @@ use Rattle.version_log.specs.Log.{Log, Begins}
 use Rattle.flight_core.specs.Machine.{StepOn}
 use Rattle.flight_core.proofs.Running.{begins_on, begins_same, step_grows, info_right}
 use Rattle.flight_calls.specs.declared.setting.Options.{Options}
-use Rattle.flight_calls.specs.Calls.{Call, asked_by, ReplyTo}
+use Rattle.flight_core.specs.Machine.{ReplyTo}
+use Rattle.flight_calls.specs.Calls.{Call, asked_by}
 use Rattle.flight_core.specs.Seats.{Seat, Moves}
-use Rattle.flight_calls.specs.Reacts.{StartsAt, Responds, Answers, expired_behind}
+use Rattle.flight_core.specs.Reacts.{StartsAt}
+use Rattle.flight_calls.specs.Responds.{Responds, Answers, expired_behind}
 use Rattle.flight_calls.proofs.Keeping.{asking_grows}
 use Rattle.flight_calls.specs.Joining.{LaterCallsSee, logs_of, Replied, FetchServed, SeatsMeetJoined}
 

@@ -1,5 +1,6 @@
 -- Versions that are kept behind a reply, and the expiry of the others, which the server asks of itself.
-use Rattle.std.proofs.Common.{◌≡◌, ◌≢◌, ◌<◌, ◌≤◌, ℕ, zero, suc, ◌+◌, ◌-◌, ◌^◌, List, [], ◌∷◌, length, Option, Some, None, Result, Ok, Err, refl, ap, subst, inl, arith}
+use Rattle.std.proofs.Common.{◌≡◌, ◌≢◌, ◌<◌, ◌≤◌, ℕ, zero, suc, ◌+◌, ◌-◌, ◌^◌, Vec, List, [], ◌∷◌, length, Option, Some, None, Result, Ok, Err, refl, ap, subst, inl, arith}
+use Rattle.std.specs.Global.{Global}
 use Rattle.std.specs.Prelude.{codes}
 use lib.Utf8.{encode}
 use Rattle.byteorder.specs.Endian.{big_bytes}
@@ -18,36 +19,27 @@ use Rattle.flight_core.specs.Asked.{Asked, put, expire}
 use Rattle.version_log.specs.Log.{Log, added, Begins}
 use Rattle.flight_core.specs.Puts.{put_said}
 use Rattle.flight_core.specs.Machine.{PutStep}
-use Rattle.flight_calls.specs.declared.answer.Answer.{Answer}
-use Rattle.flight_calls.specs.declared.answer.Answer.TheVariants.{Whole, Floor, Stream}
+use Rattle.flight_core.specs.declared.answer.Answer.{Answer}
+use Rattle.flight_core.specs.declared.answer.Answer.TheVariants.{Whole, Accepted, Floor, Stream}
 use Rattle.flight_calls.specs.declared.request.Single.{Single}
 use Rattle.flight_calls.specs.declared.request.Single.TheVariants.{DoGet, GetFlightInfo, GetSchema, DoAction}
 use Rattle.flight_calls.specs.declared.setting.Options.{Options}
-use Rattle.flight_calls.specs.Calls.{ReplyTo, asked_with, info_asked}
+use Rattle.flight_core.specs.Machine.{ReplyTo}
+use Rattle.flight_calls.specs.Calls.{asked_with, info_asked}
 use Rattle.flight_core.specs.Seats.{Seat, Moves, Puts, Expires}
-use Rattle.flight_calls.specs.Reacts.{Reacts, Responds, HasAsked, HasLooked, oldest_kept, expired_behind, AsksItself}
-use Rattle.flight_calls.specs.Answered.{AnsweredBy, IsReplyOf, fault_in, ReactsBy, RespondsBy}
-use Rattle.flight_calls.proofs.Reacting.{begins_itself, looks_not, one_more_ask, said_ok, expiry_made, expiry_refused}
+use Rattle.flight_core.specs.Reacts.{Reacts}
+use Rattle.flight_calls.specs.Responds.{Responds, RespondsBy, oldest_kept, expired_behind, AsksItself}
+use Rattle.flight_core.specs.Answered.{AnsweredBy, HasVersion, IsReplyOf, fault_in, ReactsBy}
+use Rattle.flight_core.proofs.Reacting.{reacted, expiry_made, expiry_refused}
+use Rattle.flight_core.proofs.Running.{begins_itself}
 
 -- ---- an answer that is written
-
-looked_so : (moves : Moves) (asked : Result Asked Fault) (old new : Seat) (answer : Answer) (reply : ReplyAt) (r : ReactsBy moves asked old answer new) → IsReplyOf answer reply → reply.fault ≢ Some OutOfMemory → HasLooked asked old r.log new
-looked_so moves asked old new (Whole whole) reply r is other = r.looked (rw is at other)
-looked_so moves asked old new (Floor floor) reply r is other = r.looked tt
-looked_so moves asked old new (Stream stream) reply r is other = r.looked tt
-
-asks_so : (moves : Moves) (asked : Result Asked Fault) (old new : Seat) (answer : Answer) (reply : ReplyAt) (r : ReactsBy moves asked old answer new) → IsReplyOf answer reply → reply.fault ≢ Some OutOfMemory → HasAsked asked old r.log new
-asks_so moves asked old new (Whole whole) reply r is other = r.asks (rw is at other)
-asks_so moves asked old new (Floor floor) reply r is other = r.asks tt
-asks_so moves asked old new (Stream stream) reply r is other = r.asks tt
-
-abbrev reacted : (moves : Moves) (asked : Result Asked Fault) (old new : Seat) (answer : Answer) (reply : ReplyAt) (r : ReactsBy moves asked old answer new) → ReplyTo asked r.log reply r.after → IsReplyOf answer reply → Reacts moves asked old reply new
-reacted moves asked old new answer reply r step is = record { log = r.log; after = r.after; step = step; goes = r.goes; looked = looked_so moves asked old new answer reply r is; asks = asks_so moves asked old new answer reply r is }
 
 -- behind it the same versions are kept: a stream is no answer to a put
 kept_so : (keep : ℕ) (asked : Result Asked Fault) (log after : Log) (answer : Answer) (reply : ReplyAt) → AnsweredBy asked log answer after → IsReplyOf answer reply
     → expired_behind keep asked (fault_in answer) after ≡ expired_behind keep asked reply.fault after
 kept_so keep asked log after (Whole whole) reply answered is = rw is refl
+kept_so keep asked log after (Accepted payloads version) reply answered is = rw is refl
 kept_so keep asked log after (Floor floor) reply answered is = rw is refl
 kept_so keep asked log after (Stream stream) reply answered is = rw answered.3 refl
 
@@ -121,32 +113,25 @@ no_put keep options GetFlightInfo message fault after = info_no_put keep options
 no_put keep options GetSchema message fault after = refl
 no_put keep options DoAction message fault after = refl
 
--- a reply to a put that is held
-pub put_held : (moves : Moves) (keep : ℕ) (asked : Result Asked Fault) (old new : Seat) (reply : ReplyAt) → Responds moves keep asked old reply new → RespondsBy moves keep asked old (Whole reply) new
-put_held moves keep asked old new reply r = record {
-  middle = r.middle;
-  reacts = record { log = r.reacts.log; after = r.reacts.after; answered = r.reacts.step; goes = r.reacts.goes; looked = r.reacts.looked; asks = r.reacts.asks };
-  keeps = r.keeps;
-}
-
 -- ---- puts
 
--- a refused one, behind which all is kept
-pub put_lost : (moves : Moves) (keep : ℕ) (old new : Seat) (payloads : List Payload) (fault : Fault) → Reacts moves (Ok (put payloads)) old (refusal fault) new → Responds moves keep (Ok (put payloads)) old (refusal fault) new
-put_lost moves keep old new payloads fault r = record { middle = new; reacts = r; keeps = refl }
+-- a put whose answer has no number was refused, and after it all is kept
+pub put_lost : (moves : Moves) (keep : ℕ) (old new : Seat) (payloads : List Payload) (answer : Answer) → ((answers : Vec (List ℕ) Global) (version : ℕ) → answer ≢ Accepted answers version)
+    → HasVersion answer → ReactsBy moves (Ok (put payloads)) old answer new → RespondsBy moves keep (Ok (put payloads)) old answer new
+put_lost moves keep old new payloads (Whole reply) not refused r = record { middle = new; reacts = r; keeps = by reply.fault refl refused }
+  where
+    by : (fault : Option Fault) → reply.fault ≡ fault → reply.fault ≢ None → AsksItself moves (expired_behind keep (Ok (put payloads)) reply.fault r.after) new new
+    by (Some fault) is refused = rw is refl
+    by None is refused = absurd (refused is)
+put_lost moves keep old new payloads (Accepted answers version) not has r = absurd (not answers version refl)
+put_lost moves keep old new payloads (Floor floor) not has r = absurd has
+put_lost moves keep old new payloads (Stream stream) not has r = absurd has
 
--- the backend made it, and so many versions are kept behind it
-pub put_made : (moves : Moves) (keep number : ℕ) (old middle new : Seat) (payloads : List Payload) (made : Put) (answers : List Payload) (p : Puts moves (Ok number) old made middle) → put_said payloads ≡ Ok made
-    → PutStep p.log payloads answers None p.next → AsksItself moves (oldest_kept keep number) middle new → Responds moves keep (Ok (put payloads)) old (whole answers) new
-put_made moves keep number old middle new payloads made answers p said step asks = record {
+-- an accepted one, after which so many versions are kept
+pub put_kept : (moves : Moves) (keep : ℕ) (old middle new : Seat) (payloads : List Payload) (answers : Vec (List ℕ) Global) (version : ℕ) → ReactsBy moves (Ok (put payloads)) old (Accepted answers version) middle
+    → AsksItself moves (oldest_kept keep version) middle new → RespondsBy moves keep (Ok (put payloads)) old (Accepted answers version) new
+put_kept moves keep old middle new payloads answers version r asks = record {
   middle = middle;
-  reacts = record {
-    log = p.log;
-    after = p.next;
-    step = step;
-    goes = record { moved = p.moved; starts = inl (said_ok payloads made said); learnt = p.learnt; kept = p.kept; made = (added made ∷ [], p.at.1, p.at.2) };
-    looked = λ other looks. absurd (looks_not payloads looks);
-    asks = λ other asks. one_more_ask old middle p.asks;
-  };
-  keeps = subst (λ (newest : ℕ). AsksItself moves (oldest_kept keep newest) middle new) p.at.3 asks;
+  reacts = r;
+  keeps = subst (λ (newest : ℕ). AsksItself moves (oldest_kept keep newest) middle new) r.answered.1 asks;
 }

@@ -9,10 +9,10 @@ use Rattle.version_log.specs.Log.{Log}
 use Rattle.flight_core.specs.Machine.{PutStep, ExpireStep}
 use Rattle.flight_proto.specs.Expiry.{expiry_of}
 use Rattle.flight_core.specs.Puts.{put_said}
-use Rattle.flight_calls.specs.Calls.{ReplyTo}
+use Rattle.flight_core.specs.Machine.{ReplyTo}
 use Rattle.flight_calls.specs.Exchanges.{Exchange}
 use Rattle.flight_core.specs.Seats.{Seat, Moves}
-use Rattle.flight_calls.specs.Reacts.{Reacts}
+use Rattle.flight_core.specs.Reacts.{Reacts}
 use Rattle.flight_calls.specs.Laws.{accepted_by, marked_by, entries_of, entries_in, PutsAreMade}
 use Rattle.flight_calls.proofs.Exchanging.{Steps, exchanged}
 

@@ -7,7 +7,7 @@ use Rattle.version_log.specs.Log.{Log}
 use Rattle.flight_core.specs.Machine.{Run}
 use Rattle.flight_core.specs.Headline.{RunsMeetHeadline}
 use Rattle.flight_core.specs.Seats.{Seat, alone}
-use Rattle.flight_calls.specs.Calls.{ReplyTo}
+use Rattle.flight_core.specs.Machine.{ReplyTo}
 use Rattle.flight_calls.specs.Exchanges.{Exchange, with_asked, asked_in, with_reply, replies_in}
 use Rattle.flight_calls.specs.Laws.{AnswersAreARun, ServedMeetsHeadline}
 use Rattle.flight_calls.proofs.Exchanging.{Steps, exchanged}

@@ -20,7 +20,7 @@ use Rattle.fetch_stream.proofs.Answering.{gave, ended, was_refused}
 use Rattle.row_sources.specs.declared.turn.Patience.{Patience}
 use Rattle.row_sources.specs.declared.turn.Patience.TheVariants.{Endless}
 use Rattle.std.specs.Prelude.{◌≢◌}
-use Rattle.flight_calls.specs.Answered.{SendsReply, SendsRest}
+use Rattle.flight_calls.specs.Sends.{SendsReply, SendsRest}
 use Rattle.flight_calls.proofs.Writing.{messages_bytes, none_sent, nothing_sent, nothing_not_sent, parcel_sent, parcel_not_sent, rest_sent, status_sent}
 
 -- what a stream has given was sent

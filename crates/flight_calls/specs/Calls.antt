@@ -1,4 +1,4 @@
--- Calls and their answers.
+-- Calls, and what they ask.
 use Rattle.std.specs.Prelude.{◌≡◌, ℕ, List, [], ◌∷◌, ◌++◌, map, Option, Some, None, Result, Ok, Err, codes, if◌then◌else◌}
 use Rattle.std.specs.Str.{bytes_eq}
 use Rattle.scan_base.specs.declared.fault.Fault.{Fault}
@@ -9,9 +9,6 @@ use Rattle.grpc_frame.specs.declared.record.Record.TheVariants.{Open, Message, E
 use Rattle.flight_proto.specs.Wanted as wants
 use Rattle.flight_info.specs.Payloads.{Payload}
 use Rattle.flight_core.specs.Asked.{Asked, put, info, tables, schema, fetch, expire}
-use Rattle.flight_info.specs.Replies.{ReplyAt, refusal}
-use Rattle.version_log.specs.Log.{Log}
-use Rattle.flight_core.specs.Machine.{StepOn}
 use Rattle.flight_calls.specs.declared.setting.Options.{Options}
 use Rattle.flight_calls.specs.declared.request.Method.{Method}
 use Rattle.flight_calls.specs.declared.request.Method.TheVariants as method
@@ -26,8 +23,6 @@ pub record Call : Type 0 where
 -- the records of a call
 abbrev pub call_records : Call → List Record
 call_records call = Open call.path ∷ (map Message call.messages ++ End ∷ [])
-
--- ---- what a call asks
 
 -- the service's part of a path
 abbrev pub service : List ℕ
@@ -64,10 +59,3 @@ asked_of options (method.Single one) _ = Err BadProto
 -- what a call asks, or the fault of its path or of the number of its messages
 abbrev pub asked_by : Options → Call → Result Asked Fault
 asked_by options call = wanted (method_at call.path) UnknownMethod >>= λ found. asked_of options found call.messages
-
--- ---- what answers it
-
--- a step of the core on what is asked; or the fault, and the log stays
-abbrev pub ReplyTo : Result Asked Fault → Log → ReplyAt → Log → Type 0
-ReplyTo (Ok asked) log reply new = StepOn log asked reply new
-ReplyTo (Err fault) log reply new = (new ≡ log) × (reply ≡ refusal fault)

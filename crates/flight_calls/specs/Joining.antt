@@ -18,7 +18,8 @@ use Rattle.version_log.specs.Log.{Log, puts_in, database_of, Begins}
 use Rattle.flight_calls.specs.declared.setting.Options.{Options}
 use Rattle.flight_calls.specs.Calls.{Call, asked_by}
 use Rattle.flight_core.specs.Seats.{Seat, Moves}
-use Rattle.flight_calls.specs.Reacts.{StartsAt, Responds, Answers}
+use Rattle.flight_core.specs.Reacts.{StartsAt}
+use Rattle.flight_calls.specs.Responds.{Responds, Answers}
 use Rattle.flight_calls.specs.Owed.{Connection, Serves}
 
 -- What a call leaves is where every later call of the connection starts, but for a put or an expiry that was read, which goes by

@@ -15,7 +15,7 @@ use Rattle.flight_calls.specs.declared.setting.Options.{Options}
 use Rattle.flight_calls.specs.Calls.{Call}
 use Rattle.flight_calls.specs.Exchanges.{Exchange, exchanges_of, WithOwn, asked_in, replies_in}
 use Rattle.flight_core.specs.Seats.{Seat, Moves, alone}
-use Rattle.flight_calls.specs.Reacts.{Answers}
+use Rattle.flight_calls.specs.Responds.{Answers}
 use Rattle.flight_calls.specs.Owed.{Connection, Serves, EndsInside, behind_calls, answer_bytes, calls_bytes, items_owed, Wrote, Fails}
 
 -- A read failed: each of these answers was written whole, and behind the calls stand no more than a beginning of one.

@@ -1,5 +1,5 @@
 pub mod Calls
-pub mod Reacts
+pub mod Responds
 pub mod Owed
 pub mod Ending
 pub mod Requests
@@ -7,5 +7,5 @@ pub mod Reading
 pub mod Exchanges
 pub mod Laws
 pub mod Joining
-pub mod Answered
+pub mod Sends
 pub mod Watched

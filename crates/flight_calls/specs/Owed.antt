@@ -16,7 +16,7 @@ use Rattle.flight_info.specs.Payloads.{FitMessages}
 use Rattle.flight_calls.specs.declared.setting.Options.{Options}
 use Rattle.flight_calls.specs.Calls.{Call, call_records}
 use Rattle.flight_core.specs.Seats.{Seat, Moves}
-use Rattle.flight_calls.specs.Reacts.{Answers}
+use Rattle.flight_calls.specs.Responds.{Answers}
 
 -- ---- what follows the whole calls
 

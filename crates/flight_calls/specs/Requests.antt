@@ -10,7 +10,7 @@ use Rattle.flight_calls.specs.declared.request.Method.TheVariants as method
 use Rattle.flight_calls.specs.declared.request.Single.{Single}
 use Rattle.flight_calls.specs.declared.request.Request.{Request}
 use Rattle.flight_calls.specs.declared.request.Request.TheVariants as request
-use Rattle.flight_calls.specs.Reacts.{Asks, Looks}
+use Rattle.flight_core.specs.Reacts.{Asks, Looks}
 use Rattle.flight_core.specs.Machine.{StepOn}
 use Rattle.flight_calls.specs.Calls.{Call, method_at, asked_with, asked_by}
 

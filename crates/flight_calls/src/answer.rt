@@ -15,15 +15,16 @@ ghost use Rattle.flight_proto.specs.Expiry.{floor_bytes};
 ghost use Rattle.fetch_stream.specs.Fetches.{FetchAt};
 ghost use Rattle.fetch_stream.specs.Streams.{Opens};
 ghost use Rattle.row_sources.specs.declared.turn.Patience.TheVariants.{Endless};
+ghost use Rattle.flight_core.specs.Answered.{AnsweredBy, IsReplyOf, FitsMessages};
 ghost use Rattle.flight_core.specs.Asked.{Asked};
+ghost use Rattle.flight_core.specs.Machine.{ReplyTo};
 ghost use Rattle.version_log.specs.Log.{Log};
-ghost use Rattle.flight_calls.specs.Calls.{ReplyTo};
 ghost use Rattle.flight_calls.specs.Owed.{answer_bytes, last_status};
-ghost use Rattle.flight_calls.specs.Answered.{AnsweredBy, IsReplyOf, FitsMessages, WritesReply, SendsReply, SendsRest};
+ghost use Rattle.flight_calls.specs.Sends.{WritesReply, SendsReply, SendsRest};
 
 use crate::setting::Setting;
 use fetch_stream::{Executor, FetchStream, Opening, Parcel, Payload, Payloads, ReadsPayloads};
-use flight_core::Reply;
+use flight_core::{Answer, Reply};
 use flight_core::laws::streams_answer;
 use flight_proto::floor_message;
 use grpc_frame::{Outbox, Output};
@@ -34,17 +35,6 @@ use work_watch::Watches;
 
 // How many rows are looked at before it is looked whether the client is still there.
 const LOOKED_ROWS: usize = 1_048_576;
-
-/// What answers a call.
-#[derive(Drop)]
-pub enum Answer {
-    /// A reply.
-    Whole(Reply),
-    /// The floor behind an expiry. Writing it takes no memory.
-    Floor(u64),
-    /// The payloads of a fetch, one at a time, and then a Status. Behind the first one the stream of the others is made.
-    Stream(Opening),
-}
 
 /// Writes an answer: each payload in a Message, of which a large part is not copied, and then the Status. Where it is
 /// small it is one write. The payloads of a parcel of a stream are sent before the next one is made, and of them no more than an
@@ -92,6 +82,7 @@ fn send_answer<W: Output, X: Executor>(
 {
     match answer {
         Answer::Whole(reply) => send_reply(writer, outbox, &reply),
+        Answer::Accepted { payloads, .. } => send_reply(writer, outbox, &Reply::whole(payloads)),
         Answer::Floor(floor) => send_floor(writer, outbox, floor),
         Answer::Stream(opening) => send_fetch(setting, writer, outbox, opening),
     }
@@ -388,7 +379,7 @@ struct Pace {
 // Each payload is sent before the next one is asked for, and behind the last one the Status.
 impl<'w, 'o, W: Output> ReadsPayloads for Sending<'w, 'o, W> {
     ghost use Rattle.std.specs.Prelude.{◌≡◌, ◌<◌};
-    ghost use Rattle.flight_calls.specs.Answered.{SendsStream};
+    ghost use Rattle.flight_calls.specs.Sends.{SendsStream};
 
     ghost takes = { λ s. CanFail (W.failures s.writer.now) };
 

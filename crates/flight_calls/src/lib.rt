@@ -6,11 +6,11 @@
 
 mod answer;
 mod call;
+mod keep;
 pub mod laws;
 mod request;
 mod server;
 mod setting;
-mod step;
 
 pub use crate::server::{serve, serve_alone};
 pub use crate::setting::{Options, Setting};

@@ -3,17 +3,19 @@
 ghost use Rattle.std.specs.Prelude.{◌≡◌, ◌++◌, ◌∷◌, [], ℕ, List, Some, Ok, IfSome};
 ghost use Rattle.flight_info.specs.Payloads.{Payload};
 ghost use Rattle.flight_calls.specs.declared.request.Method.TheVariants as variant;
-ghost use Rattle.flight_calls.specs.Calls.{Call, method_at, asked_with, asked_by};
-ghost use Rattle.flight_calls.specs.Answered.{ReactsBy, RespondsBy, FitsMessages};
+ghost use Rattle.flight_proto.specs.Wanted.{wanted_in};
+ghost use Rattle.flight_core.specs.Answered.{FitsMessages};
+ghost use Rattle.flight_core.specs.Operation.{StandsFor};
+ghost use Rattle.flight_calls.specs.Calls.{Call, method_at, info_asked, asked_with, asked_by};
+ghost use Rattle.flight_calls.specs.Responds.{RespondsBy};
 ghost use Rattle.flight_calls.specs.Requests.{IsRefused, Holds};
 
-use crate::answer::Answer;
+use crate::keep::answer_put;
 use crate::setting::Options;
-use crate::step::{expire_on, fetch_on, info_on, put_on, schema_on};
 use bytes::Bytes;
-use flight_core::{Backend, PutReader, Reply};
-use flight_proto::read_expiry;
+use flight_core::{Answer, Backend, Operation, PutReader, Reply, step};
 use flight_proto::wanted::MAX_REQUEST_LEN;
+use flight_proto::{Wanted, read_expiry, read_wanted};
 use scan_base::Fault;
 use std::alloc::Global;
 
@@ -141,7 +143,7 @@ impl Request {
         }
     }
 
-    /// What answers the call, once its End came: a step of the core over the backend, or the stream of a fetch. F4 where
+    /// What answers the call, once its End came: that of a step of the core over the backend. F4 where
     /// another method than DoPut has no message. Behind an accepted put the versions that are not kept are expired.
     pub fn answer<B: Backend>(self, alloc: Global, backend: &mut B, options: Options) -> Answer
         ensures reply { (call : Call) → Holds self call
@@ -149,12 +151,10 @@ impl Request {
         ensures short { FitsMessages result }
     {
         match self {
-            Request::Put(reader) => {
-                Answer::Whole(put_on(alloc, backend, reader.into_put(), options.keep))
-            }
+            Request::Put(reader) => answer_put(alloc, backend, reader.into_put(), options.keep),
             Request::Awaits(_) => Answer::Whole(Reply::refusal(alloc, Fault::BadProto)),
             Request::Asks(method, message) => {
-                answer_message(alloc, backend, method, message.as_slice(), options)
+                step(alloc, backend, operation_of(method, message.as_slice(), options))
             }
             Request::Settled(fault) => Answer::Whole(Reply::refusal(alloc, fault)),
             Request::Refused(fault) => Answer::Whole(Reply::refusal(alloc, fault)),
@@ -162,22 +162,28 @@ impl Request {
     }
 }
 
-// What answers a call of one message.
-fn answer_message<B: Backend>(
-    alloc: Global,
-    backend: &mut B,
-    method: Single,
-    message: &[u8],
-    options: Options,
-) -> Answer
-    ensures reply { ReactsBy B.moves (Ok (asked_with options method message.now))
-        (B.seat backend.old) result (B.seat backend.new) }
-    ensures short { FitsMessages result }
+// What the one message of a call asks.
+fn operation_of(method: Single, message: &[u8], options: Options) -> Operation<'_>
+    ensures { StandsFor result (asked_with options method message.now) }
 {
     match method {
-        Single::DoGet => fetch_on(alloc, backend, message, options.workers),
-        Single::GetFlightInfo => { Answer::Whole(info_on(alloc, backend, message, options.parts)) }
-        Single::GetSchema => Answer::Whole(schema_on(alloc, backend, message)),
-        Single::DoAction => expire_on(alloc, backend, message),
+        Single::DoGet => Operation::Fetch {
+            ticket: message,
+            workers: options.workers,
+        },
+        Single::GetFlightInfo => info_of(message, options.parts),
+        Single::GetSchema => Operation::Schema { payload: message },
+        Single::DoAction => Operation::Expire { action: message },
+    }
+}
+
+// An info of the list of tables, where the command wants that, and else of a query.
+fn info_of(payload: &[u8], parts: u32) -> Operation<'_>
+    ensures { StandsFor result (info_asked (wanted_in payload.now) payload.now parts) }
+{
+    match read_wanted(payload) {
+        Ok(Wanted::Tables) => Operation::Tables { payload, parts },
+        Ok(Wanted::Rows(_)) => Operation::Info { payload, parts },
+        Err(_) => Operation::Info { payload, parts },
     }
 }

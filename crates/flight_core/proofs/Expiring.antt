@@ -30,18 +30,15 @@ floor_fits floor =
 pub number_read : (action : Payload) (version : ℕ) → expiry_of action ≡ Ok version → IsOk (expiry_of action)
 number_read action version said = rw said refl
 
+-- and one that does not
+pub number_unread : (action : Payload) (fault : Fault) → expiry_of action ≡ Err fault → IsOk (expiry_of action) → ⊥
+number_unread action fault unread ok = let no = rw unread at ok in cc
+
 -- the mark was added, and the answer is the floor behind it
 pub expired_reply : (log new : Log) (action : Payload) (version floor : ℕ) (answers : List Payload) → expiry_of action ≡ Ok version
     → IsExpired (Ok floor) log version new → answers ≡ floor_bytes floor ∷ [] → ExpireStep log action answers None new
 expired_reply log new action version floor answers said is whole =
     (version, said, is.0, is.1, whole ∙ ap (λ (n : ℕ). floor_bytes n ∷ []) is.2)
-
--- the same of an answer that was made before the mark
-pub answered_before : (log new : Log) (action : Payload) (version floor said : ℕ) (answers : List Payload) → expiry_of action ≡ Ok version
-    → IsExpired (Ok floor) log version new → said ≡ max (floor_of log) version → answers ≡ floor_bytes said ∷ [] → ExpireStep log action answers None new
-answered_before log new action version floor said answers read is now whole =
-    let behind : floor ≡ said = is.2 ∙ ap floor_of is.1 ∙ floor_of-expired log version ∙ sym now in
-    expired_reply log new action version floor answers read is (whole ∙ ap (λ (n : ℕ). floor_bytes n ∷ []) (sym behind))
 
 -- an action that does not read is refused for its own fault
 pub unread_expiry : (log : Log) (action : Payload) (fault : Fault) → expiry_of action ≡ Err fault → RefusedBy (expiry_due log action) fault

@@ -44,17 +44,6 @@ pub refused_reply : (log : Log) (payloads : List Payload) (put : Put) (fault : F
 refused_reply log payloads put fault said is =
     behind (put_glance payloads) (database_put log payloads) fault (glance_good payloads put said) (λ other. rw said (is other))
 
--- the fault of a put that is refused, or memory
-pub due : (database : Database) (n : ℕ) (put : Put) (first : Option Fault) (fault : Fault) → first ≡ first_fault (put_faults database n put) → fault ≡ unwrap_or first OutOfMemory
-    → fault ≢ OutOfMemory → after database n put ≡ Err fault
-due database n put (Some f) fault e is other = rw (← e) (ap Err (sym is))
-due database n put None fault e is other = absurd (other is)
-
-pub due_exactly : (database : Database) (n : ℕ) (put : Put) (first : Option Fault) (fault : Fault) → first ≡ first_fault (put_faults database n put) → fault ≡ unwrap_or first OutOfMemory
-    → IfErr (after database n put) (λ cause. Some fault ≡ Some cause)
-due_exactly database n put (Some f) fault e is = rw (← e) (ap Some is)
-due_exactly database n put None fault e is = rw (← e) tt
-
 -- the answer to a put
 pub answer_fits : (rows : ℤ) (payload : List ℕ) → payload ≡ rows_put_bytes rows → length payload ≤ most_message_bytes
 answer_fits rows payload is =

@@ -10,4 +10,8 @@ pub mod Laws
 pub mod Versions
 pub mod Counts
 pub mod Seats
+pub mod Operation
+pub mod Reacts
+pub mod Answered
+pub mod Collected
 pub mod Stored

@@ -9,7 +9,7 @@ use Rattle.table_versions.specs.Database.{Database, Put, after}
 use Rattle.flight_core.specs.Refusals.{RefusedFor, RefusedBy}
 use Rattle.flight_info.specs.Payloads.{Payload}
 use Rattle.flight_core.specs.Asked.{Asked, put, info, tables, schema, fetch, expire}
-use Rattle.flight_info.specs.Replies.{ReplyAt}
+use Rattle.flight_info.specs.Replies.{ReplyAt, refusal}
 use Rattle.version_log.specs.Log.{Log, added, expired, puts_in, floor_of, database_of, version}
 use Rattle.flight_core.specs.Puts.{put_glance, put_said}
 use Rattle.flight_core.specs.Shown.{handle_shown}
@@ -82,6 +82,11 @@ StepOn log (schema payload) reply new = (new ≡ log)
     × SchemaAt (database_of log) (schema_wanted payload) reply.payloads reply.fault
 StepOn log (fetch ticket workers) reply new = (new ≡ log) × FetchIn log ticket reply.payloads reply.fault
 StepOn log (expire action) reply new = ExpireStep log action reply.payloads reply.fault new
+
+-- a step of the core on what is asked; or the fault for which it never came to the core, and the log stays
+abbrev pub ReplyTo : Result Asked Fault → Log → ReplyAt → Log → Type 0
+ReplyTo (Ok asked) log reply new = StepOn log asked reply new
+ReplyTo (Err fault) log reply new = (new ≡ log) × (reply ≡ refusal fault)
 
 -- A fetch is refused for the fault that it shows before any memory is taken, and never for want of memory in its place.
 abbrev pub FetchShown : Log → Payload → Option Fault → Type 0

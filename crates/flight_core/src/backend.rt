@@ -11,8 +11,9 @@ use table_versions::{Put, Snapshot};
 
 /// The versions of the catalog as one connection sees them.
 pub trait Backend {
-    ghost use Rattle.std.specs.Prelude.{◌≡◌, ◌≤◌, ◌<◌, ◌⊎◌, IfOk, IfErr};
+    ghost use Rattle.std.specs.Prelude.{◌≡◌, ◌≤◌, ◌<◌, ◌⊎◌, Bool, true, Err, IfOk, IfErr};
     ghost use Rattle.scan_base.specs.declared.fault.Fault.TheVariants.{OutOfMemory, VersionExpired, VersionUnknown};
+    ghost use Rattle.table_versions.specs.Database as database;
     ghost use Rattle.table_versions.specs.Stored.{put_of, tables_of};
     ghost use Rattle.version_log.specs.Log.{Log, puts_in, floor_of, database_of, version};
     ghost use Rattle.flight_core.specs.Seats.{Seat, AsksNone, AsksOnce, Expires, Learns, LooksOnce, MayLook, Puts};
@@ -23,6 +24,14 @@ pub trait Backend {
     // Which steps, from a log to a log, it takes from a seat to a seat.
     ghost moves: { Seat → Log → Log → Seat → Type 0 };
 
+    // What holds of each put that it accepts.
+    ghost accepts: { database.Put → Type 0 };
+
+    // Whether it knows without memory which versions are there. Then `at` is refused memory only for one that is.
+    ghost KNOWS: { Bool };
+
+    const KNOWS: bool;
+
     /// Makes the next version, with this put, gives its number, and learns of it.
     ///
     /// # Errors
@@ -30,7 +39,8 @@ pub trait Backend {
     /// The first fault for which the put is refused, and F21 (`Fault::OutOfMemory`) only for a put that none of them refuses.
     /// Nothing has changed then.
     fn put(&mut self, alloc: Global, put: Put) -> Result<u64, Fault>
-        ensures { Puts moves result (seat self.old) (put_of put) (seat self.new) };
+        ensures puts { Puts moves result (seat self.old) (put_of put) (seat self.new) }
+        ensures typed { IfOk result (λ _. accepts (put_of put)) };
 
     /// Marks the versions below a number as expired, gives the floor behind the mark, and learns of it. It is no look.
     ///
@@ -67,6 +77,8 @@ pub trait Backend {
             × (number ≤ puts_in (seat self.new).log) × (snapshot.number ≡ number)
             × (tables_of snapshot.catalog ≡ version (seat self.new).log number)) }
         ensures kept { IfOk result (λ _. floor_of (seat self.new).log ≤ number) }
+        ensures known { result ≡ Err OutOfMemory → KNOWS ≡ true → LooksOnce (seat self.old) (seat self.new)
+            × (number ≤ puts_in (seat self.new).log) × (floor_of (seat self.new).log ≤ number) }
         ensures err { IfErr result (λ fault. ((fault ≡ OutOfMemory) × MayLook (seat self.old) (seat self.new))
             ⊎ (((fault ≡ VersionUnknown) × LooksOnce (seat self.old) (seat self.new)
             × (puts_in (seat self.new).log < number))
@@ -164,13 +176,20 @@ impl Alone {
 }
 
 impl Backend for Alone {
-    ghost use Rattle.std.specs.Prelude.{refl};
+    ghost use Rattle.std.specs.Prelude.{refl, true};
     ghost use Rattle.std.proofs.Common.{◌∙◌};
+    ghost use Rattle.table_versions.specs.Valid.{IsPut};
     ghost use Rattle.flight_core.specs.Seats.{alone};
 
     ghost seat = { λ a. a };
 
     ghost moves = { alone };
+
+    ghost accepts = { IsPut };
+
+    ghost KNOWS = { true };
+
+    const KNOWS: bool = true;
 
     fn put(&mut self, alloc: Global, put: Put) -> Result<u64, Fault> {
         self.asks.raise();

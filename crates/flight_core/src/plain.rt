@@ -1,12 +1,12 @@
 //! All versions in a list, without threads.
 
 ghost use Rattle.std.specs.Prelude.{◌≡◌, ◌≢◌, ◌⊎◌, ◌≤◌, ◌<◌, ◌++◌, ◌∷◌, [], IfOk, IfErr, IsOk, Ok, Err};
-ghost use Rattle.scan_base.specs.Reading.{RefusesFirst, first_fault};
+ghost use Rattle.scan_base.specs.Reading.{RefusesFirst};
 ghost use Rattle.flight_core.specs.Versions.{numbered};
 ghost use Rattle.scan_base.specs.declared.fault.Fault.TheVariants.{OutOfMemory, VersionExpired, VersionUnknown};
 ghost use Rattle.version_log.specs.Expiry.{IsExpired};
 ghost use Rattle.version_log.specs.Log.{added, puts_in, floor_of, database_of, version};
-ghost use Rattle.table_versions.specs.Database.{after, put_faults};
+ghost use Rattle.table_versions.specs.Database.{after};
 ghost use Rattle.table_versions.specs.Stored.{put_of, tables_of};
 ghost use Rattle.table_versions.specs.Valid.{IsPut};
 
@@ -16,7 +16,7 @@ use std::alloc::Global;
 use std::marker::Model;
 use std::sync::Arc;
 use std::{mem, snapshot};
-use table_versions::{CatalogVersion, Put, Snapshot, apply, refusal};
+use table_versions::{CatalogVersion, Put, Snapshot, apply};
 use version_log::{Entries, Entry};
 
 /// The versions that are not expired. Contracts see them as the log.
@@ -122,13 +122,6 @@ impl Plain {
             return Err(Fault::VersionExpired);
         }
         Ok(self.version(number))
-    }
-
-    /// Why a put is refused, if it is. It takes no memory.
-    pub fn refusal(&self, put: &Put) -> Option<Fault>
-        ensures { result ≡ first_fault (put_faults (database_of self.now) (puts_in self.now) (put_of put.now)) }
-    {
-        refusal(self.current(), put)
     }
 
     /// Makes the next version, with this put.

@@ -4,7 +4,7 @@ use crate::answers::{bits, bytes, cut, told};
 use crate::pieces::{Named, bytes_of};
 use crate::runs::rows_in_runs;
 use bytes::Bytes;
-use flight_core::{Event, OneWorker, Plain, Reply, step};
+use flight_core::{Alone, Event, OneWorker, Plain, Reply, reply_to};
 use hash_seed::HashSeed;
 use scan_base::Fault;
 use std::alloc::Global;
@@ -13,7 +13,7 @@ use std::alloc::Global;
 #[derive(Drop)]
 pub struct Script {
     names: Vec<Named>,
-    plain: Plain,
+    alone: Alone,
     seed: HashSeed,
 }
 
@@ -22,7 +22,7 @@ impl Script {
     pub fn new(alloc: Global, seed: HashSeed) -> Result<Script, Fault> {
         Ok(Script {
             names: Vec::new(alloc),
-            plain: Plain::new(alloc, seed)?,
+            alone: Alone::new(Plain::new(alloc, seed)?),
             seed,
         })
     }
@@ -55,7 +55,7 @@ impl Script {
     // The reply to a put of these words.
     fn put(&mut self, alloc: Global, words: &str) -> Result<Reply, Fault> {
         let event = Event::Put(self.payloads(alloc, words)?);
-        Ok(step(alloc, &OneWorker, &mut self.plain, &event))
+        reply_to(alloc, &OneWorker, &mut self.alone, &event)
     }
 
     // The reply to a fetch of this ticket.
@@ -64,7 +64,7 @@ impl Script {
             ticket: self.payload(alloc, word)?,
             workers: 1,
         };
-        Ok(step(alloc, &OneWorker, &mut self.plain, &event))
+        reply_to(alloc, &OneWorker, &mut self.alone, &event)
     }
 
     /// What a line is answered, if it is.
@@ -78,7 +78,7 @@ impl Script {
             "put" => self.put(alloc, rest)?,
             "fetch" | "cut" | "bits" | "runs" => self.fetch(alloc, rest)?,
             "log" => {
-                self.plain = Plain::new(alloc, self.seed)?;
+                self.alone = Alone::new(Plain::new(alloc, self.seed)?);
                 return Ok(Some(String::from_str(alloc, "log")?));
             }
             _ => return Ok(Some(String::from_str(alloc, line)?)),

@@ -110,13 +110,19 @@ impl<'a, C: CellName, N: SeatName, R: Wait + Drop, H: Wait> Shared<'a, C, N, R, 
 }
 
 impl<'a, C: CellName, N: SeatName, R: Wait + Drop, H: Wait> Backend for Shared<'a, C, N, R, H> {
-    ghost use Rattle.std.specs.Prelude.{[], ◌++◌, refl};
+    ghost use Rattle.std.specs.Prelude.{[], ◌++◌, false, refl};
     ghost use Rattle.std.proofs.Common.{◌∙◌, sym, ap, append-nil, append_assoc};
     ghost use Rattle.shared_calls.specs.Sharing.{onward};
 
     ghost seat = { λ s. s };
 
     ghost moves = { onward };
+
+    ghost accepts = { λ _. Unit {0} };
+
+    ghost KNOWS = { false };
+
+    const KNOWS: bool = false;
 
     fn put(&mut self, alloc: Global, put: Put) -> Result<u64, Fault> {
         self.putter.put(self.rt, alloc, &mut self.scanner, put)

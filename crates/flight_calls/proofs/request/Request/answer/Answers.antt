@@ -2,7 +2,7 @@ use Rattle.scan_base.specs.declared.fault.Fault.TheVariants.{BadProto}
 use Rattle.std.proofs.Common.{Ok, Err, refl}
 use Rattle.flight_core.specs.Asked.{put}
 use Rattle.flight_info.specs.Replies.{refusal}
-use Rattle.flight_calls.specs.declared.answer.Answer.TheVariants.{Whole}
+use Rattle.flight_core.specs.declared.answer.Answer.TheVariants.{Whole}
 use Rattle.flight_calls.specs.Calls.{asked_with}
 use Rattle.flight_calls.proofs.Asking.{refused_now, asks_put, asks_none, asks_one}
 use Rattle.flight_calls.proofs.Keeping.{all_kept, no_put, put_held}

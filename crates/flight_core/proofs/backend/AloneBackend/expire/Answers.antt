@@ -1,4 +1,4 @@
-use Rattle.flight_core.proofs.Alone.{expires_alone}
+use Rattle.flight_core.proofs.Lone.{expires_alone}
 use Rattle.flight_core.proofs.backend.AloneBackend.expire.Goals as goal
 
 pub returns : goal.returns

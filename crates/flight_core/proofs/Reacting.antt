@@ -1,0 +1,240 @@
+-- Steps over a backend.
+use Rattle.std.proofs.Common.{◌≡◌, ◌≢◌, ◌<◌, ◌≤◌, ◌+◌, ℕ, Vec, List, [], ◌∷◌, ◌++◌, All, Option, Some, None, Result, Ok, Err, refl, sym, ap, subst, ◌∙◌, append-nil, inl, inr, arith}
+use Rattle.std.specs.Global.{Global}
+use Rattle.std.specs.Prelude.{IsOk}
+use Rattle.std.proofs.lemmas.List.Elements.{All-push}
+use Rattle.scan_base.specs.declared.fault.Fault.{Fault}
+use Rattle.scan_base.specs.declared.fault.Fault.TheVariants.{OutOfMemory}
+use Rattle.table_versions.specs.Database.{Put, after}
+use Rattle.flight_proto.specs.Expiry.{expiry_of, floor_bytes}
+use Rattle.flight_info.specs.Payloads.{Payload}
+use Rattle.flight_info.specs.Replies.{ReplyAt, refusal}
+use Rattle.version_log.specs.Log.{Log, added, expired, puts_of, puts_in, database_of, Begins}
+use Rattle.version_log.proofs.Logs.{puts_of-added, puts_of-expired}
+use Rattle.flight_core.specs.declared.answer.Answer.{Answer}
+use Rattle.flight_core.specs.declared.answer.Answer.TheVariants.{Whole, Accepted, Floor, Stream}
+use Rattle.flight_core.specs.Answered.{fault_in, IsReplyOf, ReactsBy}
+use Rattle.flight_core.specs.Asked.{Asked, put, info, tables, schema, fetch, expire}
+use Rattle.flight_core.specs.Machine.{PutStep, ReplyTo}
+use Rattle.flight_core.specs.Puts.{put_glance, put_said}
+use Rattle.flight_core.specs.Reacts.{StartsAt, Looks, Asks, Goes, HasAsked, HasLooked, MayAsk, Reacts}
+use Rattle.flight_core.specs.Refusals.{RefusedFor}
+use Rattle.flight_core.specs.Seats.{Seat, Moves, AsksNone, AsksOnce, Expires, Learns, LooksOnce, MarksAt, Puts, PutsAt}
+use Rattle.flight_core.proofs.Arriving.{glance_good}
+use Rattle.flight_core.proofs.Expiring.{number_read, number_unread, expired_reply, unread_expiry, refused_expiry}
+use Rattle.flight_core.proofs.Replies.{refused_reply, unread_reply}
+use Rattle.flight_core.proofs.Running.{begins_itself}
+
+-- ---- how a step goes
+
+starts_begins : (asked : Result Asked Fault) (seen log : Log) → Begins seen log → StartsAt asked seen log
+starts_begins (Ok (put payloads)) seen log b = inr b
+starts_begins (Ok (info payload parts)) seen log b = b
+starts_begins (Ok (tables payload parts)) seen log b = b
+starts_begins (Ok (schema payload)) seen log b = b
+starts_begins (Ok (fetch ticket workers)) seen log b = b
+starts_begins (Ok (expire action)) seen log b = inr b
+starts_begins (Err fault) seen log b = b
+
+-- by what changes nothing, to the log that the seat has then seen
+pub goes_by_look : (moves : Moves) (asked : Result Asked Fault) (old new : Seat) → Learns moves old new → Goes moves asked old new.log new.log new
+goes_by_look moves asked old new learns = record {
+  moved = learns.2;
+  starts = starts_begins asked old.log new.log learns.0;
+  learnt = begins_itself new.log;
+  kept = learns.0;
+  made = ([], sym (append-nil new.log), learns.1 ∙ sym (append-nil old.made));
+}
+
+goes_nowhere : (moves : Moves) → ((s : Seat) → moves s s.log s.log s) → (asked : Result Asked Fault) (s : Seat) → Goes moves asked s s.log s.log s
+goes_nowhere moves stays asked s = goes_by_look moves asked s s (begins_itself s.log, refl, stays s)
+
+-- ---- asks
+
+-- one ask is one more
+one_more_ask : (old new : Seat) → AsksOnce old new → old.asks < new.asks
+one_more_ask old new once = omega (arith, once)
+
+-- nobody is asked
+asks_none : (asked : Result Asked Fault) (old new : Seat) → AsksNone old new → MayAsk asked old new
+asks_none asked old new none = record { still = λ not. none; once = omega (arith, none) }
+
+-- what asks, whatever the log is, asks once
+asks_once : (asked : Result Asked Fault) (old new : Seat) → Asks asked old.log → AsksOnce old new → MayAsk asked old new
+asks_once asked old new asks one = record { still = λ not. absurd (not asks); once = omega (arith, one) }
+
+-- ---- replies
+
+-- what does not come to the backend
+pub reacts_unseen : (moves : Moves) → ((s : Seat) → moves s s.log s.log s) → (asked : Result Asked Fault) (s : Seat) (reply : ReplyAt) → ReplyTo asked s.log reply s.log → (Looks asked → ⊥)
+    → (reply.fault ≢ Some OutOfMemory → Asks asked s.log → ⊥) → ReactsBy moves asked s (Whole reply) s
+reacts_unseen moves stays asked s reply step unseen unasked = record {
+  log = s.log;
+  after = s.log;
+  answered = step;
+  goes = goes_nowhere moves stays asked s;
+  looked = λ other looks. absurd (unseen looks);
+  asks = λ other asks. absurd (unasked other asks);
+  may_ask = asks_none asked s s refl;
+}
+
+-- a look, of which the reply is a step
+pub reacts_by_look : (moves : Moves) (asked : Result Asked Fault) (old new : Seat) (reply : ReplyAt) → Learns moves old new → AsksNone old new
+    → ReplyTo asked new.log reply new.log → (reply.fault ≢ Some OutOfMemory → Looks asked → old.looks < new.looks) → (Asks asked new.log → ⊥) → ReactsBy moves asked old (Whole reply) new
+reacts_by_look moves asked old new reply learns none step looked asks_not = record {
+  log = new.log;
+  after = new.log;
+  answered = step;
+  goes = goes_by_look moves asked old new learns;
+  looked = λ other looks. (looked other looks, refl);
+  asks = λ other asks. absurd (asks_not asks);
+  may_ask = asks_none asked old new none;
+}
+
+pub one_more_look : (old new : Seat) → LooksOnce old new → old.looks < new.looks
+one_more_look old new once = omega (arith, once)
+
+-- what is refused before it comes to the core
+pub unasked : (moves : Moves) → ((s : Seat) → moves s s.log s.log s) → (s : Seat) (fault : Fault) → ReactsBy moves (Err fault) s (Whole (refusal fault)) s
+unasked moves stays s fault = reacts_unseen moves stays (Err fault) s (refusal fault) (refl, refl) (λ looks. looks) (λ other asks. asks)
+
+-- ---- an answer that is written
+
+begun : (answer : Answer) (reply : ReplyAt) → IsReplyOf answer reply → reply.fault ≢ Some OutOfMemory → fault_in answer ≢ Some OutOfMemory
+begun (Whole whole) reply is other = rw is at other
+begun (Accepted payloads version) reply is other = λ e. let no = e in cc
+begun (Floor floor) reply is other = λ e. let no = e in cc
+begun (Stream stream) reply is other = λ e. let no = e in cc
+
+pub reacted : (moves : Moves) (asked : Result Asked Fault) (old new : Seat) (answer : Answer) (reply : ReplyAt) (r : ReactsBy moves asked old answer new) → ReplyTo asked r.log reply r.after → IsReplyOf answer reply
+    → Reacts moves asked old reply new
+reacted moves asked old new answer reply r step is = record {
+  log = r.log;
+  after = r.after;
+  step = step;
+  goes = r.goes;
+  looked = λ other. r.looked (begun answer reply is other);
+  asks = λ other. r.asks (begun answer reply is other);
+  may_ask = r.may_ask;
+}
+
+-- ---- puts
+
+looks_not : (payloads : List Payload) → Looks (Ok (put payloads)) → ⊥
+looks_not payloads looks = looks
+
+-- what is refused as it is read says no put
+unsaid : (payloads : List Payload) (fault : Fault) → RefusedFor (put_glance payloads) (put_said payloads) fault → fault ≢ OutOfMemory → IsOk (put_said payloads) → ⊥
+unsaid payloads fault = by (put_glance payloads) (put_said payloads) refl refl
+  where
+    by : (glance : Result (Unit {0}) Fault) (said : Result Put Fault) → put_glance payloads ≡ glance → put_said payloads ≡ said → RefusedFor glance said fault → fault ≢ OutOfMemory → IsOk said → ⊥
+    by glance (Err cause) seen is refused other ok = let no = ok in cc
+    by (Err cause) (Ok made) seen is refused other ok = glance_good payloads made is cause seen
+    by (Ok done) (Ok made) seen is refused other ok = let no = refused other in cc
+
+-- its payloads are refused
+pub put_unread : (moves : Moves) → ((s : Seat) → moves s s.log s.log s) → (s : Seat) (payloads : List Payload) (fault : Fault) → RefusedFor (put_glance payloads) (put_said payloads) fault
+    → ReactsBy moves (Ok (put payloads)) s (Whole (refusal fault)) s
+put_unread moves stays s payloads fault is =
+    reacts_unseen moves stays (Ok (put payloads)) s (refusal fault) (refl, refl, unread_reply s.log payloads fault is) (looks_not payloads)
+    (λ other asks. unsaid payloads fault is (λ e. other (ap Some e)) asks)
+
+-- memory is refused for its answer
+pub put_tired : (moves : Moves) → ((s : Seat) → moves s s.log s.log s) → (s : Seat) (payloads : List Payload) (made : Put) → put_said payloads ≡ Ok made
+    → ReactsBy moves (Ok (put payloads)) s (Whole (refusal OutOfMemory)) s
+put_tired moves stays s payloads made said =
+    reacts_unseen moves stays (Ok (put payloads)) s (refusal OutOfMemory)
+    (refl, refl, refused_reply s.log payloads made OutOfMemory said (λ other. absurd (other refl))) (looks_not payloads) (λ other asks. absurd (other refl))
+
+said_ok : (payloads : List Payload) (made : Put) → put_said payloads ≡ Ok made → IsOk (put_said payloads)
+said_ok payloads made said = rw said refl
+
+-- or the backend refused it
+pub put_refused : (moves : Moves) (old new : Seat) (payloads : List Payload) (made : Put) (fault : Fault) → Puts moves (Err fault) old made new → put_said payloads ≡ Ok made
+    → ReactsBy moves (Ok (put payloads)) old (Whole (refusal fault)) new
+put_refused moves old new payloads made fault p said = record {
+  log = p.log;
+  after = p.next;
+  answered = (p.at.0, refl, refused_reply p.log payloads made fault said p.at.2);
+  goes = record {
+    moved = p.moved;
+    starts = inl (said_ok payloads made said);
+    learnt = p.learnt;
+    kept = p.kept;
+    made = ([], p.at.0 ∙ sym (append-nil p.log), p.at.1 ∙ sym (append-nil old.made));
+  };
+  looked = λ other looks. absurd (looks_not payloads looks);
+  asks = λ other asks. one_more_ask old new p.asks;
+  may_ask = asks_once (Ok (put payloads)) old new (said_ok payloads made said) p.asks;
+}
+
+-- or made it
+pub put_made : (moves : Moves) (version : ℕ) (old new : Seat) (payloads : List Payload) (made : Put) (answers : Vec (List ℕ) Global) (p : Puts moves (Ok version) old made new) → put_said payloads ≡ Ok made
+    → PutStep p.log payloads answers.items None p.next → ReactsBy moves (Ok (put payloads)) old (Accepted answers version) new
+put_made moves version old new payloads made answers p said step = record {
+  log = p.log;
+  after = p.next;
+  answered = (step, p.at.3);
+  goes = record { moved = p.moved; starts = inl (said_ok payloads made said); learnt = p.learnt; kept = p.kept; made = (added made ∷ [], p.at.1, p.at.2) };
+  looked = λ other looks. absurd (looks_not payloads looks);
+  asks = λ other asks. one_more_ask old new p.asks;
+  may_ask = asks_once (Ok (put payloads)) old new (said_ok payloads made said) p.asks;
+}
+
+-- the puts of a seat that made none
+pub same_puts : (P : Put → Type 0) (old new : Seat) → new.made ≡ old.made → All P (puts_of old.made) → All P (puts_of new.made)
+same_puts P old new same puts = subst (λ (made : Log). All P (puts_of made)) (sym same) puts
+
+-- and one more
+pub more_puts : (P : Put → Type 0) (log next : Log) (old new : Seat) (version : ℕ) (made : Put) → PutsAt (Ok version) old log made next new → P made → All P (puts_of old.made) → All P (puts_of new.made)
+more_puts P log next old new version made at accepts puts =
+    rw (at.2, puts_of-added old.made made) (All-push P (puts_of old.made) made puts accepts)
+
+-- ---- expiries
+
+expiry_looks_not : (action : Payload) → Looks (Ok (expire action)) → ⊥
+expiry_looks_not action looks = looks
+
+-- its action does not read
+pub expiry_unread : (moves : Moves) → ((s : Seat) → moves s s.log s.log s) → (s : Seat) (action : Payload) (fault : Fault) → expiry_of action ≡ Err fault
+    → ReactsBy moves (Ok (expire action)) s (Whole (refusal fault)) s
+expiry_unread moves stays s action fault unread =
+    reacts_unseen moves stays (Ok (expire action)) s (refusal fault) (refl, refl, unread_expiry s.log action fault unread) (expiry_looks_not action)
+    (λ other asks. number_unread action fault unread asks)
+
+-- the backend made the mark
+pub expiry_made : (moves : Moves) (old new : Seat) (action : Payload) (version floor : ℕ) → Expires moves (Ok floor) old version new → expiry_of action ≡ Ok version
+    → ReactsBy moves (Ok (expire action)) old (Floor floor) new
+expiry_made moves old new action version floor e said = record {
+  log = e.log;
+  after = e.next;
+  answered = expired_reply e.log e.next action version floor (floor_bytes floor ∷ []) said e.at refl;
+  goes = record { moved = e.moved; starts = inl (number_read action version said); learnt = e.learnt; kept = e.kept; made = (expired version ∷ [], e.at.1, e.marks) };
+  looked = λ other looks. absurd (expiry_looks_not action looks);
+  asks = λ other asks. one_more_ask old new e.asks;
+  may_ask = asks_once (Ok (expire action)) old new (number_read action version said) e.asks;
+}
+
+-- or refused it
+pub expiry_refused : (moves : Moves) (old new : Seat) (action : Payload) (version : ℕ) (fault : Fault) → Expires moves (Err fault) old version new → expiry_of action ≡ Ok version
+    → ReactsBy moves (Ok (expire action)) old (Whole (refusal fault)) new
+expiry_refused moves old new action version fault e said = record {
+  log = e.log;
+  after = e.next;
+  answered = (e.at.0, refl, refused_expiry e.log action version fault said e.at.1);
+  goes = record {
+    moved = e.moved;
+    starts = inl (number_read action version said);
+    learnt = e.learnt;
+    kept = e.kept;
+    made = ([], e.at.0 ∙ sym (append-nil e.log), e.marks ∙ sym (append-nil old.made));
+  };
+  looked = λ other looks. absurd (expiry_looks_not action looks);
+  asks = λ other asks. one_more_ask old new e.asks;
+  may_ask = asks_once (Ok (expire action)) old new (number_read action version said) e.asks;
+}
+
+-- a mark is no put
+pub marked_puts : (P : Put → Type 0) (result : Result ℕ Fault) (old new : Seat) (version : ℕ) → MarksAt result old version new → All P (puts_of old.made) → All P (puts_of new.made)
+marked_puts P (Ok floor) old new version marks puts = rw (marks, puts_of-expired old.made version) puts
+marked_puts P (Err fault) old new version same puts = same_puts P old new same puts
