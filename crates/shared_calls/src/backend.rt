@@ -24,8 +24,8 @@ pub trait Resting: Backend {
     // The number of the seat.
     ghost number: { ℕ };
 
-    /// Asks and learns, as [`Backend::learn`] does, and tells how the seat then rests: of all that it has then seen, the entries of
-    /// its number are just those that it made.
+    /// Asks and learns, as [`Backend::learn`] does, and tells how the seat then rests: of all that
+    /// it has then seen, the entries of its number are just those that it made.
     fn rest(&mut self) -> Rest
         ensures learns { Learns Self.moves (Self.seat self.old) (Self.seat self.new) }
         ensures asks { AsksOnce (Self.seat self.old) (Self.seat self.new) }

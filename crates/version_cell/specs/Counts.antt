@@ -4,7 +4,8 @@ use Rattle.version_cell.specs.Signed.{Signed, own}
 
 -- how many entries of a log each seat made, by the numbers of the seats
 abbrev pub Counted : List ℕ → List Signed → Type 0
-Counted counts entries = (seat : ℕ) → seat < length counts → slice_index_or counts seat 0 ≡ length (own seat entries)
+Counted counts entries =
+    (seat : ℕ) → seat < length counts → slice_index_or counts seat 0 ≡ length (own seat entries)
 
 -- a number without a bound, and how many times it was written again
 pub record TimesAt : Type 0 where

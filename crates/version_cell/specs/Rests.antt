@@ -5,8 +5,8 @@ use Rattle.version_log.specs.Log.{Log}
 use Rattle.version_cell.specs.Seats.{Seat}
 use Rattle.version_cell.specs.Signed.{Signed, log_of, own}
 
--- the book of its cell, its number, the log that it has seen, with the seat of each entry, the entries that were made through it, and
--- how often it asked the putter
+-- the book of its cell, its number, the log that it has seen, with the seat of each entry, the
+-- entries that were made through it, and how often it asked the putter
 pub record RestAt : Type 0 where
   pub book : Book
   pub seat : ℕ
@@ -16,7 +16,8 @@ pub record RestAt : Type 0 where
 
 -- a seat through which just those entries were made that the log has of its number
 abbrev pub rest_at : Book → ℕ → List Signed → ℕ → RestAt
-rest_at book seat log asks = record { book = book; seat = seat; log = log; made = own seat log; asks = asks }
+rest_at book seat log asks =
+    record { book = book; seat = seat; log = log; made = own seat log; asks = asks }
 
 -- a seat of the cell with this book rests so
 pub record IsRestOf (rest : RestAt) (book : Book) (seat : Seat) : Type 0 where

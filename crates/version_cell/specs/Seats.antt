@@ -2,8 +2,9 @@
 use Rattle.std.specs.Prelude.{◌≡◌, ◌⊎◌, ℕ, ◌+◌, List, [], ◌∷◌}
 use Rattle.version_log.specs.Log.{Log}
 
--- the number of the seat, the log that it has seen or was told of, the log that it entered last, how often it entered the cell, the
--- entries that were made through it, in order, and how often it asked the putter
+-- the number of the seat, the log that it has seen or was told of, the log that it entered last,
+-- how often it entered the cell, the entries that were made through it, in order, and how often it
+-- asked the putter
 pub record Seat : Type 0 where
   pub number : ℕ
   pub log : Log

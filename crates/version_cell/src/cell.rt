@@ -55,7 +55,8 @@ impl Model for Blank {
         × IsIndexOf (arc_value b.index) [] };
 }
 
-/// A cell with so many seats, whose log stands in this book. Hashes of the values of its versions begin with the seed.
+/// A cell with so many seats, whose log stands in this book. Hashes of the values of its versions
+/// begin with the seed.
 ///
 /// # Errors
 ///
@@ -179,7 +180,8 @@ fn seat_all<C: CellName>(
     requires few { seats ≤ most_seats }
     requires cutter { cutter.old ≡ cutter_at 0 seats }
     ensures all { IfSome result (λ all. (length all.items ≡ seats)
-        × All (λ scanner. scanner ≡ seat scanner.number (log_of history.now.seen.log) [] 0 []) all.items) }
+        × All (λ scanner. scanner ≡ seat scanner.number (log_of history.now.seen.log) [] 0 [])
+        all.items) }
     ensures numbers { IfSome result (λ all. IsNumbered 0 all.items) }
     ensures left { IfSome result (λ _. cutter.new.left ≡ 0) }
 {

@@ -112,7 +112,8 @@ impl<C: CellName> Maker<C> {
         self.asked.raise();
     }
 
-    // How its seat rests, where it made as many entries as the log that it has seen has of its number. These are then the same.
+    // How its seat rests, where it made as many entries as the log that it has seen has of its
+    // number. These are then the same.
     #[tactic(auto, using(crate::proofs::Merging::among_whole))]
     pub(crate) fn rest(&self) -> Rest
         requires { length self.now.made ≡ length (own self.now.seat self.now.seen) }

@@ -8,9 +8,10 @@ use crate::book::History;
 use crate::times::Times;
 use std::marker::Model;
 
-/// What a seat of a cell had seen, made and asked when it held the cell's lock last: a value without a brand and without memory.
-/// Nothing is put through it. Contracts see it as the book of its cell, the number of the seat, the log that it has seen, with
-/// the seat of each entry, the entries that were made through it, and how often it asked.
+/// What a seat of a cell had seen, made and asked when it held the cell's lock last: a value
+/// without a brand and without memory. Nothing is put through it. Contracts see it as the book of
+/// its cell, the number of the seat, the log that it has seen, with the seat of each entry, the
+/// entries that were made through it, and how often it asked.
 #[derive(Drop)]
 pub struct Rest {
     seat: u64,
@@ -70,11 +71,12 @@ impl Rest {
         let _ = self.seat;
     }
 
-    /// Whether the other, of the same cell, had seen no fewer entries. Its log then begins with this one's, and else this one's
-    /// with its.
+    /// Whether the other, of the same cell, had seen no fewer entries. Its log then begins with
+    /// this one's, and else this one's with its.
     pub fn begins(&self, other: &Rest) -> bool
         requires { other.now.book ≡ self.now.book }
-        ensures { MatchBool result (GoesOn self.now.log other.now.log) (GoesOn other.now.log self.now.log) }
+        ensures { MatchBool result (GoesOn self.now.log other.now.log)
+            (GoesOn other.now.log self.now.log) }
     {
         self.history.begins(&other.history)
     }

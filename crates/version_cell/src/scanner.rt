@@ -19,9 +19,9 @@ use table_versions::Snapshot;
 
 type CellReader<C> = Reader<Store, Entered, Shown<C>>;
 
-/// A seat of a cell. Contracts see it as its number, the log that it has seen or was told of, the log that it entered last,
-/// the number of its enters, the entries that were made through it, and the number of its asks. Its calls wait for nobody and take no
-/// memory.
+/// A seat of a cell. Contracts see it as its number, the log that it has seen or was told of, the
+/// log that it entered last, the number of its enters, the entries that were made through it, and
+/// the number of its asks. Its calls wait for nobody and take no memory.
 #[derive(Drop)]
 pub struct Scanner<C: CellName> {
     pub(crate) maker: Maker<C>,

@@ -29,8 +29,9 @@ use std::thread;
 use table_versions::Put;
 use version_log::Entry;
 
-// Who publishes, how many entries were made through all seats, and how many through each, by the numbers of the seats. Whenever
-// the lock is free the log has so many: each entry of it was made through a seat, and counted once.
+// Who publishes, how many entries were made through all seats, and how many through each, by the
+// numbers of the seats. Whenever the lock is free the log has so many: each entry of it was made
+// through a seat, and counted once.
 #[derive(Drop)]
 struct Counting<C: CellName, R: Wait + Drop> {
     publisher: Publisher<C, R>,
@@ -52,11 +53,13 @@ impl<C: CellName, R: Wait + Drop> Counting<C, R> {
         Some(self.counts[seat as usize])
     }
 
-    // Whether a seat has seen no more than the log, and made as many entries as the log has of its number.
+    // Whether a seat has seen no more than the log, and made as many entries as the log has of its
+    // number.
     fn accounts_for(&self, seat: &Scanner<C>) -> bool
         ensures within { result ≡ true → Begins seat.now.log (log_of self.now.publisher) }
         ensures known { result ≡ true → seat.now.number < length self.now.counts.items }
-        ensures counted { result ≡ true → length seat.now.made ≡ length (own seat.now.number self.now.publisher) }
+        ensures counted { result ≡ true
+            → length seat.now.made ≡ length (own seat.now.number self.now.publisher) }
     {
         match self.count_of(seat.maker.seat()) {
             Some(count) if count == seat.maker.count() => seat.is_within(&self.publisher.tell()),
@@ -220,8 +223,9 @@ impl<C: CellName, R: Wait + Drop> SharedPutter<C, R> {
     /// Puts, lets the seat see the log behind the put, also a refused one, and gives the put's number. What the seat learns
     /// was told under the same hold of the lock. It is no enter.
     ///
-    /// The log that a put meets goes on from what its seat has seen. No seat is ever ahead of the log, nor has made what the log
-    /// has not. So the lock is held once; else it would be let go, and asked for again.
+    /// The log that a put meets goes on from what its seat has seen. No seat is ever ahead of the
+    /// log, nor has made what the log has not. So the lock is held once; else it would be let go,
+    /// and asked for again.
     ///
     /// # Errors
     ///
@@ -284,12 +288,13 @@ impl<C: CellName, R: Wait + Drop> SharedPutter<C, R> {
         unreachable!()
     }
 
-    /// Lets a seat see all that was done so far, and tells how it then rests: of all that the seat has then seen, the entries of its
-    /// number are just those that it made. It waits for the lock, takes no memory, and is no enter. Who asks, as who puts or
-    /// expires, holds the lock: nothing else raises the number of asks.
+    /// Lets a seat see all that was done so far, and tells how it then rests: of all that the seat
+    /// has then seen, the entries of its number are just those that it made. It waits for the lock,
+    /// takes no memory, and is no enter. Who asks, as who puts or expires, holds the lock: nothing
+    /// else raises the number of asks.
     ///
-    /// No seat is ever ahead of the log, nor has made what the log has not. So the lock is held once; else it would be let go, and
-    /// asked for again.
+    /// No seat is ever ahead of the log, nor has made what the log has not. So the lock is held
+    /// once; else it would be let go, and asked for again.
     pub fn ask(&self, rt: &impl Wait, seat: &mut Scanner<C>) -> Rest
         ensures asks { AsksOnce seat.old seat.new }
         ensures begins { Begins seat.old.log seat.new.log }
