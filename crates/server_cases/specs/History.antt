@@ -1,4 +1,4 @@
--- What the listeners of a server were shown.
+-- Inside: what the listeners of a server were shown.
 use Rattle.std.specs.Prelude.{◌≡◌, ℕ, ◌+◌, List, [], ◌∷◌, ◌++◌, Option, Some, None}
 use Rattle.version_cell.specs.Rests.{RestAt}
 use Rattle.version_cell.specs.Signed.{Signed, own, GoesOn}
