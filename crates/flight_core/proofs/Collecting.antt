@@ -1,5 +1,5 @@
 -- Payloads that are collected, and what they say.
-use Rattle.std.proofs.Common.{◌≡◌, ◌≤◌, List, ◌++◌, length, Option, Some, None, Result, Ok, Err, inl, refl, subst}
+use Rattle.std.proofs.Common.{◌≡◌, ◌≤◌, List, ◌++◌, length, Some, None, Ok, Err, inl, refl, subst}
 use Rattle.std.proofs.lemmas.List.Elements.{All-append}
 use Rattle.scan_base.specs.declared.fault.Fault.{Fault}
 use Rattle.scan_base.specs.declared.fault.Fault.TheVariants.{OutOfMemory, ResultTooLarge}

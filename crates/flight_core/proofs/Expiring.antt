@@ -1,5 +1,5 @@
 -- Expiries, as they are answered.
-use Rattle.std.proofs.Common.{◌≡◌, ◌<◌, ◌≤◌, ℕ, Bool, true, false, nat_le, rules, List, [], ◌∷◌, length, length-append, None, Ok, Err, refl, ap, sym, ◌∙◌, max, arith, inl, inr}
+use Rattle.std.proofs.Common.{◌≡◌, ◌<◌, ◌≤◌, ℕ, Bool, true, false, nat_le, rules, List, [], ◌∷◌, length, length-append, None, Ok, Err, refl, ap, ◌∙◌, arith, inl, inr}
 use Rattle.std.specs.Prelude.{IsOk}
 use Rattle.byteorder.specs.Endian.{big_bytes}
 use Rattle.scan_base.specs.declared.fault.Fault.{Fault}
@@ -11,8 +11,7 @@ use Rattle.flight_proto.specs.Message.{set_fields, spelled}
 use Rattle.proto_wire.specs.Calls.{chunk_entry}
 use Rattle.proto_wire.specs.Writing.{spelling}
 use Rattle.version_log.specs.Expiry.{IsExpired, RefusesExpiry}
-use Rattle.version_log.specs.Log.{Log, puts_in, floor_of}
-use Rattle.version_log.proofs.Logs.{floor_of-expired}
+use Rattle.version_log.specs.Log.{Log, puts_in}
 use Rattle.flight_info.specs.Payloads.{Payload}
 use Rattle.flight_info.proofs.Sizes.{short_chunk, short_set}
 use Rattle.flight_core.specs.Refusals.{RefusedBy}

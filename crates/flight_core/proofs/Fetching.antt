@@ -1,6 +1,6 @@
 -- What a fetch shows, and its stream.
-use Rattle.std.proofs.Common.{◌≡◌, ◌≢◌, ◌<◌, ◌≤◌, ◌+◌, ℕ, Bool, true, false, nat_le, List, [], length, length-append, Option, Some, None, Result, Ok, Err, refl, sym, ap, subst, ◌∙◌, inl, inr, arith}
-use Rattle.std.specs.Prelude.{IsOk, IfErr}
+use Rattle.std.proofs.Common.{◌≡◌, ◌≢◌, ◌<◌, ◌≤◌, ◌+◌, ℕ, Bool, true, false, nat_le, [], length, length-append, ◌⊎◌, Option, Some, None, Result, Ok, Err, refl, sym, ap, subst, inl, inr, arith}
+use Rattle.std.specs.Prelude.{IsOk}
 use Rattle.std.proofs.lemmas.Bool.{le-leb, leb-false, leb-true, lt-leb}
 use Rattle.scan_base.specs.declared.fault.Fault.{Fault}
 use Rattle.scan_base.specs.declared.fault.Fault.TheVariants.{BadTicket, OutOfMemory, VersionExpired, VersionUnknown}
@@ -18,7 +18,7 @@ use Rattle.flight_core.specs.declared.answer.Answer.TheVariants.{Stream, Whole}
 use Rattle.flight_core.specs.Answered.{AnsweredBy, ReactsBy}
 use Rattle.flight_core.specs.Asked.{Asked, fetch}
 use Rattle.flight_core.specs.Machine.{FetchBy, FetchIn, FetchShown, OpensBy, OpensIn, ReplyTo}
-use Rattle.flight_core.specs.Reacts.{Asks, IsBeyond, MayAsk}
+use Rattle.flight_core.specs.Reacts.{IsBeyond}
 use Rattle.flight_core.specs.Seats.{Seat, Moves, AsksNone, Learns}
 use Rattle.flight_core.specs.Shown.{handle_shown}
 use Rattle.flight_core.proofs.Reacting.{goes_by_look}
@@ -113,6 +113,14 @@ longer log more b = omega (arith, ap length (begun_puts log more b), length-appe
 -- a version that the log does not reach was none of the log before
 pub beyond_before : (old new : Log) (number : ℕ) → Begins old new → puts_in new < number → number ≤ puts_in old → ⊥
 beyond_before old new number b above reached = omega (arith, longer old new b, above, reached)
+
+-- where a look finds it unknown, the log does not reach it
+pub unknown_above : (may once : Type 0) (log : Log) (number : ℕ)
+    → ((VersionUnknown ≡ OutOfMemory) × may) ⊎ (((VersionUnknown ≡ VersionUnknown) × once × (puts_in log < number))
+    ⊎ ((VersionUnknown ≡ VersionExpired) × once × (number ≤ puts_in log) × (number < floor_of log))) → puts_in log < number
+unknown_above may once log number (inl tired) = let no = tired.0 in absurd cc
+unknown_above may once log number (inr (inl unknown)) = unknown.2
+unknown_above may once log number (inr (inr below)) = let no = below.0 in absurd cc
 
 -- a version that is not beyond a log is reached by it
 pub reached_by : (ticket : Payload) (handle : HandleAt) (log : Log) → handle_asked ticket ≡ Ok handle → (IsBeyond (handle_asked ticket) log → ⊥) → version_of handle ≤ puts_in log

@@ -1,5 +1,5 @@
 -- Infos and schemas where memory was refused for a look.
-use Rattle.std.proofs.Common.{◌≡◌, ◌≢◌, ℕ, [], Some, Result, Ok, Err, refl, ap}
+use Rattle.std.proofs.Common.{◌≢◌, ℕ, [], Some, Result, Ok, Err, refl, ap}
 use Rattle.std.specs.Prelude.{IsOk}
 use Rattle.scan_base.specs.declared.fault.Fault.{Fault}
 use Rattle.scan_base.specs.declared.fault.Fault.TheVariants.{OutOfMemory}

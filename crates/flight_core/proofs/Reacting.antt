@@ -1,15 +1,15 @@
 -- Steps over a backend.
-use Rattle.std.proofs.Common.{◌≡◌, ◌≢◌, ◌<◌, ◌≤◌, ◌+◌, ℕ, Vec, List, [], ◌∷◌, ◌++◌, All, Option, Some, None, Result, Ok, Err, refl, sym, ap, subst, ◌∙◌, append-nil, inl, inr, arith}
+use Rattle.std.proofs.Common.{◌≡◌, ◌≢◌, ◌<◌, ℕ, Vec, List, [], ◌∷◌, ◌++◌, All, Some, None, Result, Ok, Err, refl, sym, ap, subst, ◌∙◌, append-nil, inl, inr, arith}
 use Rattle.std.specs.Global.{Global}
 use Rattle.std.specs.Prelude.{IsOk}
 use Rattle.std.proofs.lemmas.List.Elements.{All-push}
 use Rattle.scan_base.specs.declared.fault.Fault.{Fault}
 use Rattle.scan_base.specs.declared.fault.Fault.TheVariants.{OutOfMemory}
-use Rattle.table_versions.specs.Database.{Put, after}
+use Rattle.table_versions.specs.Database.{Put}
 use Rattle.flight_proto.specs.Expiry.{expiry_of, floor_bytes}
 use Rattle.flight_info.specs.Payloads.{Payload}
 use Rattle.flight_info.specs.Replies.{ReplyAt, refusal}
-use Rattle.version_log.specs.Log.{Log, added, expired, puts_of, puts_in, database_of, Begins}
+use Rattle.version_log.specs.Log.{Log, added, expired, puts_of, Begins}
 use Rattle.version_log.proofs.Logs.{puts_of-added, puts_of-expired}
 use Rattle.flight_core.specs.declared.answer.Answer.{Answer}
 use Rattle.flight_core.specs.declared.answer.Answer.TheVariants.{Whole, Accepted, Floor, Stream}
@@ -17,9 +17,9 @@ use Rattle.flight_core.specs.Answered.{fault_in, IsReplyOf, ReactsBy}
 use Rattle.flight_core.specs.Asked.{Asked, put, info, tables, schema, fetch, expire}
 use Rattle.flight_core.specs.Machine.{PutStep, ReplyTo}
 use Rattle.flight_core.specs.Puts.{put_glance, put_said}
-use Rattle.flight_core.specs.Reacts.{StartsAt, Looks, Asks, Goes, HasAsked, HasLooked, MayAsk, Reacts}
+use Rattle.flight_core.specs.Reacts.{StartsAt, Looks, Asks, Goes, MayAsk, Reacts}
 use Rattle.flight_core.specs.Refusals.{RefusedFor}
-use Rattle.flight_core.specs.Seats.{Seat, Moves, AsksNone, AsksOnce, Expires, Learns, LooksOnce, MarksAt, Puts, PutsAt}
+use Rattle.flight_core.specs.Seats.{Seat, Moves, AsksNone, AsksOnce, Expires, Learns, LooksOnce, MarksAt, Puts}
 use Rattle.flight_core.proofs.Arriving.{glance_good}
 use Rattle.flight_core.proofs.Expiring.{number_read, number_unread, expired_reply, unread_expiry, refused_expiry}
 use Rattle.flight_core.proofs.Replies.{refused_reply, unread_reply}
@@ -181,14 +181,13 @@ put_made moves version old new payloads made answers p said step = record {
   may_ask = asks_once (Ok (put payloads)) old new (said_ok payloads made said) p.asks;
 }
 
--- the puts of a seat that made none
-pub same_puts : (P : Put → Type 0) (old new : Seat) → new.made ≡ old.made → All P (puts_of old.made) → All P (puts_of new.made)
+-- the puts of what a seat made, where it made no more
+pub same_puts : (P : Put → Type 0) (old new : Log) → new ≡ old → All P (puts_of old) → All P (puts_of new)
 same_puts P old new same puts = subst (λ (made : Log). All P (puts_of made)) (sym same) puts
 
--- and one more
-pub more_puts : (P : Put → Type 0) (log next : Log) (old new : Seat) (version : ℕ) (made : Put) → PutsAt (Ok version) old log made next new → P made → All P (puts_of old.made) → All P (puts_of new.made)
-more_puts P log next old new version made at accepts puts =
-    rw (at.2, puts_of-added old.made made) (All-push P (puts_of old.made) made puts accepts)
+-- or one more
+pub more_puts : (P : Put → Type 0) (old new : Log) (made : Put) → new ≡ old ++ added made ∷ [] → P made → All P (puts_of old) → All P (puts_of new)
+more_puts P old new made is accepts puts = rw (is, puts_of-added old made) (All-push P (puts_of old) made puts accepts)
 
 -- ---- expiries
 
@@ -237,4 +236,4 @@ expiry_refused moves old new action version fault e said = record {
 -- a mark is no put
 pub marked_puts : (P : Put → Type 0) (result : Result ℕ Fault) (old new : Seat) (version : ℕ) → MarksAt result old version new → All P (puts_of old.made) → All P (puts_of new.made)
 marked_puts P (Ok floor) old new version marks puts = rw (marks, puts_of-expired old.made version) puts
-marked_puts P (Err fault) old new version same puts = same_puts P old new same puts
+marked_puts P (Err fault) old new version same puts = same_puts P old.made new.made same puts

@@ -1,16 +1,15 @@
 -- Replies put together.
-use Rattle.std.proofs.Common.{◌≡◌, ◌≤◌, ◌^◌, ℤ, ◌-◌, ℕ, pos, min, List, [], ◌∷◌, ◌++◌, length, length-append, refl, sym, ap, ◌∙◌, arith, ◌≢◌, Option, None, Some, Result, Ok, Err}
-use Rattle.std.specs.Prelude.{IsOk, IfErr, unwrap_or}
+use Rattle.std.proofs.Common.{◌≡◌, ◌≤◌, ◌^◌, ℤ, ◌-◌, ℕ, pos, min, List, [], ◌∷◌, ◌++◌, length, length-append, refl, ap, ◌∙◌, arith, ◌≢◌, None, Result, Ok, Err}
+use Rattle.std.specs.Prelude.{IsOk}
 use Rattle.scan_base.specs.declared.fault.Fault.{Fault}
 use Rattle.scan_base.specs.declared.fault.Fault.TheVariants.{OutOfMemory}
-use Rattle.scan_base.specs.Reading.{first_fault}
 use Rattle.std.specs.Int.{w64, cast_unsigned}
 use Rattle.flight_proto.specs.Message.{set_fields, spelled}
 use Rattle.flight_proto.specs.PutResult.{update_bytes, rows_put_bytes}
 use Rattle.proto_wire.specs.Calls.{chunk_entry, varint_entry}
 use Rattle.proto_wire.specs.Writing.{spelling}
 use Rattle.scan_base.specs.Limits.{most_message_bytes, most_rows}
-use Rattle.table_versions.specs.Database.{Database, Put, put_faults, after}
+use Rattle.table_versions.specs.Database.{Database, Put, after}
 use Rattle.table_versions.proofs.Accepted.{accepted_puts_are_few}
 use Rattle.flight_info.specs.Payloads.{Payload}
 use Rattle.flight_info.proofs.Sizes.{short_number, short_chunk, short_set}

@@ -1,12 +1,10 @@
 -- What an operation stands for.
-use Rattle.std.proofs.Common.{◌≡◌, List, Option, Result, sym, subst}
+use Rattle.std.proofs.Common.{◌≡◌, List, Result, sym, subst}
 use Rattle.scan_base.specs.declared.fault.Fault.{Fault}
 use Rattle.table_versions.specs.Stored.{PutAt, put_of}
 use Rattle.flight_info.specs.Payloads.{Payload}
-use Rattle.version_log.specs.Log.{Log}
 use Rattle.flight_core.specs.declared.operation.Operation.TheVariants as operation
 use Rattle.flight_core.specs.Asked.{Asked, put, info, tables, schema, fetch, expire}
-use Rattle.flight_core.specs.Machine.{AsShown}
 use Rattle.flight_core.specs.Operation.{StandsFor}
 use Rattle.flight_core.specs.Puts.{put_glance, put_said}
 use Rattle.flight_core.specs.Refusals.{GivesBehind}

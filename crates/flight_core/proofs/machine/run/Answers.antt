@@ -12,9 +12,9 @@ loop-event-preserved g c =
     let reacts = c.in_ok-reply.ensures.step in
     let step = alone_steps _ _ _ _ reacts in
     record {
-      run = rw c.in_ok-push.ensures.items (run_more c.args.events.now c.loop-event.replies.items c.loop-event.backend.log c.reply_to-reply.new.backend.log c.loop-event.event-index c.event-item.result _ c.loop-event-test.true c.event-item.is c.loop-event.invariant.run step);
+      run = rw c.in_ok-push.ensures.items (run_more c.args.events.now c.loop-event.replies.items c.loop-event.backend.log c.reply_to.new.backend.log c.loop-event.event-index c.event-item.result _ c.loop-event-test.true c.event-item.is c.loop-event.invariant.run step);
       own = alone_made _ _ _ _ reacts c.loop-event.invariant.own;
-      puts = c.reply_to-reply.ensures.puts c.loop-event.invariant.puts;
+      puts = c.reply_to.ensures.puts c.loop-event.invariant.puts;
     }
 
 pub returns-clause-ok : goal.returns-clause-ok

@@ -9,11 +9,11 @@ use Rattle.flight_core.proofs.steps.step.Goals as goal
 pub returns-in-Put-clause-step : goal.returns-in-Put-clause-step
 returns-in-Put-clause-step g c asked stands =
     put_stands (λ (one : Asked). ReactsBy g.B.Backend.moves (Ok one) (g.B.Backend.seat c.args.backend.now) c.step_put.result (g.B.Backend.seat c.step_put.new.backend))
-    c.in-Put.field-0 c.step_put.ensures.step asked (rw c.in-Put.is at stands)
+    c.in-Put.read c.step_put.ensures.step asked (rw c.in-Put.is at stands)
 
 pub returns-in-Put-clause-shown : goal.returns-in-Put-clause-shown
 returns-in-Put-clause-shown g c knows asked stands =
-    put_stands (λ (one : Asked). AsShown (g.B.Backend.seat c.step_put.new.backend).log one (fault_in c.step_put.result)) c.in-Put.field-0 (λ payloads gives. tt) asked (rw c.in-Put.is at stands)
+    put_stands (λ (one : Asked). AsShown (g.B.Backend.seat c.step_put.new.backend).log one (fault_in c.step_put.result)) c.in-Put.read (λ payloads gives. tt) asked (rw c.in-Put.is at stands)
 
 pub returns-in-Info-clause-step : goal.returns-in-Info-clause-step
 returns-in-Info-clause-step g c asked stands =

@@ -12,7 +12,7 @@ returns-in-Ok-clause-step g c =
     fetch_opened g.B.Backend.moves _ _ c.args.ticket.now c.args.workers c.in-Ok.opening seen.learns seen.looked seen.asks seen.still seen.once seen.opens
 
 pub returns-in-Ok-clause-shown : goal.returns-in-Ok-clause-shown
-returns-in-Ok-clause-shown g c knows = opened_shown _ c.args.ticket.now c.in-Ok.opening c.in-Ok.ensures.opens
+returns-in-Ok-clause-shown g c knows = opened_shown (g.B.Backend.seat c.open_on.new.backend).log c.args.ticket.now c.in-Ok.opening c.in-Ok.ensures.opens
 
 pub returns-in-Err-clause-shown : goal.returns-in-Err-clause-shown
 returns-in-Err-clause-shown g c knows = rw c.refusal.ensures.reply (c.in-Err.ensures.shown knows)

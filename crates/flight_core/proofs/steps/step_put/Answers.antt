@@ -1,4 +1,3 @@
-use Rattle.scan_base.specs.declared.fault.Fault.TheVariants.{OutOfMemory}
 use Rattle.table_versions.specs.Stored.{put_of}
 use Rattle.flight_core.proofs.Replies.{accepted_reply}
 use Rattle.flight_core.proofs.Reacting.{put_unread, put_tired, put_refused, put_made, more_puts, same_puts}
@@ -27,8 +26,7 @@ returns-in-Err-put-clause-step g c payloads gives =
 
 pub returns-in-Ok-put-clause-puts : goal.returns-in-Ok-put-clause-puts
 returns-in-Ok-put-clause-puts g c puts =
-    let made = c.in-Ok-put.ensures.puts in
-    more_puts g.B.Backend.accepts made.log made.next _ _ c.in-Ok-put.version (put_of c.in-Ok.put) made.at c.in-Ok-put.ensures.typed puts
+    more_puts g.B.Backend.accepts _ _ (put_of c.in-Ok.put) c.in-Ok-put.ensures.puts.at.2 c.in-Ok-put.ensures.typed puts
 
 pub returns-in-Err-put-clause-puts : goal.returns-in-Err-put-clause-puts
 returns-in-Err-put-clause-puts g c puts = same_puts g.B.Backend.accepts _ _ c.in-Err-put.ensures.puts.at.1 puts
