@@ -17,8 +17,8 @@ abbrev pub onward : Moves
 onward old log after new = Begins old.log log × (new.log ≡ after)
 
 -- a seat of the cell with this book rests so
-pub record RestsAs (rest : RestAt) (book : Book) (seat : Seat) : Type 0 where
-  pub book : rest.book ≡ book
+pub record RestsAs (rest : RestAt) (cell : Book) (seat : Seat) : Type 0 where
+  pub book : rest.book ≡ cell
   pub log : log_of rest.log ≡ seat.log
   pub made : rest.made ≡ seat.made
   pub asks : rest.asks ≡ seat.asks

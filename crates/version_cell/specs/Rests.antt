@@ -20,8 +20,8 @@ rest_at book seat log asks =
     record { book = book; seat = seat; log = log; made = own seat log; asks = asks }
 
 -- a seat of the cell with this book rests so
-pub record IsRestOf (rest : RestAt) (book : Book) (seat : Seat) : Type 0 where
-  pub book : rest.book ≡ book
+pub record IsRestOf (rest : RestAt) (cell : Book) (seat : Seat) : Type 0 where
+  pub book : rest.book ≡ cell
   pub number : rest.seat ≡ seat.number
   pub log : log_of rest.log ≡ seat.log
   pub made : rest.made ≡ seat.made

@@ -1,6 +1,6 @@
 //! The part of a seat through which entries are made.
 
-ghost use Rattle.std.specs.Prelude.{◌≡◌, ◌+◌, ◌^◌, ◌++◌, ◌∷◌, [], length};
+ghost use Rattle.std.specs.Prelude.{◌≡◌, ◌≤◌, ◌+◌, ◌^◌, ◌++◌, ◌∷◌, [], length};
 ghost use Rattle.version_cell.specs.Rests.{rest_at};
 ghost use Rattle.version_cell.specs.Shares.{shares_at};
 ghost use Rattle.version_cell.specs.Signed.{own, signed, maker_at, GoesOn, Learns};
@@ -127,6 +127,7 @@ impl<C: CellName> Maker<C> {
     #[tactic(auto, using(crate::proofs::Parts::among_made))]
     pub(crate) fn make(&mut self, tally: &mut Tally<C>, told: &History, entry: &Entry)
         requires book { told.now.seen.book ≡ C.book }
+        requires few { length told.now.seen.log ≤ 2 ^ 62 }
         requires behind { told.now.seen.log ≡ self.old.seen ++ signed self.old.seat entry.now ∷ [] }
         ensures tally { tally.new ≡ tally.old + 1 }
         ensures made { self.new ≡ maker_at self.old.seat told.now.seen.log (self.old.made ++ entry.now ∷ []) self.old.asks }

@@ -68,7 +68,7 @@ impl Rest {
     pub fn exact(&self)
         ensures { self.now.made ≡ own self.now.seat self.now.log }
     {
-        let _ = self.seat;
+        let _ = &self.history;
     }
 
     /// Whether the other, of the same cell, had seen no fewer entries. Its log then begins with

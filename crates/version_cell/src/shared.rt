@@ -1,6 +1,6 @@
 //! A putter that threads share under one lock.
 
-ghost use Rattle.std.specs.Prelude.{◌≡◌, ◌<◌, [], true, length, IfOk, IfSome};
+ghost use Rattle.std.specs.Prelude.{◌≡◌, ◌+◌, ◌<◌, [], true, length, IfOk, IfSome};
 ghost use Rattle.version_log.specs.Expiry.{IsExpired};
 ghost use Rattle.version_log.specs.Log.{puts_in, Begins, IsLog};
 ghost use Rattle.table_versions.specs.Stored.{put_of};
