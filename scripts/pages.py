@@ -124,7 +124,7 @@ def public_base(files):
 def list_of_files(amiss):
     """The files of each crate's specs: those to believe, those of other public calls and laws, and those inside."""
     files = trusted_base.read_specs()
-    believed = trusted_base.base_of_promise(files)[0]
+    believed, types = trusted_base.base_of_promise(files)
     public = {item.path for item in public_base(files).values()}
     among = {item.path for item in believed.values()}
     machine, formats = trusted_base.size_of(believed.values())
@@ -132,6 +132,7 @@ def list_of_files(amiss):
             f"meaning of queries have {trusted_base.against(machine, trusted_base.MACHINE_GOAL)}, formats and grammar "
             f"{trusted_base.against(formats, trusted_base.FORMATS_GOAL)}.", "",
             f"{trusted_base.missed_by_form(believed.values())}", "",
+            f"{trusted_base.more_to_read(files, types)}", "",
             "| Crate | To believe | Of other public calls, and of laws | Inside |", "|---|---|---|---|"]
     for crate in stands_on():
         specs = CRATES / crate / "specs"

@@ -3,11 +3,15 @@
 
     python3 scripts/trusted_base.py [--names] [--bare] [SOURCE FUNCTION]
 
-The promise of README.md rests on four contracts: those of `pipe` and `serve`, and the two laws that their runs meet the
-headline (STARTS). The script begins at them, or at the contract of FUNCTION in the file SOURCE, and follows each name
-through the imports of its file. It counts the nonblank lines of the definitions without their comments, and how many have
-no comment right above. Types that the code declares are named apart, and the kit's own words are not followed. A name
-counts as cited where it stands in a definition, so the count errs, if at all, towards more.
+The promise of README.md rests on five contracts: those of `pipe` and `serve`, the two laws that their runs meet the
+headline, and what `run` of the program says of a server (STARTS). The script begins at them, or at the contract of FUNCTION in
+the file SOURCE, and follows each name through the imports of its file. A ghost member of a trait, as `L.accepts` with `L: Listen`,
+leads to all clauses of that trait. So does the record of a trait's ghost members (`Ghosts`).
+
+It counts the nonblank lines of the definitions without their comments, and how many have no comment right above. The clauses of
+the contracts and traits themselves are counted apart. So are the laws that ARCHITECTURE 1 names beside (LAWS). Types that the code
+declares are named apart, and the kit's own words are not followed. A name counts as cited where it stands in a definition, so the
+count errs, if at all, towards more.
 
 --names lists each definition with its lines; --bare those without a comment, and the files above 150 lines.
 """
@@ -22,7 +26,10 @@ if not (TOP / "crates.txt").exists():
     TOP = pathlib.Path.cwd()
 
 STARTS = (("commands", "pipe"), ("commands", "serve"), ("flight_calls", "served_meets_headline"),
-          ("commands", "server_meets_headline"))
+          ("commands", "server_meets_headline"), ("flightscan", "run"))
+LEFT_OUT = {"run": {"asks"}}  # clauses of the starts: what is said of a client's request
+LAWS = (("commands", "history_is_told"), ("commands", "puts_are_told"), ("commands", "taken_connections_are_whole"),
+        ("flight_calls", "new_connections_are_whole"), ("flight_calls", "seats_meet_joined"))
 # (what these define is a standard's, or the grammar's; what all other crates define is our own machine, and what queries mean)
 FORMATS = {"proto_wire", "flatbuf", "bitmap", "arrow_schema", "arrays", "array_buffers", "ipc_batch", "ipc_stream",
            "flight_proto", "sql_text", "grammar", "sql_parse"}
@@ -31,6 +38,8 @@ LONGEST_FILE = 150
 
 ITEM = re.compile(r"^(?:unfoldable |opaque )?(?:pub )?(abbrev|record|data|def)?\s*(?:pub )?(\S+)")
 HEADS = ("abbrev ", "unfoldable ", "opaque ", "pub record ", "pub data ", "record ", "data ", "pub abbrev ", "pub unfoldable ")
+CLAUSE = re.compile(r"\s*(?:requires|ensures) (?:(\w+) )?\{")
+BOUNDS = re.compile(r"(?<![\w.:])([A-Z]\w*)\s*:\s*([A-Z]\w*(?:<[^<>]*>)?(?:\s*\+\s*[A-Z]\w*(?:<[^<>]*>)?)*)")
 WORD = re.compile(r"[^\s(){}\[\],;.@\\]+")
 IMPORT = re.compile(r"^\s*(?:unfoldable )?(?:pub |ghost )?use ([\w.]+?)(?:\.\{([^}]*)\}| as (\w+)|)\s*;?\s*$", re.S | re.M)
 
@@ -128,14 +137,76 @@ def cited(lines, file, files):
     return result
 
 
+class Clauses:
+    """The clauses of a contract or of a trait: their lines, with what the imports of their file say, and the traits that they lead to."""
+
+    def __init__(self, path, lines, traits):
+        text = path.read_text()
+        names, modules = imports_of(text)
+        crate = path.relative_to(TOP / "crates").parts[0]
+        self.lines, self.traits = lines, traits
+        self.file = {"module": "", "names": names, "modules": modules, "found": {}, "crate": crate}
+
+
+def traits_of_sources():
+    """All public traits, by name: the file, and the text of each."""
+    return {match[1]: (path, match[0]) for path in (TOP / "crates").glob("*/src/**/*.rt")
+            for match in re.finditer(r"(?ms)^pub trait (\w+)[^{;]*\{.*?\n\}", path.read_text())}
+
+
+TRAITS = traits_of_sources()
+
+
+def led_to(text, bounds):
+    """The traits whose ghost members a text names, where these are bounds of its types: pairs of a type and its traits."""
+    members = set(re.findall(r"(?<!\w)([A-Z]\w*)\.(\w+)", text))
+    for name, traits in bounds:
+        for trait in re.findall(r"\w+", traits):
+            if trait in TRAITS and any(name == one and (member == trait or re.search(rf"ghost {member}\b", TRAITS[trait][1]))
+                                       for one, member in members):
+                yield trait
+
+
+def clause_lines(text, left_out=()):
+    """The lines of a text that say clauses and ghost members, but for the clauses that are left out."""
+    found, depth, skipped = [], 0, False
+    for line in text.split("\n"):
+        clause = CLAUSE.match(line)
+        if clause and depth == 0:
+            skipped = clause[1] in left_out
+        if depth or clause or re.match(r"\s*ghost (?!use )", line):
+            depth += line.count("{") - line.count("}")
+            found += [] if skipped else [line]
+            skipped = skipped and depth > 0
+    return found
+
+
 def contract_of(path, function):
-    """The lines of a function's contract, with its file as one of specs/ would be."""
+    """The clauses of a function's contract."""
     text = path.read_text()
-    names, modules = imports_of(text)
     start = text.index(f"fn {function}<") if f"fn {function}<" in text else text.index(f"fn {function}(")
-    end = text.index("\n{", start)
-    crate = path.relative_to(TOP / "crates").parts[0]
-    return text[start:end].split("\n"), {"module": "", "names": names, "modules": modules, "found": {}, "crate": crate}
+    contract = text[start : text.index("\n{", start)]
+    lines = clause_lines(contract, LEFT_OUT.get(function, ()))
+    return Clauses(path, lines, set(led_to("\n".join(lines), BOUNDS.findall(contract))))
+
+
+def clauses_of(trait):
+    """The clauses of a trait. Its parameters and associated types have bounds of their own, as `Self.Reader.tape` names a member of one."""
+    path, text = TRAITS[trait]
+    lines = clause_lines(text)
+    bounds = BOUNDS.findall(text.partition("{")[0]) + re.findall(r"(?m)^\s*type (\w+): ([^;]*);", text)
+    return Clauses(path, lines, set(led_to("\n".join(lines).replace("Self.", ""), bounds)))
+
+
+def traits_behind(traits):
+    """These traits, and all that their clauses lead to."""
+    reached, todo = set(), list(traits)
+    while todo:
+        trait = todo.pop()
+        if trait not in reached:
+            reached.add(trait)
+            todo.extend(clauses_of(trait).traits)
+    return reached
 
 
 def views_of(files, types):
@@ -159,8 +230,14 @@ def views_of(files, types):
     return result
 
 
+def is_trait(module):
+    """Whether a declared module is that of a trait, by the file that declares it."""
+    name = module.split(".")[-1]
+    return name in TRAITS and TRAITS[name][0].relative_to(TOP / "crates").parts[0] == module.split(".")[1]
+
+
 def closure(start, files):
-    """All definitions reached, and the declared types."""
+    """All definitions reached, and the declared types and traits."""
     reached, types, todo = {}, set(), list(start)
     while todo:
         module, name = todo.pop()
@@ -168,6 +245,8 @@ def closure(start, files):
             if module not in types and module.split(".")[1] in {path.name for path in (TOP / "crates").iterdir()}:
                 types.add(module)
                 todo.extend(views_of(files, {module}))
+                if is_trait(module):
+                    todo.extend(cited_by_traits({module.split(".")[-1]}, files))
             continue
         if module not in files or (module, name) in reached:
             continue
@@ -199,18 +278,38 @@ def start_of(crate, function):
     raise SystemExit(f"no public function {function} in {crate}")
 
 
+def cited_by_traits(traits, files):
+    """What the clauses of these traits cite, and of those that they lead to."""
+    clauses = [clauses_of(trait) for trait in traits_behind(traits)]
+    return set().union(*(cited(one.lines, one.file, files) for one in clauses))
+
+
 def base_of(starts, files):
     """All definitions that some contracts rest on, and the declared types."""
     found = set()
     for path, function in starts:
-        lines, file = contract_of(path, function)
-        found |= cited(lines, file, files)
+        contract = contract_of(path, function)
+        found |= cited(contract.lines, contract.file, files) | cited_by_traits(contract.traits, files)
     return closure(found, files)
+
+
+def clauses_to_read(starts, types):
+    """How many lines the clauses of some contracts have, and of the traits that they and the definitions lead to."""
+    contracts = [contract_of(*start) for start in starts]
+    declared = {module.split(".")[-1] for module in types if is_trait(module)}
+    traits = traits_behind(declared.union(*(contract.traits for contract in contracts)))
+    texts = [contract.lines for contract in contracts] + [clauses_of(trait).lines for trait in traits]
+    return sum(bool(line.strip()) and not line.lstrip().startswith("//") for lines in texts for line in lines), sorted(traits)
 
 
 def base_of_promise(files):
     """All definitions that the promise rests on, and the declared types."""
     return base_of([start_of(*start) for start in STARTS], files)
+
+
+def base_with_laws(files):
+    """The same with the laws that stand beside the promise."""
+    return base_of([start_of(*start) for start in STARTS + LAWS], files)
 
 
 def size_of(definitions):
@@ -230,6 +329,14 @@ def missed_by_form(definitions):
     bare = sum(not item.commented for item in definitions)
     long = sum(len(path.read_text().splitlines()) > LONGEST_FILE for path in {item.path for item in definitions})
     return f"Without a comment: {bare}. Files above {LONGEST_FILE} lines: {long}. Both have the goal of none."
+
+
+def more_to_read(files, types):
+    """What is to be read beside the definitions of the promise: clauses; and how many lines the further laws add."""
+    size, traits = clauses_to_read([start_of(*start) for start in STARTS], types)
+    laws = sum(size_of(base_with_laws(files)[0].values()))
+    return (f"The clauses of these {len(STARTS)} contracts and of the traits {', '.join(traits)} have {size} lines more. "
+            f"With {len(LAWS)} further laws that stand beside the promise the definitions have {laws:,} lines.")
 
 
 def print_crates(definitions):
@@ -276,6 +383,7 @@ def main():
     reached, types = base_of(starts, files)
     if len(starts) > 1:
         print(f"all of them: {summed(reached, types)}")
+        print(more_to_read(files, types))
     print_crates(reached.values())
     print_long_files()
     for item in sorted(reached.values(), key=lambda item: (item.crate, str(item.path), item.name)):

@@ -2,6 +2,7 @@
 
 from __future__ import annotations
 
+import socket
 import struct
 import time
 from collections.abc import Callable, Iterator
@@ -11,7 +12,7 @@ import trees
 import wire
 from each_allocation import MADE, PUT_LENGTH
 from layout import written
-from loopback import Connection, Server
+from loopback import SECONDS, Connection, Server
 from random_calls.answers import PutCount, Refusal, Wanted, same
 from random_calls.plain_model import Column
 from random_calls.refused import INGEST
@@ -299,10 +300,11 @@ KEYS = (Column("k", "Int64", True), Column("v", "Int64", True))
 # 64,000,000,000 joined rows, of which WHERE keeps none: it names the first place and the last one, so it stands above both joins
 NEVER = "SELECT x.k FROM t AS x JOIN t AS y ON x.k = y.k JOIN t AS z ON x.k = z.k WHERE x.v < z.v"
 FREE_SECONDS = 5  # within which a seat has to be free
+WAITED = 5  # seconds of work without an answer, for which a client is waited for that has ended what it sends
 
 
 def ended_input(connection: Connection) -> None:
-    """Ends what it sends, and waits for the answer: it is taken for gone."""
+    """Ends what it sends, and waits for the answer."""
     connection.end_input()
     connection.rest()
     connection.close()
@@ -314,7 +316,16 @@ def broken_behind_a_byte(connection: Connection) -> None:
     connection.break_off()
 
 
-def seconds_until_free(server: Server, records: bytes, leave: Callable[[Connection], None] = Connection.close) -> float:
+RESETS = (Connection.break_off, broken_behind_a_byte)
+WAYS = (*RESETS, ended_input, Connection.close)
+
+
+def waited_for(leave: Callable[[Connection], None]) -> int:
+    """How long a client is waited for that leaves so. One that closes its socket ends what it sends, and shows no more than that."""
+    return 0 if leave in RESETS else WAITED
+
+
+def seconds_until_free(server: Server, records: bytes, leave: Callable[[Connection], None] = Connection.break_off) -> float:
     """How long the only seat is taken when its client goes away behind the first byte of an answer."""
     connection = Connection(server.port)
     connection.send(records)
@@ -326,10 +337,8 @@ def seconds_until_free(server: Server, records: bytes, leave: Callable[[Connecti
     return time.perf_counter() - began
 
 
-WAYS = (Connection.close, Connection.break_off, ended_input, broken_behind_a_byte)
-
-
-@case("clients that go away while a join gives no row, of 1 worker and of 4: each had the schema, and its only seat is free within 5 seconds")
+@case("clients that go away while a join gives no row, of 1 worker and of 4: each had the schema, and its only seat is free within 5 seconds where its "
+      "connection was reset; else it is waited for 5 seconds, and then its seat is free within 5 more")
 def gone_while_joining(run: Run) -> str:
     longest = 0.0
     for workers, batches in (("1", [4_000]), ("4", [66_000] * 4)):
@@ -339,9 +348,27 @@ def gone_while_joining(run: Run) -> str:
                     put = appended if number else put_of
                     ask(connection, put("t", KEYS, [(1, 0)] * rows), PutCount(rows))
             never = fetch_of(len(batches), 0, sum(batches), NEVER)
-            longest = max(longest, *(seconds_until_free(server, never, leave) for leave in WAYS))
-    same(f"a seat was free after {longest:.1f} s", True, longest < FREE_SECONDS)
+            for leave in WAYS:
+                more = seconds_until_free(server, never, leave) - waited_for(leave)
+                least = 0 if leave is ended_input else -waited_for(leave)  # (who closes a socket with bytes unread resets it)
+                same(f"a seat was free {more:.1f} s behind {waited_for(leave)}", True, least <= more < FREE_SECONDS)
+                longest = max(longest, more)
     return f"at most {longest:.1f} s"
+
+
+@case("clients that end what they send behind a join that gives no row, of 1 worker and of 4: each has the schema, and behind 5 seconds no Status")
+def ended_without_an_answer(run: Run) -> None:
+    for workers, batches in (("1", [4_000]), ("4", [66_000] * 4)):
+        with run.serving("--workers", workers) as server, Connection(server.port) as connection:
+            for number, rows in enumerate(batches):
+                put = appended if number else put_of
+                ask(connection, put("t", KEYS, [(1, 0)] * rows), PutCount(rows))
+            connection.send(fetch_of(len(batches), 0, sum(batches), NEVER))
+            connection.end_input()
+            first_message(connection)
+            began = time.perf_counter()
+            same("what stands behind the schema", b"", connection.rest())
+            same("it was waited for 5 seconds", True, WAITED - 1 < time.perf_counter() - began < WAITED + FREE_SECONDS)
 
 
 SHORT = ("SELECT x.v FROM t AS x JOIN t AS y ON x.k = y.k", "SELECT v FROM t GROUP BY v")
@@ -365,6 +392,48 @@ def half_closed(run: Run) -> None:
                         whole.look(connection.answer())
                         if behind:
                             Refusal("F10").look(connection.answer())
+
+
+COUNTED, KINDS = 1_048_576, 1_000  # rows in two batches, each of one of so many kinds: the server looks at the client before it has counted them
+COUNTS = Column("col1", "Int64", False)
+LONG_ANSWERS = (
+    (COUNTED, "SELECT COUNT(*) FROM t", rows_of((COUNTS,), (COUNTED,))),
+    (COUNTED, "SELECT COUNT(*) FROM t WHERE v < 524288", rows_of((COUNTS,), (COUNTED // 2,))),
+    (COUNTED, "SELECT k, COUNT(*) FROM t GROUP BY k", rows_of((KEYS[0], Column("col2", "Int64", False)), *[
+        (kind, len(range(kind, COUNTED, KINDS))) for kind in range(KINDS)])),
+    (COUNTED, "SELECT x.v FROM t AS x JOIN u AS y ON x.v = y.v", rows_of(KEYS[1:], (7,))),
+    (1, "SELECT y.v FROM u AS x JOIN t AS y ON x.v = y.v", rows_of(KEYS[1:], (7,))),
+)
+
+
+def counted_put() -> bytes:
+    """A put of two batches of rows of a kind and a number."""
+    fields = [trees.field(name, trees.integer(64, True)) for name in ("k", "v")]
+    batches = []
+    for first in (0, COUNTED // 2):
+        numbers = range(first, first + COUNTED // 2)
+        kinds = [number % KINDS for number in numbers]
+        batches.append(trees.batch(len(numbers), *((0, b"", struct.pack(f"<{len(numbers)}q", *part)) for part in (kinds, numbers))))
+    return put_of_messages([(trees.schema(*fields), b""), *batches])
+
+
+@case("clients that end what they send behind counts of 1,048,576 rows, groups and joins of them, of 1 worker and of 4: each has its whole answer, and that of a call behind it")
+def half_closed_behind_long_work(run: Run) -> None:
+    put = counted_put()
+    for workers in ("1", "4"):
+        with run.serving("--workers", workers) as server:
+            with Connection(server.port) as connection:
+                ask(connection, put, PutCount(COUNTED))
+                ask(connection, put_of("u", KEYS, [(0, 7)]), PutCount(1))
+            for end, text, whole in LONG_ANSWERS:
+                for behind in (b"", PUT):
+                    with Connection(server.port) as connection:
+                        connection.send(fetch_of(2, 0, end, text) + behind)
+                        connection.end_input()
+                        whole.look(connection.answer())
+                        if behind:
+                            Refusal("F10").look(connection.answer())
+                        same("what stands behind the answers", b"", connection.rest())
 
 
 NUMBERED = 16_000  # rows that name one text of 65,536 bytes, each beside its number: so many keys are found, each by its number
@@ -504,15 +573,16 @@ FIRST_WORK = 0.5  # seconds of work within which the schema has to be there, and
 
 
 @case("clients that go away while 2,000 comparisons and more are asked of 40,000 batches of one row: each has the schema at once, and its only seat "
-      "is free at once, as the work of the server tells")
+      "is free at once where its connection was reset, and else behind 5 seconds at most, as the work of the server tells")
 def gone_while_judging(run: Run) -> str:
     single = trees.batch(1, (0, b"", bytes(8)))
     put = put_of_messages([(trees.schema(trees.field("a", trees.integer(64, True), False)), b"")] + [single] * SINGLES)
     most = [0.0, 0.0]
     with one_seat(run, "1", put, SINGLES) as server:
         for records in JUDGED:
-            for leave in WAYS:
-                most = [max(*pair) for pair in zip(most, work_until_free(server, records, leave))]
+            for leave in WAYS if records is JUDGED[0] else RESETS:
+                soon, behind = work_until_free(server, records, leave)
+                most = [max(most[0], soon), max(most[1], behind - waited_for(leave))]
                 same(f"{most[0]:.2f} s of work before the schema, and {most[1]:.2f} s behind the client", True, max(most) < FIRST_WORK)
     return f"at most {most[0]:.2f} s of work before the schema, and {most[1]:.2f} s behind the client"
 
@@ -524,15 +594,15 @@ KEPT = f"SELECT v FROM t WHERE {EQUAL} OR v IN ({','.join(map(str, range(1_000, 
 PIECE_WORK = 8  # seconds of work of a worker within which the schema has to be there, and then the seat free: a batch takes at least five times as long
 
 
-def pairs_put() -> bytes:
-    """A put of batches of which each row has another pair of two texts of 8,192 bytes, which differ in their last ones."""
+def pairs_put(piece: int = PIECE, pieces: int = PIECES, length: int = 8_192) -> bytes:
+    """A put of batches of which each row has another pair of two texts of so many bytes, which differ in their last ones."""
     coded = [trees.field(name, trees.UTF8, dictionary=trees.encoding(id, trees.integer(8, True))) for id, name in enumerate("su")]
     fields = trees.schema(*coded, trees.field("v", trees.integer(64, True))), b""
-    words = [trees.dictionary(id, trees.batch(WORDS, (0, b"", *trees.texts([b"%s%03d%s" % (b"x" * 8_188, number, end) for number in range(WORDS)]))))
+    words = [trees.dictionary(id, trees.batch(WORDS, (0, b"", *trees.texts([b"%s%03d%s" % (b"x" * (length - 4), number, end) for number in range(WORDS)]))))
              for id, end in enumerate((b"a", b"b"))]
-    codes = bytes(row % WORDS for row in range(PIECE)), bytes(row // WORDS % WORDS for row in range(PIECE))
-    rows = trees.batch(PIECE, *((0, b"", part) for part in codes), (0, b"", struct.pack(f"<{PIECE}q", *range(PIECE))))
-    return put_of_messages([fields, *words, *[rows] * PIECES])
+    codes = bytes(row % WORDS for row in range(piece)), bytes(row // WORDS % WORDS for row in range(piece))
+    rows = trees.batch(piece, *((0, b"", part) for part in codes), (0, b"", struct.pack(f"<{piece}q", *range(piece))))
+    return put_of_messages([fields, *words, *[rows] * pieces])
 
 
 def work_of_dear(run: Run, workers: str, texts: list[str]) -> str:
@@ -562,12 +632,59 @@ def gone_while_giving(run: Run) -> str:
     return f"at most {work_of_dear(run, '1', [KEPT])}; with 4 workers {work_of_dear(run, '4', [KEPT])}"
 
 
+STEADY_ROWS = 32_768
+STEADY = range(0, STEADY_ROWS, 4_096)  # those that are kept: not each piece has one, so between two of them the server looks at the client
+
+
+@case("a client that ends what it sends behind a filter that works for longer than 5 seconds, and gives a row now and then: it has its whole answer")
+def half_closed_while_rows_come(run: Run) -> str:
+    with run.serving() as server:
+        with Connection(server.port) as connection:
+            ask(connection, pairs_put(STEADY_ROWS, 1, 4_096), PutCount(STEADY_ROWS))
+        with Connection(server.port) as connection:
+            text = f"SELECT v FROM t WHERE {EQUAL} OR v IN ({','.join(map(str, STEADY))})"
+            connection.send(fetch_of(1, 0, STEADY_ROWS, text))
+            connection.end_input()
+            began = server.seconds_worked()
+            rows_of(V, *[(number,) for number in STEADY]).look(connection.answer())
+            worked = server.seconds_worked() - began
+    same(f"it worked for {worked:.1f} s, which is longer than 5", True, worked > WAITED)
+    return f"behind {worked:.1f} s of work"
+
+
 @case("a client that waits before it calls: with --idle 0 its connection stays")
 def patient_server(run: Run) -> None:
     with run.serving("--idle", "0") as server:
         with Connection(server.port) as connection:
             time.sleep(1.5)
             ask(connection, PUT, PutCount(2))
+
+
+def other_addresses() -> list[str]:
+    """Addresses of this machine beside 127.0.0.1: another one of loopback, and that from which it would call others."""
+    with socket.socket(socket.AF_INET, socket.SOCK_DGRAM) as one:
+        try:
+            one.connect(("192.0.2.1", 9))  # (kept for documentation: no packet is sent)
+            return ["127.0.0.2", one.getsockname()[0]]
+        except OSError:
+            return ["127.0.0.2"]
+
+
+@case("the machine's other addresses: nothing listens there, nor on ::1")
+def loopback_alone(run: Run) -> str:
+    addresses = other_addresses()
+    with run.serving() as server:
+        for address in (*addresses, "::1"):
+            try:
+                with socket.create_connection((address, server.port), timeout=SECONDS):
+                    answer = "a connection"
+            except OSError as error:
+                answer = type(error).__name__
+            # (without IPv6 the system has no such address)
+            same(f"what {address} answers", True, answer == "ConnectionRefusedError" or (address == "::1" and answer == "OSError"))
+        with Connection(server.port) as connection:
+            ask(connection, PUT, PutCount(2))
+    return ", ".join(addresses)
 
 
 @case("500 connections, one after another: the last 300 leave no open file and no memory behind")

@@ -598,6 +598,18 @@ def told(run: Run, answer: bytes) -> tuple[int, bytes, bytes]:
     return given
 
 
+@case("a limit of file descriptors that is too small for the seats: one line says so at the start, and the server serves; of a larger limit nothing is said")
+def small_limit(run: Run) -> None:
+    limited = ("bash", "-c", 'ulimit -n 40; exec "$@"', "bash")
+    line = b"the limit of file descriptors is 40, and 16 seats may need 64\n"
+    for seats, wanted in (("16", line), ("9", line.replace(b"16", b"9").replace(b"64", b"43")), ("8", b"")):
+        with Server(run.path, "--seats", seats, before=limited) as server:
+            same(f"what is said of {seats} seats", wanted, server.said())
+            with Connection(server.port) as connection:
+                ask(connection, FETCH, Refusal("F18"))
+            same("what is said later", wanted, server.said())
+
+
 @case("servers that answer something else: the fault found at this end, and status 3")
 def other_servers(run: Run) -> None:
     done, nothing = b"\x04\0\0\0", b"\x02\0\0\0\0\0"

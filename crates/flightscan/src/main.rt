@@ -4,8 +4,10 @@
 
 ghost use Rattle.grpc_frame.specs.Ends.{CanFail};
 
+mod descriptors;
 mod running;
 
+use crate::descriptors::{descriptor_limit, small_limit};
 use crate::running::{Machine, Network, Streams, run};
 use command_line::Request;
 use commands::arguments::refuse_arguments;
@@ -42,6 +44,18 @@ fn null_device<R: Files>(files: &R) -> Option<R::File> {
     File::open(files, "/dev/null").ok()
 }
 
+// Says in a line where the system lets a server have too few file descriptors for its seats. The server starts all the same.
+fn tell_small_limit<E: Output>(alloc: Global, seats: u32, faults: &mut E)
+    requires { CanFail (E.failures faults.old) }
+{
+    let Some(limit) = descriptor_limit() else {
+        return;
+    };
+    if let Ok(Some(line)) = small_limit(alloc, limit, seats) {
+        let _ = faults.write(line.as_bytes());
+    }
+}
+
 // Ends the program where its words cannot be had.
 fn refused<E: Output>(kind: ErrorKind, faults: &mut E) -> ExitCode
     requires prints { CanFail (E.failures faults.old) }
@@ -70,6 +84,10 @@ fn main(rt: HostRuntime) -> ExitCode {
         Ok(request) => request,
         Err(status) => return ExitCode::from(status.number()),
     };
+    if let Request::Serve(serving) = &request {
+        // (by a handle of its own: no failure is counted of the standard streams)
+        tell_small_limit(alloc, serving.seats, &mut Counted::new(rt.stderr()));
+    }
     let machine = Machine {
         rt: &rt,
         alloc,

@@ -1,7 +1,8 @@
 //! Sockets of this machine, on 127.0.0.1 alone, as commands see the network.
 #![tactic(auto)]
 
-ghost use Rattle.std.specs.Prelude.{◌≡◌, [], IfOk, Some};
+ghost use Rattle.std.specs.Prelude.{◌≡◌, ◌-◌, ◌<◌, ◌↔◌, [], IfOk, IsTrue, Some};
+ghost use Rattle.std.specs.Time.{instant_nanos};
 
 use command_ends::{AcceptFailure, Announced, Connect, Known, Listen};
 use grpc_frame::{Counted, Output};
@@ -9,25 +10,50 @@ use scan_base::Fault;
 use std::io;
 use std::io::ErrorKind;
 use std::net::{Ipv4Addr, Net, TcpListener, TcpStream};
-use std::time::Duration;
+use std::time::{Clock, Duration, Instant};
 
-/// The end of a stream that is written to. It can look whether the other end is still there.
+// A client that has ended what it sends is waited for so long, where no byte goes out to it.
+const WAIT_SECONDS: u64 = 5;
+
+/// The end of a client's stream that is written to. It can look whether the client is still there.
 #[derive(Drop)]
-pub struct SocketWriter {
+pub struct SocketWriter<'a, R> {
     counted: Counted<TcpStream>,
+    clock: &'a R,
+    // When a look first found that the client had ended what it sends, since bytes last went out.
+    ended: Option<Instant>,
 }
 
-impl Output for SocketWriter {
+impl<'a, R> SocketWriter<'a, R> {
+    // No end of what the client sends was found yet.
+    fn new(counted: Counted<TcpStream>, clock: &'a R) -> SocketWriter<'a, R>
+        ensures { result.counted ≡ counted }
+    {
+        SocketWriter {
+            counted,
+            clock,
+            ended: None,
+        }
+    }
+}
+
+impl<R: Clock> Output for SocketWriter<'_, R> {
     ghost contents = { λ s. Some s.counted.taken.bytes };
 
     ghost failures = { λ s. s.counted.failures };
 
     fn write(&mut self, piece: &[u8]) -> Result<(), Fault> {
+        self.ended = None;
         self.counted.write(piece)
     }
 
     fn look(&mut self) -> Result<(), Fault> {
-        if is_there(self.counted.get_ref()) {
+        let is_there = match other_end_of(self.counted.get_ref()) {
+            OtherEnd::Open => true,
+            OtherEnd::Ended => is_waited_for(self.clock, &mut self.ended),
+            OtherEnd::Broken => false,
+        };
+        if is_there {
             return Ok(());
         }
         self.counted.count_failure();
@@ -39,24 +65,53 @@ impl Output for SocketWriter {
     }
 }
 
-// Whether the other end may still be there: it did not end what it sends, and the stream has no error. No byte is taken, and
-// it does not wait. Nothing else may read or write the stream meanwhile. The error is asked for first, since a peek tells of it
-// only where no byte waits to be read.
-fn is_there(stream: &TcpStream) -> bool {
+// The other end of a stream, as the stream shows it.
+enum OtherEnd {
+    // It may send more.
+    Open,
+    // It has ended what it sends, and all of that was read.
+    Ended,
+    // The stream has an error.
+    Broken,
+}
+
+// Looks at the other end of a stream. No byte is taken, and it does not wait. Nothing else may read or write the stream
+// meanwhile. The error is asked for first, since a peek tells of it only where no byte waits to be read.
+fn other_end_of(stream: &TcpStream) -> OtherEnd {
     let Ok(None) = stream.take_error() else {
-        return false;
+        return OtherEnd::Broken;
     };
     if stream.set_nonblocking(true).is_err() {
-        return false;
+        return OtherEnd::Broken;
     }
     let peeked = stream.peek(&mut [0]);
     if stream.set_nonblocking(false).is_err() {
-        return false;
+        return OtherEnd::Broken;
     }
     match peeked {
-        Ok(count) => count > 0,
-        Err(error) => matches!(error.kind(), ErrorKind::WouldBlock | ErrorKind::Interrupted),
+        Ok(0) => OtherEnd::Ended,
+        Ok(_) => OtherEnd::Open,
+        Err(error) => match error.kind() {
+            ErrorKind::WouldBlock | ErrorKind::Interrupted => OtherEnd::Open,
+            _ => OtherEnd::Broken,
+        },
     }
+}
+
+// Whether a client is still waited for that has ended what it sends. When that was first found is noted. It is not where the
+// clock gives no time.
+fn is_waited_for(clock: &impl Clock, ended: &mut Option<Instant>) -> bool {
+    match Instant::now(clock) {
+        Ok(now) => is_soon(*ended.get_or_insert(now), now),
+        Err(_) => false,
+    }
+}
+
+// Whether fewer than five seconds lie between two times.
+fn is_soon(ended: Instant, now: Instant) -> bool
+    ensures { IsTrue result ↔ (instant_nanos now - instant_nanos ended < 5_000_000_000) }
+{
+    now.duration_since(ended) < Duration::from_secs(WAIT_SECONDS)
 }
 
 /// Connects to servers of this machine.
@@ -78,14 +133,14 @@ impl<R: Net<Listener = TcpListener, Stream = TcpStream>> Connect for Loopback<'_
 
     type Reader = Counted<TcpStream>;
 
-    type Writer = SocketWriter;
+    type Writer = Counted<TcpStream>;
 
     // Nothing was read or written yet.
     ghost connects = { λ _ _ made _. IfSome made (λ ends. AreNew ends) };
 
     ghost shares = { λ _ _ _. Unit {0} };
 
-    fn connect(&mut self, port: u16) -> io::Result<(Counted<TcpStream>, SocketWriter)> {
+    fn connect(&mut self, port: u16) -> io::Result<(Counted<TcpStream>, Counted<TcpStream>)> {
         ends_of(TcpStream::connect(self.rt, (Ipv4Addr::LOCALHOST, port))?)
     }
 
@@ -165,13 +220,17 @@ fn failure_of(error: &io::Error) -> AcceptFailure {
     }
 }
 
-impl<K: Known, R: Net<Listener = TcpListener, Stream = TcpStream>> Listen<K> for Port<'_, R> {
+impl<'a, K, R> Listen<K> for Port<'a, R>
+where
+    K: Known,
+    R: Net<Listener = TcpListener, Stream = TcpStream> + Clock,
+{
     ghost use Rattle.std.specs.Prelude.{IfOk};
     ghost use Rattle.command_ends.specs.Network.{AreNew};
 
     type Reader = Counted<TcpStream>;
 
-    type Writer = SocketWriter;
+    type Writer = SocketWriter<'a, R>;
 
     ghost listens = { λ _ _ _ _ _. Unit {0} };
 
@@ -196,7 +255,11 @@ impl<K: Known, R: Net<Listener = TcpListener, Stream = TcpStream>> Listen<K> for
 
     fn listen(&mut self, port: u16, idle: u16) -> io::Result<u16> {
         let listener = TcpListener::bind(self.rt, (Ipv4Addr::LOCALHOST, port))?;
-        let port = listener.local_addr()?.port();
+        let address = listener.local_addr()?;
+        if !address.ip().is_loopback() {
+            return Err(io::Error::from(ErrorKind::AddrNotAvailable));
+        }
+        let port = address.port();
         self.listener = Some(listener);
         self.number = port;
         self.patience = patience_of(idle);
@@ -220,13 +283,13 @@ impl<K: Known, R: Net<Listener = TcpListener, Stream = TcpStream>> Listen<K> for
         &mut self,
         _announced: &Announced,
         _seat: &K,
-    ) -> Result<(Counted<TcpStream>, SocketWriter), AcceptFailure> {
+    ) -> Result<(Counted<TcpStream>, SocketWriter<'a, R>), AcceptFailure> {
         let Some(listener) = &self.listener else {
             return Err(AcceptFailure::Broken);
         };
         match listener.accept() {
             Ok((stream, _)) => match set_up(stream, self.patience) {
-                Ok(ends) => Ok(ends),
+                Ok((reader, counted)) => Ok((reader, SocketWriter::new(counted, self.rt))),
                 Err(_) => Err(AcceptFailure::MayPass),
             },
             Err(error) => Err(failure_of(&error)),
@@ -234,18 +297,18 @@ impl<K: Known, R: Net<Listener = TcpListener, Stream = TcpStream>> Listen<K> for
     }
 
     // Both ends have the stream, and are dropped.
-    fn done(&mut self, _reader: Counted<TcpStream>, _writer: SocketWriter, _seat: &K) {}
+    fn done(&mut self, _reader: Counted<TcpStream>, _writer: SocketWriter<'a, R>, _seat: &K) {}
 }
 
 // The ends of a stream, of which a read or a write fails after so long without a byte.
 fn set_up(
     stream: TcpStream,
     patience: Option<Duration>,
-) -> io::Result<(Counted<TcpStream>, SocketWriter)>
+) -> io::Result<(Counted<TcpStream>, Counted<TcpStream>)>
     ensures reads { IfOk result (λ ends. ends.0.failures ≡ 0) }
-    ensures writes { IfOk result (λ ends. ends.1.counted.failures ≡ 0) }
+    ensures writes { IfOk result (λ ends. ends.1.failures ≡ 0) }
     ensures unread { IfOk result (λ ends. ends.0.given.bytes ≡ []) }
-    ensures unwritten { IfOk result (λ ends. ends.1.counted.taken.bytes ≡ []) }
+    ensures unwritten { IfOk result (λ ends. ends.1.taken.bytes ≡ []) }
 {
     stream.set_read_timeout(patience)?;
     stream.set_write_timeout(patience)?;
@@ -253,13 +316,13 @@ fn set_up(
 }
 
 // The ends of a stream. What is written goes out at once.
-fn ends_of(stream: TcpStream) -> io::Result<(Counted<TcpStream>, SocketWriter)>
+fn ends_of(stream: TcpStream) -> io::Result<(Counted<TcpStream>, Counted<TcpStream>)>
     ensures reads { IfOk result (λ ends. ends.0.failures ≡ 0) }
-    ensures writes { IfOk result (λ ends. ends.1.counted.failures ≡ 0) }
+    ensures writes { IfOk result (λ ends. ends.1.failures ≡ 0) }
     ensures unread { IfOk result (λ ends. ends.0.given.bytes ≡ []) }
-    ensures unwritten { IfOk result (λ ends. ends.1.counted.taken.bytes ≡ []) }
+    ensures unwritten { IfOk result (λ ends. ends.1.taken.bytes ≡ []) }
 {
     stream.set_nodelay(true)?;
     let counted = Counted::new(stream.try_clone()?);
-    Ok((Counted::new(stream), SocketWriter { counted }))
+    Ok((Counted::new(stream), counted))
 }

@@ -9,6 +9,7 @@ use loopback::SocketWriter;
 use std::io;
 use std::net::{Net, TcpListener, TcpStream};
 use std::sync::{Mutex, Wait};
+use std::time::Clock;
 
 /// What all listeners of a server keep: what they were shown, and how many connections they may still give.
 #[derive(Drop)]
@@ -65,9 +66,9 @@ impl<'a, C: BookName, R: Wait> Keeping<'a, C, R> {
     }
 }
 
-impl<C: BookName, R> Listen<ShownSeat> for Keeping<'_, C, R>
+impl<'a, C: BookName, R> Listen<ShownSeat> for Keeping<'a, C, R>
 where
-    R: Net<Listener = TcpListener, Stream = TcpStream> + Wait,
+    R: Net<Listener = TcpListener, Stream = TcpStream> + Wait + Clock,
 {
     ghost use Rattle.std.specs.Prelude.{◌≡◌};
     ghost use Rattle.command_ends.specs.Network.{AreNew};
@@ -77,7 +78,7 @@ where
 
     type Reader = Counted<TcpStream>;
 
-    type Writer = SocketWriter;
+    type Writer = SocketWriter<'a, R>;
 
     ghost listens = { λ _ _ _ _ _. Unit {0} };
 
@@ -117,7 +118,7 @@ where
         &mut self,
         announced: &Announced,
         seat: &ShownSeat,
-    ) -> Result<(Counted<TcpStream>, SocketWriter), AcceptFailure> {
+    ) -> Result<(Counted<TcpStream>, SocketWriter<'a, R>), AcceptFailure> {
         self.seat = Some(seat.again());
         self.kept.lock(self.rt).history.add(seat);
         let ends = self.bound.accept(announced, seat)?;
@@ -127,7 +128,7 @@ where
         Err(AcceptFailure::Broken)
     }
 
-    fn done(&mut self, reader: Counted<TcpStream>, writer: SocketWriter, seat: &ShownSeat) {
+    fn done(&mut self, reader: Counted<TcpStream>, writer: SocketWriter<'a, R>, seat: &ShownSeat) {
         self.seat = Some(seat.again());
         self.kept.lock(self.rt).history.add(seat);
         self.bound.done(reader, writer, seat);

@@ -88,7 +88,7 @@ pub(crate) struct Bound<'a, R> {
     ghost same: { port.number ≡ number },
 }
 
-impl<'a, R: Net<Listener = TcpListener, Stream = TcpStream>> Bound<'a, R> {
+impl<'a, R: Net<Listener = TcpListener, Stream = TcpStream> + Clock> Bound<'a, R> {
     // A port that is free.
     pub(crate) fn new(rt: &'a R) -> io::Result<Bound<'a, R>> {
         let mut port = Port::new(rt);
@@ -97,13 +97,16 @@ impl<'a, R: Net<Listener = TcpListener, Stream = TcpStream>> Bound<'a, R> {
     }
 }
 
-impl<R: Net<Listener = TcpListener, Stream = TcpStream>> Listen<ShownSeat> for Bound<'_, R> {
+impl<'a, R> Listen<ShownSeat> for Bound<'a, R>
+where
+    R: Net<Listener = TcpListener, Stream = TcpStream> + Clock,
+{
     ghost use Rattle.std.specs.Prelude.{IfOk};
     ghost use Rattle.command_ends.specs.Network.{AreNew};
 
     type Reader = Counted<TcpStream>;
 
-    type Writer = SocketWriter;
+    type Writer = SocketWriter<'a, R>;
 
     ghost listens = { λ _ _ _ _ _. Unit {0} };
 
@@ -141,11 +144,11 @@ impl<R: Net<Listener = TcpListener, Stream = TcpStream>> Listen<ShownSeat> for B
         &mut self,
         announced: &Announced,
         seat: &ShownSeat,
-    ) -> Result<(Counted<TcpStream>, SocketWriter), AcceptFailure> {
+    ) -> Result<(Counted<TcpStream>, SocketWriter<'a, R>), AcceptFailure> {
         self.port.accept(announced, seat)
     }
 
-    fn done(&mut self, reader: Counted<TcpStream>, writer: SocketWriter, seat: &ShownSeat) {
+    fn done(&mut self, reader: Counted<TcpStream>, writer: SocketWriter<'a, R>, seat: &ShownSeat) {
         self.port.done(reader, writer, seat);
     }
 }
