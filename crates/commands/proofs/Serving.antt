@@ -161,3 +161,14 @@ learnt_none shown = ((refl, refl), begins_same (log_of shown.log) (log_of shown.
 -- seats that are shown of one cell, with one number, are one
 pub same_seat : (before behind : RestAt) (book : Book) (number : ℕ) (old new : Seat) → IsShownAs before book number old → IsShownAs behind book number new → IsSameSeat before behind
 same_seat before behind book number old new was is = (is.0 ∙ sym was.0, is.1 ∙ sym was.1)
+
+-- what a listener was shown, when the seat has asked
+pub shown_first : (rests : RestAt → Type 0) (moves : Moves) (book : Book) (number : ℕ) (old new : Seat) (shown : RestAt)
+    → ((seat : RestAt) × rests seat × WasShown seat book number old) → Learns moves old new → IsShownAs shown book number new
+    → (seat : RestAt) × rests seat × HasLearnt seat shown
+shown_first rests moves book number old new shown (seat, stands, was) learns is =
+    (seat, stands, learnt_so moves seat shown book number old new was learns is)
+
+-- what a listener is shown is how the seat stands
+pub shown_so : (rests : RestAt → Type 0) (shown : RestAt) → rests shown → (seat : RestAt) × rests seat × HasLearnt seat shown
+shown_so rests shown stands = (shown, stands, learnt_none shown)
