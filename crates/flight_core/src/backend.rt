@@ -27,12 +27,8 @@ pub trait Backend {
     // What holds of each put that it accepts.
     ghost accepts: { database.Put → Type 0 };
 
-    // Whether it knows without memory which versions are there. Then `at` is refused memory only for one that is.
+    // Whether it knows without memory which versions are there.
     ghost knows: { Bool };
-
-    /// Whether it knows without memory which versions are there.
-    fn knows() -> bool
-        ensures { result ≡ knows };
 
     /// Makes the next version, with this put, gives its number, and learns of it.
     ///
@@ -86,6 +82,10 @@ pub trait Backend {
             × (puts_in (seat self.new).log < number))
             ⊎ ((fault ≡ VersionExpired) × LooksOnce (seat self.old) (seat self.new)
             × (number ≤ puts_in (seat self.new).log) × (number < floor_of (seat self.new).log)))) };
+
+    /// Whether it knows without memory which versions are there. Then `at` is refused memory only for one that is.
+    fn knows() -> bool
+        ensures { result ≡ knows };
 
     /// Asks what others have done, and learns it. It is one ask, and no look.
     fn learn(&mut self)
@@ -191,10 +191,6 @@ impl Backend for Alone {
 
     ghost knows = { true };
 
-    fn knows() -> bool {
-        true
-    }
-
     fn put(&mut self, alloc: Global, put: Put) -> Result<u64, Fault> {
         self.asks.raise();
         self.plain.put(alloc, put)?;
@@ -214,6 +210,10 @@ impl Backend for Alone {
     fn at(&mut self, number: u64) -> Result<Snapshot, Fault> {
         self.looks.raise();
         Ok(self.plain.at(number)?.clone()?)
+    }
+
+    fn knows() -> bool {
+        true
     }
 
     // There are no others.

@@ -122,10 +122,6 @@ impl<'a, C: CellName, N: SeatName, R: Wait + Drop, H: Wait> Backend for Shared<'
 
     ghost knows = { false };
 
-    fn knows() -> bool {
-        false
-    }
-
     fn put(&mut self, alloc: Global, put: Put) -> Result<u64, Fault> {
         self.putter.put(self.rt, alloc, &mut self.scanner, put)
     }
@@ -141,6 +137,10 @@ impl<'a, C: CellName, N: SeatName, R: Wait + Drop, H: Wait> Backend for Shared<'
 
     fn at(&mut self, number: u64) -> Result<Snapshot, Fault> {
         self.scanner.at(number)
+    }
+
+    fn knows() -> bool {
+        false
     }
 
     // The putter's lock is taken once.
