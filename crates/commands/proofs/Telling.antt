@@ -21,7 +21,7 @@ use Rattle.flight_calls.proofs.Making.{puts_made}
 use Rattle.shared_calls.specs.Sharing.{onward}
 use Rattle.command_ends.specs.Network.{Accepting}
 use Rattle.commands.specs.Port.{IsFresh}
-use Rattle.commands.specs.Serve.{Accept, AsksOthers, Broke, Failed, Took, Work, Worker, IsPartOf, ServesInTurn, ServesSideBySide, made_by_each, worker_of}
+use Rattle.commands.specs.Serve.{Accept, Broke, Failed, Took, Work, Worker, IsPartOf, ServesInTurn, made_by_each, worker_of}
 use Rattle.commands.specs.Told.{told_in_turn, told_by, told_by_each, unmarked, WorkersMakeWhatIsTold, HistoryIsTold, PutsAreTold}
 
 -- nothing is made where nothing more is served
@@ -44,15 +44,15 @@ turns_make {L} accepts moves options (Broke listener ∷ all) zero result old ne
 turns_make {L} accepts moves options (Broke listener ∷ all) (suc more) result old new s kept = nothing_more (worker_of listener old.seat) new s.4
 turns_make {L} accepts moves options (Took listener ends served last ∷ all) zero result old new s kept = absurd s
 turns_make {L} accepts moves options (Took listener ends served last ∷ all) (suc more) result old new s kept =
-    let turn = s.2 in
+    let turn = s.1.1 in
     let serves = turn.serves in
     let here : Log = entries_in (exchanges_of options serves.calls serves.replies) in
-    let rest : Log = told_in_turn accepts moves options all more result (worker_of listener s.1) new s.3 in
+    let rest : Log = told_in_turn accepts moves options all more result (worker_of listener s.1.0) new s.1.2 in
     let made = puts_made moves options turn.start last.seat serves.calls serves.replies serves.answers in
     let same : made.0 ≡ exchanges_of options serves.calls serves.replies = asks_nothing options serves.calls serves.replies made.0 kept made.1 in
     let served : last.seat.made ≡ turn.start.made ++ here = made.2 ∙ ap (λ (l : List Exchange). turn.start.made ++ entries_in l) same in
-    let first : s.1.made ≡ old.seat.made ++ here = turn.learnt.0.1 ∙ (served ∙ ap (λ (l : Log). l ++ here) turn.asked.0.1) in
-    turns_make accepts moves options all more result (worker_of listener s.1) new s.3 kept
+    let first : s.1.0.made ≡ old.seat.made ++ here = turn.learnt.0.1 ∙ (served ∙ ap (λ (l : Log). l ++ here) turn.asked.0.1) in
+    turns_make accepts moves options all more result (worker_of listener s.1.0) new s.1.2 kept
     ∙ ap (λ (l : Log). l ++ rest) first ∙ append_assoc old.seat.made here rest
 
 pub workers_make : {L : Type 0} (accepts : Accepting L) → WorkersMakeWhatIsTold accepts
@@ -110,17 +110,17 @@ turns_put {L} accepts moves options (Broke listener ∷ all) zero result old new
 turns_put {L} accepts moves options (Broke listener ∷ all) (suc more) result old new s = nothing_put (worker_of listener old.seat) new s.4
 turns_put {L} accepts moves options (Took listener ends served last ∷ all) zero result old new s = absurd s
 turns_put {L} accepts moves options (Took listener ends served last ∷ all) (suc more) result old new s =
-    let turn = s.2 in
+    let turn = s.1.1 in
     let serves = turn.serves in
     let here : Log = entries_in (exchanges_of options serves.calls serves.replies) in
-    let rest : Log = told_in_turn accepts moves options all more result (worker_of listener s.1) new s.3 in
+    let rest : Log = told_in_turn accepts moves options all more result (worker_of listener s.1.0) new s.1.2 in
     let made = puts_made moves options turn.start last.seat serves.calls serves.replies serves.answers in
     let served : puts_of last.seat.made ≡ puts_of turn.start.made ++ puts_of here
     = ap puts_of made.2 ∙ puts_of-append turn.start.made (entries_in made.0)
     ∙ ap (λ (l : List Put). puts_of turn.start.made ++ l) (puts_told options serves.calls serves.replies made.0 made.1) in
-    let first : puts_of s.1.made ≡ puts_of old.seat.made ++ puts_of here
+    let first : puts_of s.1.0.made ≡ puts_of old.seat.made ++ puts_of here
     = ap puts_of turn.learnt.0.1 ∙ (served ∙ ap (λ (l : Log). puts_of l ++ puts_of here) turn.asked.0.1) in
-    turns_put accepts moves options all more result (worker_of listener s.1) new s.3
+    turns_put accepts moves options all more result (worker_of listener s.1.0) new s.1.2
     ∙ ap (λ (l : List Put). l ++ puts_of rest) first ∙ append_assoc (puts_of old.seat.made) (puts_of here) (puts_of rest)
     ∙ ap (λ (l : List Put). puts_of old.seat.made ++ l) (sym (puts_of-append here rest))
 

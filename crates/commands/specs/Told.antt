@@ -1,5 +1,5 @@
 -- What the calls of a server's connections tell of its history.
-use Rattle.std.specs.Prelude.{◌≡◌, ℕ, zero, suc, All, List, [], ◌∷◌, ◌++◌, map, Result}
+use Rattle.std.specs.Prelude.{◌≡◌, ℕ, suc, All, List, [], ◌∷◌, ◌++◌, map, Option, Result}
 use Rattle.scan_base.specs.declared.fault.Fault.{Fault}
 use Rattle.flight_core.specs.Headline.{Pairwise}
 use Rattle.version_log.specs.Log.{Log, added, puts_of}
@@ -9,7 +9,7 @@ use Rattle.flight_calls.specs.Exchanges.{exchanges_of}
 use Rattle.flight_calls.specs.Laws.{entries_in}
 use Rattle.flight_core.specs.Seats.{Moves}
 use Rattle.shared_calls.specs.Sharing.{onward}
-use Rattle.command_ends.specs.Network.{Accepting, Ends}
+use Rattle.command_ends.specs.Network.{Accepting}
 use Rattle.commands.specs.Port.{IsFresh}
 use Rattle.commands.specs.Serve.{Accept, Failed, Took, Work, Worker, IsPartOf, ServesInTurn, ServesSideBySide, worker_of}
 
@@ -20,8 +20,8 @@ abbrev pub told_in_turn : {L : Type 0} (accepts : Accepting L) (moves : Moves) (
 told_in_turn accepts moves options (Failed listener ∷ others) (suc more) result old new serves =
     told_in_turn accepts moves options others (suc more) result (worker_of listener old.seat) new serves.1
 told_in_turn accepts moves options (Took listener ends served last ∷ others) (suc more) result old new serves =
-    entries_in (exchanges_of options serves.2.serves.calls serves.2.serves.replies)
-    ++ told_in_turn accepts moves options others more result (worker_of listener serves.1) new serves.3
+    entries_in (exchanges_of options serves.1.1.serves.calls serves.1.1.serves.replies)
+    ++ told_in_turn accepts moves options others more result (worker_of listener serves.1.0) new serves.1.2
 told_in_turn accepts moves options all more result old new serves = []
 
 -- the same of the connections of one worker

@@ -9,6 +9,7 @@ use client_commands::query::{Querying, query};
 use client_commands::tables::tables;
 use command_ends::{Connect, Listen};
 use command_line::Format;
+use commands::shown::ShownSeat;
 use grpc_frame::{MemoryInput, MemoryOutput};
 use hash_seed::HashSeed;
 use loopback::{Loopback, Port};
@@ -18,6 +19,7 @@ use std::io;
 use std::net::{Net, TcpListener, TcpStream};
 use std::random::RandomSource;
 use std::thread::Threads;
+use std::time::Clock;
 
 // An Arrow IPC stream of one nullable column `s` of texts: 'b', NULL, 'a', NULL, 'b'. Its headers are laid out by
 // vectors/arrow/layout.py.
@@ -182,10 +184,10 @@ fn add_first(told: &mut String, said: &[u8], wanted: &str) -> Result<(), AllocEr
 // second one names the port.
 pub(crate) fn told_port<R>(rt: &R) -> io::Result<String>
 where
-    R: Net<Listener = TcpListener, Stream = TcpStream> + AllocGlobal,
+    R: Net<Listener = TcpListener, Stream = TcpStream> + AllocGlobal + Clock,
 {
     let alloc = rt.alloc();
-    let port = Port::new(rt).listen(0, 0)?;
+    let port = Listen::<ShownSeat>::listen(&mut Port::new(rt), 0, 0)?;
     let wanted = format!(in alloc; "cannot connect to 127.0.0.1:{port}: ")?;
     let mut output = MemoryOutput::new(alloc);
     let mut faults = MemoryOutput::new(alloc);
