@@ -1,17 +1,14 @@
 -- The fetch that a stream answers.
-use Rattle.std.proofs.Common.{◌≡◌, List, [], ℕ, Option, Some, Result, Ok, Err, refl, inl, inr, sym, subst}
+use Rattle.std.proofs.Common.{List, ℕ, Option, Result, Ok, inl, sym, subst}
 use Rattle.scan_base.specs.declared.fault.Fault.{Fault}
-use Rattle.scan_base.specs.declared.fault.Fault.TheVariants.{BadTicket, OutOfMemory}
 use Rattle.endpoint_split.specs.Handle.{HandleAt}
 use Rattle.table_versions.specs.Database.{Database}
-use Rattle.flight_info.specs.Payloads.{Payload}
 use Rattle.flight_info.specs.Replies.{ReplyAt}
-use Rattle.flight_core.specs.Shown.{handle_shown}
 use Rattle.fetch_stream.specs.Fetches.{version_of}
 use Rattle.fetch_stream.specs.Streams.{StreamAt, Opens}
 use Rattle.flight_core.specs.Asked.{Asked}
-use Rattle.version_log.specs.Log.{Log, puts_in, floor_of, version}
-use Rattle.flight_core.specs.Machine.{FetchBy, FetchIn, OpensBy, OpensIn}
+use Rattle.version_log.specs.Log.{Log, version}
+use Rattle.flight_core.specs.Machine.{FetchBy}
 use Rattle.flight_core.specs.declared.answer.Answer.TheVariants.{Stream}
 use Rattle.flight_core.specs.Machine.{ReplyTo}
 use Rattle.flight_core.specs.Answered.{AnsweredBy, IsReplyOf}

@@ -1,13 +1,11 @@
 -- Versions that are kept behind a reply, and the expiry of the others, which the server asks of itself.
-use Rattle.std.proofs.Common.{◌≡◌, ◌≢◌, ◌<◌, ◌≤◌, ℕ, zero, suc, ◌+◌, ◌-◌, ◌^◌, Vec, List, [], ◌∷◌, length, Option, Some, None, Result, Ok, Err, refl, ap, subst, inl, arith}
+use Rattle.std.proofs.Common.{◌≡◌, ◌≢◌, ◌<◌, ◌≤◌, ℕ, zero, suc, ◌+◌, ◌-◌, ◌^◌, Vec, List, [], ◌∷◌, length, Option, Some, None, Result, Ok, Err, refl, ap, subst, arith}
 use Rattle.std.specs.Global.{Global}
 use Rattle.std.specs.Prelude.{codes}
 use lib.Utf8.{encode}
 use Rattle.byteorder.specs.Endian.{big_bytes}
 use Rattle.byteorder.specs.Numbers.{big_number-reads_back}
 use Rattle.scan_base.specs.declared.fault.Fault.{Fault}
-use Rattle.scan_base.specs.declared.fault.Fault.TheVariants.{OutOfMemory}
-use Rattle.table_versions.specs.Database.{Put}
 use Rattle.flight_proto.specs.Action.{ActionSaid, action_of, action_bytes}
 use Rattle.flight_proto.specs.Expiry.{expire_name, expiry_of, expiry_bytes, floor_bytes}
 use Rattle.flight_proto.specs.Laws.{IsAction, IsText}
@@ -16,9 +14,7 @@ use Rattle.flight_proto.proofs.ReadsBack.{action_back}
 use Rattle.flight_info.specs.Payloads.{Payload}
 use Rattle.flight_info.specs.Replies.{ReplyAt, refusal, whole}
 use Rattle.flight_core.specs.Asked.{Asked, put, expire}
-use Rattle.version_log.specs.Log.{Log, added, Begins}
-use Rattle.flight_core.specs.Puts.{put_said}
-use Rattle.flight_core.specs.Machine.{PutStep}
+use Rattle.version_log.specs.Log.{Log, Begins}
 use Rattle.flight_core.specs.declared.answer.Answer.{Answer}
 use Rattle.flight_core.specs.declared.answer.Answer.TheVariants.{Whole, Accepted, Floor, Stream}
 use Rattle.flight_calls.specs.declared.request.Single.{Single}
@@ -26,7 +22,7 @@ use Rattle.flight_calls.specs.declared.request.Single.TheVariants.{DoGet, GetFli
 use Rattle.flight_calls.specs.declared.setting.Options.{Options}
 use Rattle.flight_core.specs.Machine.{ReplyTo}
 use Rattle.flight_calls.specs.Calls.{asked_with, info_asked}
-use Rattle.flight_core.specs.Seats.{Seat, Moves, Puts, Expires}
+use Rattle.flight_core.specs.Seats.{Seat, Moves, Expires}
 use Rattle.flight_core.specs.Reacts.{Reacts}
 use Rattle.flight_calls.specs.Responds.{Responds, RespondsBy, oldest_kept, expired_behind, AsksItself}
 use Rattle.flight_core.specs.Answered.{AnsweredBy, HasVersion, IsReplyOf, fault_in, ReactsBy}

@@ -24,8 +24,8 @@ ghost use Rattle.flight_calls.specs.Sends.{WritesReply, SendsReply, SendsRest};
 
 use crate::setting::Setting;
 use fetch_stream::{Executor, FetchStream, Opening, Parcel, Payload, Payloads, ReadsPayloads};
-use flight_core::{Answer, Reply};
 use flight_core::laws::streams_answer;
+use flight_core::{Answer, Reply};
 use flight_proto::floor_message;
 use grpc_frame::{Outbox, Output};
 use row_sources::{Patience, Turn};

@@ -154,7 +154,11 @@ impl Request {
             Request::Put(reader) => answer_put(alloc, backend, reader.into_put(), options.keep),
             Request::Awaits(_) => Answer::Whole(Reply::refusal(alloc, Fault::BadProto)),
             Request::Asks(method, message) => {
-                step(alloc, backend, operation_of(method, message.as_slice(), options))
+                step(
+                    alloc,
+                    backend,
+                    operation_of(method, message.as_slice(), options),
+                )
             }
             Request::Settled(fault) => Answer::Whole(Reply::refusal(alloc, fault)),
             Request::Refused(fault) => Answer::Whole(Reply::refusal(alloc, fault)),

@@ -100,13 +100,13 @@ unasked moves stays s fault = reacts_unseen moves stays (Err fault) s (refusal f
 
 -- ---- an answer that is written
 
-begun : (answer : Answer) (reply : ReplyAt) → IsReplyOf answer reply → reply.fault ≢ Some OutOfMemory → fault_in answer ≢ Some OutOfMemory
+pub begun : (answer : Answer) (reply : ReplyAt) → IsReplyOf answer reply → reply.fault ≢ Some OutOfMemory → fault_in answer ≢ Some OutOfMemory
 begun (Whole whole) reply is other = rw is at other
 begun (Accepted payloads version) reply is other = λ e. let no = e in cc
 begun (Floor floor) reply is other = λ e. let no = e in cc
 begun (Stream stream) reply is other = λ e. let no = e in cc
 
-pub reacted : (moves : Moves) (asked : Result Asked Fault) (old new : Seat) (answer : Answer) (reply : ReplyAt) (r : ReactsBy moves asked old answer new) → ReplyTo asked r.log reply r.after → IsReplyOf answer reply
+abbrev pub reacted : (moves : Moves) (asked : Result Asked Fault) (old new : Seat) (answer : Answer) (reply : ReplyAt) (r : ReactsBy moves asked old answer new) → ReplyTo asked r.log reply r.after → IsReplyOf answer reply
     → Reacts moves asked old reply new
 reacted moves asked old new answer reply r step is = record {
   log = r.log;

@@ -28,9 +28,11 @@ pub trait Backend {
     ghost accepts: { database.Put → Type 0 };
 
     // Whether it knows without memory which versions are there. Then `at` is refused memory only for one that is.
-    ghost KNOWS: { Bool };
+    ghost knows: { Bool };
 
-    const KNOWS: bool;
+    /// Whether it knows without memory which versions are there.
+    fn knows() -> bool
+        ensures { result ≡ knows };
 
     /// Makes the next version, with this put, gives its number, and learns of it.
     ///
@@ -77,7 +79,7 @@ pub trait Backend {
             × (number ≤ puts_in (seat self.new).log) × (snapshot.number ≡ number)
             × (tables_of snapshot.catalog ≡ version (seat self.new).log number)) }
         ensures kept { IfOk result (λ _. floor_of (seat self.new).log ≤ number) }
-        ensures known { result ≡ Err OutOfMemory → KNOWS ≡ true → LooksOnce (seat self.old) (seat self.new)
+        ensures known { result ≡ Err OutOfMemory → knows ≡ true → LooksOnce (seat self.old) (seat self.new)
             × (number ≤ puts_in (seat self.new).log) × (floor_of (seat self.new).log ≤ number) }
         ensures err { IfErr result (λ fault. ((fault ≡ OutOfMemory) × MayLook (seat self.old) (seat self.new))
             ⊎ (((fault ≡ VersionUnknown) × LooksOnce (seat self.old) (seat self.new)
@@ -187,9 +189,11 @@ impl Backend for Alone {
 
     ghost accepts = { IsPut };
 
-    ghost KNOWS = { true };
+    ghost knows = { true };
 
-    const KNOWS: bool = true;
+    fn knows() -> bool {
+        true
+    }
 
     fn put(&mut self, alloc: Global, put: Put) -> Result<u64, Fault> {
         self.asks.raise();

@@ -44,7 +44,7 @@ pub fn step<B: Backend>(alloc: Global, backend: &mut B, operation: Operation<'_>
         → ReactsBy B.moves (Ok asked) (B.seat backend.old) result (B.seat backend.new) }
 
     // Where a fetch shows a fault before any memory is taken, it is the answer's.
-    ensures shown { B.KNOWS ≡ true → (asked : Asked) → StandsFor operation.entry asked
+    ensures shown { B.knows ≡ true → (asked : Asked) → StandsFor operation.entry asked
         → AsShown (B.seat backend.new).log asked (fault_in result) }
 
     // An accepted put is answered with the number of its version.
@@ -167,7 +167,7 @@ fn version_on<B: Backend>(backend: &mut B, number: u64) -> Result<Snapshot, Faul
     ensures ok { IfOk result (λ snapshot. (number ≤ puts_in (B.seat backend.new).log)
         × (tables_of snapshot.catalog ≡ version (B.seat backend.new).log number)) }
     ensures kept { IfOk result (λ _. floor_of (B.seat backend.new).log ≤ number) }
-    ensures known { result ≡ Err OutOfMemory → B.KNOWS ≡ true
+    ensures known { result ≡ Err OutOfMemory → B.knows ≡ true
         → ((B.seat backend.old).looks < (B.seat backend.new).looks)
         × (number ≤ puts_in (B.seat backend.new).log) × (floor_of (B.seat backend.new).log ≤ number) }
     ensures err { IfErr result (λ fault. (fault ≡ OutOfMemory)
@@ -214,13 +214,13 @@ fn open_on<B: Backend>(
     ensures still { (IsBeyond (handle_asked ticket.now) (B.seat backend.old).log → ⊥)
         → AsksNone (B.seat backend.old) (B.seat backend.new) }
     ensures once { (B.seat backend.new).asks ≤ (B.seat backend.old).asks + 1 }
-    ensures shown { B.KNOWS ≡ true → IfErr result (λ fault. FetchShown (B.seat backend.new).log ticket.now (Some fault)) }
+    ensures shown { B.knows ≡ true → IfErr result (λ fault. FetchShown (B.seat backend.new).log ticket.now (Some fault)) }
     ensures opens { OpensIn (B.seat backend.new).log ticket.now result }
 {
     let handle = read_ticket(ticket)?;
     match version_on(backend, version_of(&handle)) {
         Ok(snapshot) => Opening::new(alloc, &snapshot, &handle, workers),
-        Err(Fault::OutOfMemory) if B::KNOWS && !may_mean(&handle) => Err(Fault::BadTicket),
+        Err(Fault::OutOfMemory) if B::knows() && !may_mean(&handle) => Err(Fault::BadTicket),
         Err(fault) => Err(fault),
     }
 }
@@ -228,7 +228,7 @@ fn open_on<B: Backend>(
 // Answers a fetch.
 fn step_fetch<B: Backend>(alloc: Global, backend: &mut B, ticket: &[u8], workers: usize) -> Answer
     ensures step { ReactsBy B.moves (Ok (fetch ticket.now workers)) (B.seat backend.old) result (B.seat backend.new) }
-    ensures shown { B.KNOWS ≡ true → FetchShown (B.seat backend.new).log ticket.now (fault_in result) }
+    ensures shown { B.knows ≡ true → FetchShown (B.seat backend.new).log ticket.now (fault_in result) }
     ensures made { (B.seat backend.new).made ≡ (B.seat backend.old).made }
     ensures fits { FitsMessages result }
 {

@@ -120,9 +120,11 @@ impl<'a, C: CellName, N: SeatName, R: Wait + Drop, H: Wait> Backend for Shared<'
 
     ghost accepts = { λ _. Unit {0} };
 
-    ghost KNOWS = { false };
+    ghost knows = { false };
 
-    const KNOWS: bool = false;
+    fn knows() -> bool {
+        false
+    }
 
     fn put(&mut self, alloc: Global, put: Put) -> Result<u64, Fault> {
         self.putter.put(self.rt, alloc, &mut self.scanner, put)
