@@ -1,2 +1,3 @@
 pub mod Tried
 pub mod Each
+pub mod Refusing

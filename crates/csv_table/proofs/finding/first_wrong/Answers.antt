@@ -21,8 +21,8 @@ loop-fields-preserved c =
       few = omega (arith, inv.few, c.if-before.false);
     }
 
-pub returns-in-Some : goal.returns-in-Some
-returns-in-Some c =
+pub returns-in-Some-clause-finds : goal.returns-in-Some-clause-finds
+returns-in-Some-clause-finds c =
     let inv = c.loop-fields.invariant in
     let columns = c.args.columns.now in
     let fields = fields_of c.next.new.fields in
@@ -31,8 +31,8 @@ returns-in-Some c =
     let wrong : IsWrong columns fields c.in-Some.wrong = rw c.in-Some.is at c.wrong_in.ensures in
     wrong_first columns _ inv.read fields _ rest c.loop-fields.before c.in-Some.wrong inv.splits took inv.count inv.right wrong
 
-pub returns : goal.returns
-returns c =
+pub returns-clause-finds : goal.returns-clause-finds
+returns-clause-finds c =
     let inv = c.loop-fields.invariant in
     let none : c.loop-fields.records ≡ [] = rw c.if-branch.false at c.in_ok-next.ensures in
     right_all c.args.columns.now _ inv.read _ inv.splits none inv.right

@@ -1,11 +1,11 @@
-use Rattle.std.proofs.Common.{◌≡◌, ◌<◌, ◌+◌, ℕ, Bool, None, List, [], ◌∷◌, ◌++◌, All, length, length-append, get_or, sym, subst, ap, ◌∙◌, arith}
+use Rattle.std.proofs.Common.{◌≡◌, ◌<◌, ◌+◌, ℕ, Bool, None, List, [], ◌∷◌, ◌++◌, All, length, length-append, get_or, sym, subst, ap, ◌∙◌, arith, below_more}
 use Rattle.std.proofs.lemmas.List.Elements.{All-push}
 use Rattle.csv.specs.Records.{fields_of}
 use Rattle.arrow_schema.specs.declared.data_type.DataType.{DataType}
 use Rattle.arrow_schema.specs.declared.schema.Field.{Field}
-use Rattle.arrow_schema.specs.Schema.{IsField}
+use Rattle.arrow_schema.specs.Schema.{IsField, IsName}
 use Rattle.arrow_schema.specs.Written.{encoding_of}
-use Rattle.csv_types.specs.Found.{column_of, column_seen}
+use Rattle.csv_types.specs.Found.{column_of, column_seen, name_of}
 use Rattle.csv_types.proofs.Each.{each_more}
 use Rattle.csv_types.proofs.columns.fields_in.Goals as goal
 
@@ -31,6 +31,7 @@ loop-place-preserved c =
           let own : one ≡ column_seen c.args.header first records n = same_column _ _ _ _ _ _ c.in_ok-name.ensures.value (c.nullable.ensures (column_of n records) (have n _ low)) (c.data_type.ensures.found (column_of n records) (have n _ low)) in
           subst (λ (l : List Field). (k : ℕ) (d : Field) → k < n + 1 → get_or l k d ≡ column_seen c.args.header first records k) (sym pushed)
           (each_more (λ (k : ℕ) (f : Field). f ≡ column_seen c.args.header first records k) old one n inv.many own (inv.found records have));
+      names = below_more (λ (k : ℕ). IsName (name_of c.args.header first k)) n inv.names (subst IsName c.in_ok-name.ensures.value c.in_ok-name.ensures.named);
       named = subst (λ (l : List Field). All IsField l) (sym pushed) (All-push IsField old one inv.named (record { named = c.in_ok-name.ensures.named; typed = c.data_type.ensures.typed }));
       plain = subst (λ (l : List Field). All (λ (f : Field). encoding_of f.data_type ≡ None) l) (sym pushed)
           (All-push (λ (f : Field). encoding_of f.data_type ≡ None) old one inv.plain c.data_type.ensures.plain);
