@@ -1,8 +1,10 @@
 -- Texts and records that are too long, or too many.
-use Rattle.std.proofs.Common.{◌≡◌, ◌<◌, ◌≤◌, ◌+◌, ◌^◌, ℕ, suc, false, List, [], ◌∷◌, ◌++◌, Option, Some, None, length, map, get_or, refl, sym, ap, ap₂, subst, ◌∙◌, arith, inl, inr}
+use Rattle.std.proofs.Common.{◌≡◌, ◌<◌, ◌≤◌, ◌+◌, ◌^◌, ℕ, suc, false, List, [], ◌∷◌, ◌++◌, Option, Some, None, length, map, take, get_or, refl, sym, ap, ap₂, subst, ◌∙◌, arith, inl, inr}
 use Rattle.std.specs.Prelude.{IsSome, ◌↔◌, ◌⊎◌}
 use Rattle.std.proofs.lemmas.Bool.{cases_lt, false≢true}
-use Rattle.std.proofs.lemmas.List.{get_or_default, length-append, length-map}
+use Rattle.std.proofs.Math.ListN.{get_or-map}
+use Rattle.std.proofs.lemmas.List.{get_or_default, length-append, length-map, take-map}
+use Rattle.std.proofs.lemmas.List.Folds.{length-flat_map-take}
 use Rattle.scan_base.specs.Value.{value_of}
 use Rattle.scan_base.specs.declared.fault.Fault.{Fault}
 use Rattle.scan_base.specs.declared.fault.Fault.TheVariants.{LimitReached, OutOfMemory}
@@ -44,6 +46,16 @@ texts_are chunk column number cells taken there holds are =
     let inside : k < chunk.rows = omega (arith, low, holds.count) in
     ap text_said (ap (cell_in column) (holds.each k number inside there) ∙ are.each k inside))
 
+-- texts that pass what is left of 2^31 - 1 bytes
+pub long_text : (cells : List ValueRef) (place left : ℕ) (d : ValueRef) (bytes : List ℕ) → bytes ≡ text_bytes (value_of (get_or cells place d)) → place < length cells
+    → left + length (texts_joined (map value_of (take place cells))) ≡ 2147483647 → left < length bytes → 2147483648 ≤ length (texts_joined (map value_of cells))
+long_text cells place left d bytes is low so more =
+    let all = map value_of cells in
+    let inside : place < length all = omega (arith, low, length-map cells value_of) in
+    let own : get_or all place (value_of d) ≡ value_of (get_or cells place d) = get_or-map value_of cells place d in
+    let fewer = length-flat_map-take text_bytes all place (value_of d) inside in
+    omega (arith, more, so, fewer, ap length is, ap (λ (v : Value). length (text_bytes v)) own, ap (λ (l : List Value). length (texts_joined l)) (take-map value_of place cells))
+
 -- ---- columns
 
 -- the column of a number is one of the columns
@@ -51,11 +63,14 @@ pub long_column : (chunk : ChunkAt) (columns : List Field) (number : ℕ) (colum
     → WhyNoColumns chunk columns fault
 long_column chunk columns number column fault inside is why = elim why [
   | inl memory ↦ inl memory
-  | inr long ↦ inr (long.0, record {
+  | inr long ↦ inr (
+    long.0,
+    record {
       number = number;
       there = inside;
       long = λ d. subst (λ (c : Field). HasLongCells chunk c number) (is ∙ get_or_default columns number column d inside) long.1;
-    })
+    },
+  )
 ]
 
 -- the records of a chunk are too long
@@ -64,14 +79,21 @@ long_taken columns chunk old new fault has why = elim why [
   | inl memory ↦ inl memory
   | inr long ↦
       let number = long.1.number in
-      inr (long.0, record {
-        taken = has.taken;
-        splits = has.splits;
-        long = inl (number, long.1.there, λ d.
-            let cells = long.1.long d in
-            subst (λ (texts : List ℕ). 2 ^ 31 ≤ length texts)
-            (sym (texts_are chunk (get_or columns number d) number cells.cells has.taken (omega (arith, long.1.there, has.wide)) has.holds cells.are)) cells.long);
-      })
+      inr (
+        long.0,
+        record {
+          taken = has.taken;
+          splits = has.splits;
+          long = inl (
+            number,
+            long.1.there,
+            λ d.
+                let cells = long.1.long d in
+                subst (λ (texts : List ℕ). 2 ^ 31 ≤ length texts)
+                (sym (texts_are chunk (get_or columns number d) number cells.cells has.taken (omega (arith, long.1.there, has.wide)) has.holds cells.are)) cells.long,
+          );
+        },
+      )
 ]
 
 -- ---- messages
@@ -96,10 +118,13 @@ long_batch columns batch old new fault next why = elim why [
 -- one right record more than are counted
 pub too_many : (columns : List Field) (all read : List (List (List ℕ))) (fields : List (List ℕ)) (left rest : List (List (List ℕ))) → all ≡ read ++ left → left ≡ fields ∷ rest
     → 2 ^ 63 ≤ length read → AreRight columns read → IsRight columns fields → WhyNoneTold columns all LimitReached
-too_many columns all read fields left rest splits took many right one = inr (refl, record {
-  read = read ++ fields ∷ [];
-  left = rest;
-  splits = splits_more all read fields left rest splits took;
-  many = omega (arith, many, length-append read (fields ∷ []));
-  right = right_more columns read fields right one;
-})
+too_many columns all read fields left rest splits took many right one = inr (
+  refl,
+  record {
+    read = read ++ fields ∷ [];
+    left = rest;
+    splits = splits_more all read fields left rest splits took;
+    many = omega (arith, many, length-append read (fields ∷ []));
+    right = right_more columns read fields right one;
+  },
+)
