@@ -55,10 +55,14 @@ Shows None columns old new = Appends old.bytes new.bytes (columns_line columns) 
 abbrev pub IsTold : Form → List Field → Said → Said → Type 0
 IsTold form columns old new = Shows form.columns columns old new
 
--- they were not printed in whole: a write failed, or memory is refused for their text
-abbrev pub IsUntold : List Field → Said → Said → Type 0
-IsUntold columns old new =
+-- columns that are found were not printed in whole: a write failed, or memory is refused for their text
+abbrev pub Hides : Option (List ℕ) → List Field → Said → Said → Type 0
+Hides (Some text) columns old new = ⊥
+Hides None columns old new =
     (AppendsBeginning old.bytes new.bytes (columns_line columns) × (new.failures ≡ old.failures + 1)) ⊎ (new ≡ old)
+
+abbrev pub IsUntold : Form → List Field → Said → Said → Type 0
+IsUntold form columns old new = Hides form.columns columns old new
 
 -- the line for a wrong record is printed, or that of F21 where memory is refused for it
 abbrev pub TellsWrong : List Field → Bool → WrongRecord → Said → Said → Type 0
@@ -80,7 +84,7 @@ ChecksRows header schema records (Err status) old new = (status ≡ FaultAtThisE
 abbrev pub RefusesText : Form → List (List (List ℕ)) → Said → Said → Type 0
 RefusesText form records old new =
     ((fault : Fault) × WhyNoneOf form records fault × Prints (fault_line fault) old new)
-    ⊎ ((schema : Schema) × AreColumnsOf form records schema × IsUntold schema.fields old new)
+    ⊎ ((schema : Schema) × AreColumnsOf form records schema × IsUntold form schema.fields old new)
     ⊎ ((schema : Schema) × AreColumnsOf form records schema × ((middle : Said) × IsTold form schema.fields old middle × Refuses form.header schema records middle new))
 
 -- a text that was read: its columns, and the records that say rows
