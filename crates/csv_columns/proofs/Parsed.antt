@@ -1,8 +1,8 @@
 -- A spelled column is cut in one way only: its mark, its last colon, its name and its word.
-use Rattle.std.proofs.Common.{◌≡◌, ◌≢◌, ◌<◌, ◌≤◌, ◌+◌, ◌-◌, ℕ, suc, Bool as Truth, true, false, List, [], ◌∷◌, ◌++◌, length, take, drop, get_or, slice_index, sym, subst, ap, ap₂, ◌∙◌, inl, inr, append_assoc, append-nil, arith}
+use Rattle.std.proofs.Common.{◌≡◌, ◌≢◌, ◌<◌, ◌+◌, ◌-◌, ℕ, suc, Bool as Truth, true, false, List, [], ◌∷◌, ◌++◌, length, take, drop, get_or, slice_index, sym, subst, ap, ap₂, ◌∙◌, inl, inr, append_assoc, append-nil, arith}
 use Rattle.std.specs.List.{list_all}
 use Rattle.std.proofs.Math.Seq.{drop-append-add, get_or-append_seam, take-append_seam}
-use Rattle.std.proofs.lemmas.Bool.{cases_lt, true≢false}
+use Rattle.std.proofs.lemmas.Bool.{cases_lt}
 use Rattle.std.proofs.lemmas.List.{append_cancel_right, get_or-append-add, length-append}
 use Rattle.std.proofs.lemmas.List.Sums.{AllPass-from_list_all}
 use Rattle.arrow_schema.specs.declared.schema.Field.{Field}

@@ -1,21 +1,19 @@
 -- Why a text spells no columns.
-use Rattle.std.proofs.Common.{◌≡◌, ◌≢◌, ◌<◌, ◌≤◌, ◌+◌, ◌-◌, ℕ, suc, Bool as Truth, false, true, None, List, [], ◌∷◌, ◌++◌, All, length, map, take, drop, get_or, slice_index, refl, sym, subst, ap, ap₂, ◌∙◌, inl, inr, arith}
+use Rattle.std.proofs.Common.{◌≡◌, ◌≢◌, ◌<◌, ◌+◌, ◌-◌, ℕ, Bool as Truth, false, true, List, [], ◌∷◌, ◌++◌, All, length, take, drop, get_or, slice_index, refl, sym, subst, ap, ap₂, ◌∙◌, inl, inr, arith}
 use Rattle.std.specs.Prelude.{if◌then◌else◌}
 use Rattle.std.specs.Str.{is_utf8}
 use Rattle.std.proofs.lemmas.Bool.{true≢false}
 use Rattle.std.proofs.lemmas.List.{take_all, length-drop}
 use Rattle.std.proofs.lemmas.Str.{is_utf8-from_IsUtf8}
-use Rattle.csv.specs.Records.{trimmed}
-use Rattle.scan_base.specs.Limits.{most_columns, most_name_bytes}
 use Rattle.scan_base.specs.Reading.{text_in}
 use Rattle.scan_base.specs.declared.fault.Fault.{Fault}
-use Rattle.scan_base.specs.declared.fault.Fault.TheVariants.{BadBatch, LimitReached, OutOfMemory}
-use Rattle.std.specs.Prelude.{Result, Ok, Err}
+use Rattle.scan_base.specs.declared.fault.Fault.TheVariants.{BadBatch}
+use Rattle.std.specs.Prelude.{Ok, Err}
 use Rattle.arrow_schema.specs.declared.data_type.DataType.{DataType}
 use Rattle.arrow_schema.specs.declared.data_type.DataType.TheVariants as type
 use Rattle.arrow_schema.specs.declared.schema.Field.{Field}
 use Rattle.arrow_schema.specs.Schema.{IsField}
-use Rattle.csv_columns.specs.Refused.{IsOneRecord, IsText, IsTooWide, SpellsOne, WhyNoColumn, WhyNoColumns, WhyNoFields, WhyNoName}
+use Rattle.csv_columns.specs.Refused.{IsText, WhyNoColumn, WhyNoColumns, WhyNoFields, WhyNoName}
 use Rattle.csv_columns.specs.Spelled.{mark_of, spelled, word_of}
 use Rattle.csv_columns.specs.inside.Marks.{IsUnmarked}
 use Rattle.csv_columns.proofs.Parsed.{cut_is, front_of, has_colon}
@@ -100,30 +98,6 @@ first_fails texts columns place fault there many each named why =
 abbrev Records : Type 0
 Records = List (List (List ℕ))
 
-first_is : (records rest : Records) (first : List (List ℕ)) → records ≡ first ∷ rest → get_or records 0 [] ≡ first
-first_is records rest first is = ap (λ (l : Records). get_or l 0 []) is
-
-narrow : (records rest : Records) (first : List (List ℕ)) → records ≡ first ∷ rest → length first ≤ most_columns → ¬ IsTooWide records
-narrow records rest first is few wide = absurd (omega (arith, wide, few, ap length (first_is records rest first is)))
-
 pub no_record : (records : Records) → records ≡ [] → WhyNoColumns records BadBatch
 no_record records none =
     inr (inr (inl (refl, λ wide. absurd (omega (arith, wide, ap (λ (l : Records). length (get_or l 0 [])) none)), λ one. absurd (omega (arith, ap length (sym none ∙ one.1))))))
-
-pub no_field : (records rest : Records) (first : List (List ℕ)) → records ≡ first ∷ rest → length first ≡ 0 → WhyNoColumns records BadBatch
-no_field records rest first is none =
-    inr (inr (inl (refl, narrow records rest first is (omega (arith, none)),
-    λ one. absurd (omega (arith, none, one.2, ap (λ (l : Records). length (get_or l 0 [])) (sym is ∙ one.1))))))
-
-pub too_wide : (records rest : Records) (first : List (List ℕ)) → records ≡ first ∷ rest → most_columns < length first → WhyNoColumns records LimitReached
-too_wide records rest first is many = inr (inl (refl, subst (λ (fields : List (List ℕ)). most_columns < length fields) (sym (first_is records rest first is)) many))
-
-pub no_other : (records rest more : Records) (first other : List (List ℕ)) → records ≡ first ∷ rest → length first ≤ most_columns → rest ≡ other ∷ more → WhyNoColumns records BadBatch
-no_other records rest more first other is few two =
-    inr (inr (inl (refl, narrow records rest first is few, λ one. absurd (omega (arith, ap length (sym one.1 ∙ is), ap length two)))))
-
-pub no_fields : (records rest : Records) (first texts : List (List ℕ)) (fault : Fault) → records ≡ first ∷ rest → length first ≤ most_columns → 1 ≤ length first → rest ≡ []
-    → texts ≡ map trimmed first → WhyNoFields texts fault → WhyNoColumns records fault
-no_fields records rest first texts fault is few some none are why =
-    inr (inr (inr (narrow records rest first is few, (first, is ∙ ap (λ (l : Records). first ∷ l) none, some),
-    subst (λ (l : List (List ℕ)). WhyNoFields l fault) (are ∙ ap (λ (l : List (List ℕ)). map trimmed l) (sym (first_is records rest first is))) why)))

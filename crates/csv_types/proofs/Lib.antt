@@ -1,3 +1,2 @@
 pub mod Tried
 pub mod Each
-pub mod Refusing

@@ -1,4 +1,4 @@
-use Rattle.std.proofs.Common.{◌≡◌, ◌≢◌, ◌<◌, ℕ, get_or}
+use Rattle.std.proofs.Common.{◌≢◌, ◌<◌, ℕ, get_or}
 use Rattle.arrow_schema.specs.declared.data_type.DataType.{DataType}
 use Rattle.csv_columns.specs.declared.word.TheConstants.{TYPES}
 use Rattle.csv_columns.specs.Spelled.{word_of}
