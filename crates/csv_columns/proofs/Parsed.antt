@@ -84,6 +84,7 @@ pub cut_is : (front : List ℕ) (at : ℕ) (column : Field) → front ≡ column
     → ((k : ℕ) → at < k → k < length front → slice_index front k ≢ 58) → (take at front ≡ column.name) × (drop (at + 1) front ≡ word_of column.data_type)
 cut_is front at column is low colon last =
     let Stands : List ℕ → Type 0 = λ xs. at < length xs → get_or xs at 0 ≡ 58 → ((k : ℕ) → at < k → k < length xs → get_or xs k 0 ≢ 58) → at ≡ length column.name in
-    let place : at ≡ length column.name = subst Stands (sym is) (place_is column at) low colon last in
-    (ap₂ (λ (n : ℕ) (xs : List ℕ). take n xs) place is ∙ take-append_seam column.name (58 ∷ word_of column.data_type),
-    ap₂ (λ (n : ℕ) (xs : List ℕ). drop (n + 1) xs) place is ∙ drop-append-add column.name (58 ∷ word_of column.data_type) 1)
+    let place : at ≡ length column.name = subst Stands (sym is) (place_is column at) low colon last in (
+      ap₂ (λ (n : ℕ) (xs : List ℕ). take n xs) place is ∙ take-append_seam column.name (58 ∷ word_of column.data_type),
+      ap₂ (λ (n : ℕ) (xs : List ℕ). drop (n + 1) xs) place is ∙ drop-append-add column.name (58 ∷ word_of column.data_type) 1,
+    )

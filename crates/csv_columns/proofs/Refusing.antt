@@ -52,9 +52,12 @@ without_colon text front nullable cut unmarked none =
 
 pub without_word : (text front : List ℕ) (nullable : Truth) (at : ℕ) → IsCut text front nullable at → ((data_type : DataType) → behind front at ≢ word_of data_type) → WhyNoColumn text BadBatch
 without_word text front nullable at cut none =
-    inr (inl (refl, λ column says.
-    let parts = cut_is front at column (front_of text front nullable column cut.text_is cut.unmarked says.0) cut.low cut.colon cut.last in
-    none column.data_type (take_all _ _ (omega (arith, length-drop (at + 1) front)) ∙ parts.1)))
+    inr (inl (
+      refl,
+      λ column says.
+          let parts = cut_is front at column (front_of text front nullable column cut.text_is cut.unmarked says.0) cut.low cut.colon cut.last in
+          none column.data_type (take_all _ _ (omega (arith, length-drop (at + 1) front)) ∙ parts.1),
+    ))
 
 -- a name and a word around the colon spell the text
 pub said_again : (text front name : List ℕ) (nullable : Truth) (at : ℕ) (data_type : DataType) → IsCut text front nullable at → name ≡ take at front → behind front at ≡ word_of data_type
@@ -68,9 +71,12 @@ pub without_name : (text front : List ℕ) (nullable : Truth) (at : ℕ) (data_t
 without_name text front nullable at data_type fault cut word why = elim why [
   | inl memory ↦ inl memory
   | inr other ↦ elim other [
-    | inl none ↦ inr (inl (none.0, λ column says.
-        let parts = cut_is front at column (front_of text front nullable column cut.text_is cut.unmarked says.0) cut.low cut.colon cut.last in
-        none.1 (subst IsText (sym parts.0) says.1)))
+    | inl none ↦ inr (inl (
+      none.0,
+      λ column says.
+          let parts = cut_is front at column (front_of text front nullable column cut.text_is cut.unmarked says.0) cut.low cut.colon cut.last in
+          none.1 (subst IsText (sym parts.0) says.1),
+    ))
     | inr long ↦
         let column : Field = record { name = take at front; nullable = nullable; data_type = data_type } in
         let says : spelled column ≡ text = said_again text front (take at front) nullable at data_type cut refl word in

@@ -9,7 +9,7 @@ returns-clause-spelled c =
     let nullable = c.unmarked-nullable.result.1 in
     let colon = c.in-Some.ensures in
     let cut : IsCut text front nullable c.in-Some.at =
-        record { text_is = c.unmarked-nullable.ensures.text; unmarked = c.unmarked-nullable.ensures.marked; low = colon.0; colon = colon.1; last = colon.2 } in
+    record { text_is = c.unmarked-nullable.ensures.text; unmarked = c.unmarked-nullable.ensures.marked; low = colon.0; colon = colon.1; last = colon.2 } in
     said_again text front c.in_ok-name.name nullable c.in-Some.at c.in-Some-type_named.data_type cut c.in_ok-name.ensures.value c.in-Some-type_named.ensures.word
 
 pub returns-in_default-clause-refused : goal.returns-in_default-clause-refused
@@ -23,7 +23,7 @@ returns-in_default-type_named-clause-refused c =
     let nullable = c.unmarked-nullable.result.1 in
     let colon = c.in-Some.ensures in
     let cut : IsCut text front nullable c.in-Some.at =
-        record { text_is = c.unmarked-nullable.ensures.text; unmarked = c.unmarked-nullable.ensures.marked; low = colon.0; colon = colon.1; last = colon.2 } in
+    record { text_is = c.unmarked-nullable.ensures.text; unmarked = c.unmarked-nullable.ensures.marked; low = colon.0; colon = colon.1; last = colon.2 } in
     without_word text front nullable c.in-Some.at cut c.in_default-type_named.ensures.word
 
 pub returns-in_err-name-clause-refused : goal.returns-in_err-name-clause-refused
@@ -34,5 +34,5 @@ returns-in_err-name-clause-refused c =
     let nullable = c.unmarked-nullable.result.1 in
     let colon = c.in-Some.ensures in
     let cut : IsCut text front nullable c.in-Some.at =
-        record { text_is = c.unmarked-nullable.ensures.text; unmarked = c.unmarked-nullable.ensures.marked; low = colon.0; colon = colon.1; last = colon.2 } in
+    record { text_is = c.unmarked-nullable.ensures.text; unmarked = c.unmarked-nullable.ensures.marked; low = colon.0; colon = colon.1; last = colon.2 } in
     rw (p.1, p.2) (without_name text front nullable c.in-Some.at c.in-Some-type_named.data_type _ cut c.in-Some-type_named.ensures.word c.in_err-name.ensures.refused)
