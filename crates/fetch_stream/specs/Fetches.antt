@@ -66,10 +66,10 @@ pub record SayDressed (payloads : List Payload) (schema : Schema) (rows : List R
   pub dressed : AreDressed schema behind rows
   pub some : All HasRow dressed.dressings
 
--- payloads say a beginning of an answer, or all of it, but no more rows than an answer may have
+-- payloads say a beginning of an answer, or all of it, in the form of a whole answer, but no more rows than an answer may have
 abbrev pub SayBeginning : List Payload → Table → Type 0
 SayBeginning payloads answer = (n : ℕ) × (n ≤ most_answer_rows) × (n ≤ length answer.rows)
-    × PayloadsSay payloads answer.schema (take n answer.rows)
+    × SayDressed payloads answer.schema (take n answer.rows)
 
 -- payloads are all of an answer: what the handle means, its rows cut into batches freely, each behind its dictionaries
 pub record IsAnswer (database : Database) (handle : HandleAt) (payloads : List Payload) : Type 0 where
