@@ -7,7 +7,7 @@ use Rattle.scan_base.specs.Limits.{most_answer_rows}
 use Rattle.scan_base.specs.Lists.{each}
 use Rattle.arrow_schema.specs.declared.schema.Schema.{Schema}
 use Rattle.row_sources.specs.declared.turn.Patience.{Patience}
-use Rattle.row_sources.specs.declared.turn.Patience.TheVariants.{Endless}
+use Rattle.row_sources.specs.declared.turn.Patience.TheVariants.{Endless, Choice}
 use Rattle.row_sources.specs.declared.turn.Turn.{Turn}
 use Rattle.row_sources.specs.declared.turn.Turn.TheVariants.{Given, Working, End}
 use Rattle.table_versions.specs.Table.{Row, Table}
@@ -35,6 +35,11 @@ pub record StreamAt : Type 0 where
   pub given : ℕ
   pub refused : Option Fault
 
+-- a stream as it runs: what is still to come, and how many rows its turns have still to look at
+pub record RunningAt : Type 0 where
+  pub stream : StreamAt
+  pub unseen : ℕ
+
 -- payloads that are given together
 abbrev pub Parcel : Type 0
 Parcel = List Payload
@@ -50,6 +55,11 @@ Opens database handle (Ok stream) =
 Opens database handle (Err BadTicket) = MeansNothing database handle
 Opens database handle (Err OutOfMemory) = Unit {0}
 Opens database handle (Err _) = ⊥
+
+-- what is still to come of a stream, if there is one
+abbrev pub stream_in : Result RunningAt Fault → Result StreamAt Fault
+stream_in (Ok running) = Ok running.stream
+stream_in (Err fault) = Err fault
 
 -- the payloads that a stream has given say these rows behind its schema, each batch of them right behind its dictionaries
 abbrev pub SaySoFar : StreamAt → List Payload → List Row → Type 0
@@ -104,6 +114,11 @@ GivesTurn patience before (Ok (Given parcel)) after = Gives before (Ok (Some par
 GivesTurn patience before (Ok Working) after = (before.refused ≡ None) × (after ≡ before) × (patience ≢ Endless)
 GivesTurn patience before (Ok End) after = Gives before (Ok None) after
 GivesTurn patience before (Err fault) after = Gives before (Err fault) after
+
+-- A turn that gives nothing yet looked at one row or more, unless it ends at a choice.
+abbrev pub LooksFor : Patience → Result (Turn Parcel) Fault → ℕ → ℕ → Type 0
+LooksFor patience (Ok Working) before after = patience ≢ Choice → after < before
+LooksFor patience result before after = Unit {0}
 
 -- a stream of an answer has given these payloads
 pub record HasGiven (answer : Table) (payloads : List Payload) (stream : StreamAt) : Type 0 where

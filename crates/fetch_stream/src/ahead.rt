@@ -197,7 +197,7 @@ fn make_next(
     patience: Patience,
     stream: &mut FetchStream,
 ) -> Result<Turn<Made>, Fault>
-    ensures { MakesNext patience stream.old result stream.new }
+    ensures { MakesNext patience stream.old.stream result stream.new.stream }
 {
     let parcel = match stream.turn(alloc, patience)? {
         Turn::Given(parcel) => parcel,
@@ -271,7 +271,7 @@ pub(crate) fn made_ahead<'s>(
     number: usize,
     stream: Result<FetchStream, AllocError>,
 ) -> Ahead<'s>
-    requires { IfOk stream (λ stream. stream ≡ behind_schema scan.now.schema (morsel_rows scan.now number)) }
+    requires { IfOk stream (λ stream. stream.stream ≡ behind_schema scan.now.schema (morsel_rows scan.now number)) }
     ensures { result ≡ behind_schema scan.now.schema (morsel_rows scan.now number) }
 {
     let made = room_ahead(alloc);

@@ -1,8 +1,8 @@
 //! Who makes the payloads of a stream, and who reads them.
 
-ghost use Rattle.std.specs.Prelude.{◌≡◌, IfOk, Result, OnOk};
+ghost use Rattle.std.specs.Prelude.{◌≡◌, ◌⊎◌, ℕ, IfOk, Result, OnOk};
 ghost use Rattle.scan_base.specs.declared.fault.Fault.{Fault as FaultAt};
-ghost use Rattle.fetch_stream.specs.Streams.{StreamAt, Gives, GivesTurn};
+ghost use Rattle.fetch_stream.specs.Streams.{StreamAt, Gives, GivesTurn, LooksFor};
 
 use crate::parcel::Parcel;
 use crate::stream::FetchStream;
@@ -16,6 +16,12 @@ use work_watch::Watches;
 pub trait Payloads {
     // What is still to come of the answer.
     ghost stream: { Self → StreamAt };
+
+    // How many rows its turns have still to look at.
+    ghost unseen: { Self → ℕ };
+
+    // That a turn may give nothing since others are at work.
+    ghost waits: { Self → Type 0 };
 
     /// The next parcel, as that of a [`FetchStream`], and `None` behind the last one.
     ///
@@ -32,7 +38,8 @@ pub trait Payloads {
     ///
     /// Those of `next`.
     fn turn(&mut self, alloc: Global, _patience: Patience) -> Result<Turn<Parcel>, Fault>
-        ensures { GivesTurn _patience (stream self.old) result (stream self.new) }
+        ensures turns { GivesTurn _patience (stream self.old) result (stream self.new) }
+        ensures looks { waits self.old ⊎ LooksFor _patience result (unseen self.old) (unseen self.new) }
     {
         match self.next(alloc)? {
             Some(parcel) => Ok(Turn::Given(parcel)),
@@ -42,7 +49,13 @@ pub trait Payloads {
 }
 
 impl Payloads for FetchStream {
-    ghost stream = { λ s. s };
+    ghost use Rattle.std.specs.Prelude.{⊥};
+
+    ghost stream = { λ s. s.stream };
+
+    ghost unseen = { λ s. s.unseen };
+
+    ghost waits = { λ _. ⊥ };
 
     fn next(&mut self, alloc: Global) -> Result<Option<Parcel>, Fault> {
         FetchStream::next(self, alloc)
@@ -85,7 +98,7 @@ pub trait Executor {
         reader: &mut S,
     ) -> Result<(), Fault>
         requires { S.takes reader.old }
-        ensures { S.reads reader.old stream result reader.new };
+        ensures { S.reads reader.old stream.stream result reader.new };
 
     /// Has what a stream needs before its rows made: the groups of a grouped query. Who watches may end it. What it gives is the
     /// same, made or not.
@@ -100,7 +113,7 @@ pub trait Executor {
         watch: &mut W,
     ) -> Result<FetchStream, AllocError>
         requires ready { W.ready watch.old }
-        ensures stream { IfOk result (λ readied. readied ≡ stream) }
+        ensures stream { IfOk result (λ readied. readied.stream ≡ stream.stream) }
         ensures ready { OnOk result (W.ready watch.new) }
         ensures watched { W.watched watch.old watch.new };
 }

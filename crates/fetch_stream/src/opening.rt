@@ -182,7 +182,7 @@ impl Opening {
     ///
     /// `AllocError` where memory is refused.
     pub fn stream(self, alloc: Global) -> Result<FetchStream, AllocError>
-        ensures { IfOk result (λ stream. stream ≡ self) }
+        ensures { IfOk result (λ stream. stream.stream ≡ self) }
     {
         self.stream_watched(alloc, &mut Unwatched)
     }
@@ -198,7 +198,7 @@ impl Opening {
         watch: &mut W,
     ) -> Result<FetchStream, AllocError>
         requires ready { W.ready watch.old }
-        ensures stream { IfOk result (λ stream. stream ≡ self) }
+        ensures stream { IfOk result (λ stream. stream.stream ≡ self) }
         ensures ready { OnOk result (W.ready watch.new) }
         ensures watched { W.watched watch.old watch.new }
     {
@@ -221,7 +221,7 @@ impl Meaning {
     fn stream<W: Watches>(self, alloc: Global, watch: &mut W) -> Result<FetchStream, AllocError>
         requires meaning { IsMeaning self }
         requires ready { W.ready watch.old }
-        ensures stream { IfOk result (λ stream. stream ≡ stream_meant self) }
+        ensures stream { IfOk result (λ stream. stream.stream ≡ stream_meant self) }
         ensures ready { OnOk result (W.ready watch.new) }
         ensures watched { W.watched watch.old watch.new }
     {
@@ -237,7 +237,7 @@ impl PlannedScan {
     fn stream<W: Watches>(self, alloc: Global, watch: &mut W) -> Result<FetchStream, AllocError>
         requires schema { IsSchema self.plan.schema }
         requires ready { W.ready watch.old }
-        ensures stream { IfOk result (λ stream. stream ≡ before_schema self.plan.schema (rows_meant self)) }
+        ensures stream { IfOk result (λ stream. stream.stream ≡ before_schema self.plan.schema (rows_meant self)) }
         ensures ready { OnOk result (W.ready watch.new) }
         ensures watched { W.watched watch.old watch.new }
     {

@@ -13,7 +13,7 @@ ghost use Rattle.table_versions.specs.Stored.{tables_of};
 ghost use Rattle.flight_info.specs.Meant.{Meant};
 ghost use Rattle.flight_info.specs.Tables.{tables_listed};
 ghost use Rattle.fetch_stream.specs.Fetches.{may_mean};
-ghost use Rattle.fetch_stream.specs.Streams.{Gives, GivesTurn, Opens, opened};
+ghost use Rattle.fetch_stream.specs.Streams.{Gives, GivesTurn, LooksFor, Opens, opened, stream_in};
 ghost use Rattle.fetch_stream.specs.Morsels.{whole_stream};
 ghost use Rattle.fetch_stream.specs.inside.Ahead.{IsGoing, IsSource, AnsweredAs, schema_behind, left_behind, rows_taken};
 ghost use Rattle.fetch_stream.specs.inside.Steps.{GivesFirst, Refills, GivesRows};
@@ -39,8 +39,8 @@ use table_versions::Snapshot;
 use work_watch::Watches;
 
 /// The answer to a handle, one parcel at a time: the message of its schema, and then record batches, each right behind its
-/// dictionaries. A contract sees what is still to come, and what refused the stream. It shares the tables of its version, and
-/// holds no message.
+/// dictionaries. A contract sees what is still to come, what refused the stream, and how many rows its turns have still to look at. It
+/// shares the tables of its version, and holds no message.
 pub struct FetchStream {
     begun: bool,
     cutter: Cutter,
@@ -54,17 +54,20 @@ pub struct FetchStream {
 
 impl Model for FetchStream {
     ghost use Rattle.std.specs.Prelude.{◌≡◌, ◌++◌, None};
-    ghost use Rattle.fetch_stream.specs.Streams.{StreamAt};
-    ghost use Rattle.fetch_stream.specs.inside.Ahead.{IsGoing, schema_behind, left_behind, rows_cut, uncut};
+    ghost use Rattle.fetch_stream.specs.Streams.{RunningAt};
+    ghost use Rattle.fetch_stream.specs.inside.Ahead.{IsGoing, schema_behind, left_behind, rows_cut, uncut, unseen_behind};
 
-    ghost Value = { StreamAt };
+    ghost Value = { RunningAt };
 
     ghost view = { λ s. record {
-      schema = schema_behind s.source;
-      begun = s.begun;
-      left = uncut s.cutter ++ left_behind s.source;
-      given = rows_cut s.cutter s.source;
-      refused = s.refused;
+      stream = record {
+        schema = schema_behind s.source;
+        begun = s.begun;
+        left = uncut s.cutter ++ left_behind s.source;
+        given = rows_cut s.cutter s.source;
+        refused = s.refused;
+      };
+      unseen = unseen_behind s.source;
     } };
 
     ghost invariant = { λ s. s.refused ≡ None → IsGoing s.cutter s.source };
@@ -92,7 +95,7 @@ impl FetchStream {
         requires short { list_any (list_any is_long_text) (rows_of batch) ≡ false }
         requires all { rows_taken batch source ≡ batch.rows }
         requires few { batch.rows ≤ most_answer_rows }
-        ensures { result ≡ record {
+        ensures { result.stream ≡ record {
           schema = schema_behind source;
           begun = false;
           left = rows_of batch ++ left_behind source;
@@ -135,7 +138,7 @@ impl FetchStream {
 
     /// The same stream, behind the payload of its schema, for who gives that payload otherwise (`Opening::first_payload`).
     pub fn behind_schema(self) -> FetchStream
-        ensures { result ≡ record self { begun = true } }
+        ensures { result.stream ≡ record self.stream { begun = true } }
     {
         let FetchStream {
             begun: _,
@@ -171,7 +174,7 @@ impl FetchStream {
         handle: &Handle<'_>,
         workers: usize,
     ) -> Result<FetchStream, Fault>
-        ensures opens { Opens (tables_of snapshot.now.catalog) (handle_seen handle.now) result }
+        ensures opens { Opens (tables_of snapshot.now.catalog) (handle_seen handle.now) (stream_in result) }
         ensures first { may_mean (handle_seen handle.now) ≡ false → result ≡ Err BadTicket }
     {
         let opening = Opening::new(alloc, snapshot, handle, workers)?;
@@ -197,15 +200,15 @@ impl FetchStream {
 
     // The schema of the answer.
     pub(crate) fn schema(&self) -> &Schema
-        ensures is { result.now ≡ self.now.schema }
-        ensures valid { self.now.refused ≡ None → IsSchema result.now }
+        ensures is { result.now ≡ self.now.stream.schema }
+        ensures valid { self.now.stream.refused ≡ None → IsSchema result.now }
     {
         self.source.schema()
     }
 
     /// How many rows were given.
     pub fn given(&self) -> usize
-        ensures { result ≡ self.now.given }
+        ensures { result ≡ self.now.stream.given }
     {
         let rows = self.cutter.batch.rows();
         let uncut = rows.saturating_sub(self.cutter.at);
@@ -214,8 +217,8 @@ impl FetchStream {
 
     // How many rows were taken of the source: those that were given, and what is left of the batch that is being cut.
     pub(crate) fn taken(&self) -> usize
-        ensures given { self.now.given ≤ result }
-        ensures there { result ≤ self.now.given + length self.now.left }
+        ensures given { self.now.stream.given ≤ result }
+        ensures there { result ≤ self.now.stream.given + length self.now.stream.left }
     {
         batch_slices_keep_rows();
         self.source.taken(self.cutter.batch.rows())
@@ -224,7 +227,7 @@ impl FetchStream {
     /// The morsels of a stream of which no row was given: `None` for the list of tables, for groups, and for a stream whose rows
     /// are begun or that was refused.
     pub fn morsels(&self) -> Option<Morsels<'_>>
-        ensures { IfSome result (λ morsels. self.now ≡ whole_stream morsels) }
+        ensures { IfSome result (λ morsels. self.now.stream ≡ whole_stream morsels) }
     {
         batch_slices_keep_rows();
         let Source::Scanned(scan) = &self.source else {
@@ -256,7 +259,7 @@ impl FetchStream {
         watch: &mut W,
     ) -> Result<FetchStream, AllocError>
         requires ready { W.ready watch.old }
-        ensures stream { IfOk result (λ stream. stream ≡ self) }
+        ensures stream { IfOk result (λ stream. stream.stream ≡ self.stream) }
         ensures ready { OnOk result (W.ready watch.new) }
         ensures watched { W.watched watch.old watch.new }
     {
@@ -291,7 +294,7 @@ impl FetchStream {
     /// F20 (`Fault::ResultTooLarge`) where the answer has more than 67,108,864 rows, behind a beginning of it; F21
     /// (`Fault::OutOfMemory`) where memory is refused.
     pub fn next(&mut self, alloc: Global) -> Result<Option<Parcel>, Fault>
-        ensures { Gives self.old result self.new }
+        ensures { Gives self.old.stream result self.new.stream }
     {
         self.next_by(alloc, &InOneWalk)
     }
@@ -306,7 +309,7 @@ impl FetchStream {
         alloc: Global,
         by: &G,
     ) -> Result<Option<Parcel>, Fault>
-        ensures { Gives self.old result self.new }
+        ensures { Gives self.old.stream result self.new.stream }
     {
         let patience = Patience::Endless;
         match self.turn_by(alloc, Making { by, patience })? {
@@ -323,7 +326,8 @@ impl FetchStream {
     ///
     /// Those of `next`.
     pub fn turn(&mut self, alloc: Global, patience: Patience) -> Result<Turn<Parcel>, Fault>
-        ensures { GivesTurn patience self.old result self.new }
+        ensures turns { GivesTurn patience self.old.stream result self.new.stream }
+        ensures looks { LooksFor patience result self.old.unseen self.new.unseen }
     {
         let by = &InOneWalk;
         self.turn_by(alloc, Making { by, patience })
@@ -339,7 +343,8 @@ impl FetchStream {
         alloc: Global,
         making: Making<'_, G>,
     ) -> Result<Turn<Parcel>, Fault>
-        ensures { GivesTurn making.entry.patience self.old result self.new }
+        ensures turns { GivesTurn making.entry.patience self.old.stream result self.new.stream }
+        ensures looks { LooksFor making.entry.patience result self.old.unseen self.new.unseen }
     {
         if let Some(fault) = self.refused {
             return Err(fault);

@@ -29,7 +29,13 @@ impl<'g, G: GroupsBatches> GroupedStream<'g, G> {
 }
 
 impl<'g, G: GroupsBatches> Payloads for GroupedStream<'g, G> {
-    ghost stream = { λ s. s.stream };
+    ghost use Rattle.std.specs.Prelude.{⊥};
+
+    ghost stream = { λ s. s.stream.stream };
+
+    ghost unseen = { λ s. s.stream.unseen };
+
+    ghost waits = { λ _. ⊥ };
 
     fn next(&mut self, alloc: Global) -> Result<Option<Parcel>, Fault> {
         self.stream.next_by(alloc, self.by)
@@ -56,7 +62,7 @@ pub(crate) fn read_grouped<R: Threads + Wait + Sync, S: ReadsPayloads>(
     reader: &mut S,
 ) -> Result<(), Fault>
     requires { S.takes reader.old }
-    ensures { S.reads reader.old work.stream result reader.new }
+    ensures { S.reads reader.old work.stream.stream result reader.new }
 {
     let GroupedWork {
         alloc,
@@ -75,7 +81,7 @@ pub(crate) fn ready_grouped<R: Threads + Wait + Sync, L: Watches>(
     watch: &mut L,
 ) -> Result<FetchStream, AllocError>
     requires ready { L.ready watch.old }
-    ensures stream { IfOk result (λ stream. stream ≡ work.stream) }
+    ensures stream { IfOk result (λ stream. stream.stream ≡ work.stream.stream) }
     ensures ready { OnOk result (L.ready watch.new) }
     ensures watched { L.watched watch.old watch.new }
 {

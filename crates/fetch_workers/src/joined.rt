@@ -51,6 +51,11 @@ impl<'x, 'a, A: Part, P: Answers<A>> Model for Joined<'x, 'a, A, P> {
 impl<'x, 'a, A: Part, P: Answers<A>> Payloads for Joined<'x, 'a, A, P> {
     ghost stream = { λ s. s };
 
+    // How many rows the workers have still to look at is not told.
+    ghost unseen = { λ _. 0 };
+
+    ghost waits = { λ _. Unit {0} };
+
     fn next(&mut self, alloc: Global) -> Result<Option<Parcel>, Fault> {
         match self.turn(alloc, Patience::Endless)? {
             Turn::Given(parcel) => Ok(Some(parcel)),

@@ -42,7 +42,7 @@ pub trait StartsWorkers {
     ) -> Option<Result<(), Fault>>
         requires shared { shared self.now }
         requires takes { S.takes reader.old }
-        ensures read { IfSome result (λ read. S.reads reader.old work.now.stream.now read reader.new) }
+        ensures read { IfSome result (λ read. S.reads reader.old work.now.stream.now.stream read reader.new) }
         ensures kept { result ≡ None → reader.new ≡ reader.old };
 
     /// Has a stream read whose groups several workers make.
@@ -53,7 +53,7 @@ pub trait StartsWorkers {
     fn read_grouped<S: ReadsPayloads>(&self, work: GroupedWork, reader: &mut S) -> Result<(), Fault>
         requires shared { shared self.now }
         requires takes { S.takes reader.old }
-        ensures { S.reads reader.old work.stream result reader.new };
+        ensures { S.reads reader.old work.stream.stream result reader.new };
 
     /// Has the groups of a stream made by several workers. Who watches may end it.
     ///
@@ -67,7 +67,7 @@ pub trait StartsWorkers {
     ) -> Result<FetchStream, AllocError>
         requires shared { shared self.now }
         requires ready { L.ready watch.old }
-        ensures stream { IfOk result (λ stream. stream ≡ work.stream) }
+        ensures stream { IfOk result (λ stream. stream.stream ≡ work.stream.stream) }
         ensures ready { OnOk result (L.ready watch.new) }
         ensures watched { L.watched watch.old watch.new };
 }
@@ -196,7 +196,7 @@ fn read_beside<R: Threads + Wait + Sync, S: ReadsPayloads>(
     reader: &mut S,
 ) -> Option<Result<(), Fault>>
     requires { S.takes reader.old }
-    ensures read { IfSome result (λ read. S.reads reader.old work.now.stream.now read reader.new) }
+    ensures read { IfSome result (λ read. S.reads reader.old work.now.stream.now.stream read reader.new) }
     ensures kept { result ≡ None → reader.new ≡ reader.old }
 {
     let morsels = work.stream.morsels()?;

@@ -1,6 +1,6 @@
 //! Rows, piece by piece: those of a place, or joined ones.
 
-ghost use Rattle.std.specs.Prelude.{◌≡◌, ◌≢◌, ◌≤◌, ◌<◌, [], IfOk, length};
+ghost use Rattle.std.specs.Prelude.{◌≡◌, ◌≤◌, ◌<◌, [], IfOk, length};
 ghost use Rattle.std.specs.Arc.{arc_value};
 ghost use Rattle.array_select.specs.Room.{most_batch_rows};
 ghost use Rattle.join_batches.specs.Joiner.{joined_types};
@@ -8,7 +8,7 @@ ghost use Rattle.row_sources.specs.Joined.{FeedsNext, IsJoined, IsSource, TakesL
 ghost use Rattle.row_sources.specs.Parting.{ComeInOrder, part_of};
 ghost use Rattle.row_sources.specs.Picking.{IsPick, PickAt, pick_of};
 ghost use Rattle.row_sources.specs.Running.{FindsNext, FindsTurn, picked_of};
-ghost use Rattle.row_sources.specs.declared.turn.Patience.TheVariants.{Endless};
+ghost use Rattle.row_sources.specs.declared.turn.Patience.TheVariants.{Endless, Choice};
 
 use crate::choice::Choice;
 use crate::part::Part;
@@ -84,6 +84,7 @@ impl Rows {
     #[cycle(turn)]
     pub fn turn(&mut self, looking: &mut Looking) -> Result<Turn<Piece>, AllocError>
         ensures endless { looking.old.patience ≡ Endless → looking.new.patience ≡ Endless }
+        ensures choice { looking.new.patience ≡ Choice → looking.old.patience ≡ Choice }
         ensures found { FindsTurn looking.old.patience self.old result self.new }
     {
         match &mut self.source {
@@ -174,7 +175,7 @@ impl Rows {
     pub fn part(&self, alloc: Global, number: usize) -> Result<Rows, AllocError>
         requires unopened { self.now.opened ≡ [] }
         requires there { number < length self.now.batches }
-        ensures { IfOk result (λ part. part ≡ part_of number self.now) }
+        ensures { IfOk result (λ part. part ≡ part_of number part.unseen self.now) }
     {
         match &self.source {
             Source::Place(place) => {
@@ -207,6 +208,7 @@ impl Joining {
         ensures types { joined_types self.new.joiner ≡ joined_types self.old.joiner }
         ensures depth { left.new.depth ≡ left.old.depth }
         ensures endless { looking.old.patience ≡ Endless → looking.new.patience ≡ Endless }
+        ensures choice { looking.new.patience ≡ Choice → looking.old.patience ≡ Choice }
         ensures found { FindsTurn looking.old.patience (picked_of (pick_of picker.now) (joined_at left.old self.old.joiner self.old.number))
             result (picked_of (pick_of picker.now) (joined_at left.new self.new.joiner self.new.number)) }
     {
@@ -251,6 +253,7 @@ impl Joining {
         ensures types { joined_types self.new.joiner ≡ joined_types self.old.joiner }
         ensures depth { left.new.depth ≡ left.old.depth }
         ensures endless { looking.old.patience ≡ Endless → looking.new.patience ≡ Endless }
+        ensures choice { looking.new.patience ≡ Choice → looking.old.patience ≡ Choice }
         ensures found { FindsTurn looking.old.patience (picked_of (pick_of picker.now) (joined_at left.old self.old.joiner self.old.number)) result
             (picked_of (pick_of picker.now) (joined_at left.new self.new.joiner self.new.number)) }
     {
@@ -273,7 +276,7 @@ impl Joining {
     #[cycle(turn)]
     fn choose(&mut self, left: &mut Rows, looking: &Looking) -> Result<Turn<Piece>, AllocError>
         requires joined { IsJoined left.old self.old.joiner self.old.number }
-        requires ends { looking.now.patience ≢ Endless }
+        requires choice { looking.now.patience ≡ Choice }
         ensures joined { IsJoined left.new self.new.joiner self.new.number }
         ensures types { joined_types self.new.joiner ≡ joined_types self.old.joiner }
         ensures depth { left.new.depth ≡ left.old.depth }
@@ -302,6 +305,7 @@ impl Joining {
         ensures types { joined_types self.new.joiner ≡ joined_types self.old.joiner }
         ensures depth { left.new.depth ≡ left.old.depth }
         ensures endless { looking.old.patience ≡ Endless → looking.new.patience ≡ Endless }
+        ensures choice { looking.new.patience ≡ Choice → looking.old.patience ≡ Choice }
         ensures feeds { FeedsNext looking.old.patience (joined_at left.old self.old.joiner self.old.number) result
             (joined_at left.new self.new.joiner self.new.number) }
         ensures fewer { TakesLeft result (length left.old.ahead) (length left.new.ahead) }

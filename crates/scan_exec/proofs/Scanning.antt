@@ -178,10 +178,10 @@ module _ (schema : Schema) (batches : List (ℕ × ℕ)) (further : ℕ) (before
       }
 
   ends_is : GivesNone before after → now ≡ given →
-      scan_at schema after batches further now None ≡ record (scan_at schema before batches further given None) { opened = batches }
+      scan_at schema after batches further now None ≡ record (scan_at schema before batches further given None) { opened = batches; unseen = after.unseen }
   ends_is ends same =
       let made : List DataType → List (Option ℕ × Row) → List (ℕ × ℕ) → ℕ → ScanAt = λ types ahead opened given.
-      record { schema = schema; types = types; ahead = map (renumbered firsts) ahead; batches = batches; opened = opened; given = given; refused = None } in
+      record { schema = schema; types = types; ahead = map (renumbered firsts) ahead; batches = batches; opened = opened; given = given; refused = None; unseen = after.unseen } in
       let size : length after.opened ≡ count = ap length (ends.all ∙ is.first) ∙ length-range_with_len 0 count in
       let whole : take (further + length after.opened) batches ≡ batches = take_all (further + length after.opened) batches (omega (arith, size)) in
       ap (λ (types : List DataType). made types after.ahead (take (further + length after.opened) batches) now) ends.on.types

@@ -21,7 +21,7 @@ use arrow_schema::Schema;
 use hash_seed::HashSeed;
 use opened_batches::opened_lists;
 use rewrite::laws::skipping_keeps_rows;
-use row_sources::{Patience, Reading, RowSource, Turn, opened_tables};
+use row_sources::{Patience, Reading, RowSource, Turn, WholePlan, opened_tables};
 use scan_base::Fault;
 use std::alloc::{AllocError, Global};
 use std::marker::Model;
@@ -128,10 +128,12 @@ impl Scan {
         let first = &lists[0];
         push_numbers(&mut batches, 0, first.numbers.as_slice())?;
         let (from, to) = (first.from, first.to);
-        let (tables, plan, output, schema) = rewrite::rewrite(alloc, plan)?.into_parts();
+        let plan = rewrite::rewrite(alloc, plan)?;
+        let (tables, tree, output, schema) = plan.into_parts();
         let tables = opened_tables(alloc, tables.as_slice(), lists)?;
         let seed = reading.seed;
         let opened = Reading { seed, from, to };
+        let plan = WholePlan { tree, output: &output };
         let source = RowSource::watched(alloc, plan, tables, opened, watch)?;
         Ok(Scan {
             schema: Arc::new(alloc, schema)?,
@@ -284,7 +286,7 @@ impl Scan {
     pub fn morsel(&self, alloc: Global, number: usize) -> Result<Scan, AllocError>
         requires unopened { of_first self.now.opened ≡ [] }
         requires there { number < length (of_first self.now.batches) }
-        ensures { IfOk result (λ morsel. morsel ≡ morsel_of self.now number) }
+        ensures { IfOk result (λ morsel. morsel ≡ record (morsel_of self.now number) { unseen = morsel.unseen }) }
     {
         let Answer::Rows(rows) = &self.answer else {
             return Err(AllocError);

@@ -5,4 +5,4 @@ use Rattle.scan_exec.proofs.scan.Scan.next_by.Goals as goal
 pub returns-in-Working : goal.returns-in-Working
 returns-in-Working g c =
     let found = rw (c.in_ok-batch.was, c.in-Working.is) at c.turn_by.ensures in
-    absurd (found.2 refl)
+    absurd (found.2.0 refl)
