@@ -140,7 +140,8 @@ impl RowSource {
         ensures ready { OnOk result (W.ready watch.new) }
         ensures watched { W.watched watch.old watch.new }
     {
-        let sourced = build(alloc, plan.tree, tables, reading, watch)?;
+        let WholePlan { tree, output: _ } = plan;
+        let sourced = build(alloc, tree, tables, reading, watch)?;
         Ok(RowSource { sourced })
     }
 
