@@ -1,5 +1,5 @@
 -- Rows that are given piece by piece.
-use Rattle.std.specs.Prelude.{◌≡◌, ◌≢◌, ◌≤◌, ◌<◌, ℕ, List, [], ◌++◌, length, map, take, Option, Some, None, Result, Ok, Err}
+use Rattle.std.specs.Prelude.{⊥, ◌≡◌, ◌≢◌, ◌≤◌, ◌<◌, ℕ, List, [], ◌++◌, length, map, take, Option, Some, None, Result, Ok, Err}
 use Rattle.std.specs.List.{last_or}
 use Rattle.std.specs.declared.alloc.AllocError.{AllocError}
 use Rattle.arrow_schema.specs.declared.data_type.DataType.{DataType}
@@ -65,9 +65,13 @@ pub record FindsNone (before after : RowsAt) : Type 0 where
   pub looked : after.unseen ≤ before.unseen
   pub on : GoesOn before after
 
+-- a turn of this patience is over once the next rows are chosen
+abbrev pub EndsAtChoice : Patience → Type 0
+EndsAtChoice patience = patience ≡ Choice
+
 -- A turn that finds none yet has a patience with an end. It looked at one row or more, unless it ends at a choice.
 abbrev pub LooksOn : Patience → ℕ → ℕ → Type 0
-LooksOn patience before after = (patience ≢ Endless) × (patience ≢ Choice → after < before)
+LooksOn patience before after = (patience ≢ Endless) × ((EndsAtChoice patience → ⊥) → after < before)
 
 -- What a turn finds: the next piece, or none where no row is left. One whose patience has an end may find none yet.
 abbrev pub FindsTurn : Patience → RowsAt → Result (Turn Piece) AllocError → RowsAt → Type 0

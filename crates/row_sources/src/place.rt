@@ -6,9 +6,9 @@ ghost use Rattle.row_sources.specs.Choices.{IsChoice};
 ghost use Rattle.row_sources.specs.Placed.{begin_in, end_in, IsPlaced};
 ghost use Rattle.row_sources.specs.Parting.{part_of};
 ghost use Rattle.row_sources.specs.Picking.{IsPick, pick_of};
-ghost use Rattle.row_sources.specs.Running.{FindsTurn, picked_of};
+ghost use Rattle.row_sources.specs.Running.{EndsAtChoice, FindsTurn, picked_of};
 ghost use Rattle.row_sources.specs.Sources.{place_at};
-ghost use Rattle.row_sources.specs.declared.turn.Patience.TheVariants.{Endless, Choice};
+ghost use Rattle.row_sources.specs.declared.turn.Patience.TheVariants.{Endless};
 
 use crate::choice::Choice;
 use crate::cursor::Cursor;
@@ -49,7 +49,7 @@ impl PlaceRows {
         ensures choice { IsChoice self.new.table self.new.cursor (pick_of picker.now) choice.new }
         ensures table { self.new.table ≡ self.old.table }
         ensures endless { looking.old.patience ≡ Endless → looking.new.patience ≡ Endless }
-        ensures choice_kept { looking.new.patience ≡ Choice → looking.old.patience ≡ Choice }
+        ensures choice_kept { EndsAtChoice looking.new.patience → EndsAtChoice looking.old.patience }
         ensures found { FindsTurn looking.old.patience (picked_of (pick_of picker.now) (place_at self.old)) result
             (picked_of (pick_of picker.now) (place_at self.new)) }
     {

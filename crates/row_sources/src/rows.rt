@@ -7,8 +7,8 @@ ghost use Rattle.join_batches.specs.Joiner.{joined_types};
 ghost use Rattle.row_sources.specs.Joined.{FeedsNext, IsJoined, IsSource, TakesLeft, joined_at, source_at};
 ghost use Rattle.row_sources.specs.Parting.{ComeInOrder, part_of};
 ghost use Rattle.row_sources.specs.Picking.{IsPick, PickAt, pick_of};
-ghost use Rattle.row_sources.specs.Running.{FindsNext, FindsTurn, picked_of};
-ghost use Rattle.row_sources.specs.declared.turn.Patience.TheVariants.{Endless, Choice};
+ghost use Rattle.row_sources.specs.Running.{EndsAtChoice, FindsNext, FindsTurn, picked_of};
+ghost use Rattle.row_sources.specs.declared.turn.Patience.TheVariants.{Endless};
 
 use crate::choice::Choice;
 use crate::part::Part;
@@ -84,7 +84,7 @@ impl Rows {
     #[cycle(turn)]
     pub fn turn(&mut self, looking: &mut Looking) -> Result<Turn<Piece>, AllocError>
         ensures endless { looking.old.patience ≡ Endless → looking.new.patience ≡ Endless }
-        ensures choice { looking.new.patience ≡ Choice → looking.old.patience ≡ Choice }
+        ensures choice { EndsAtChoice looking.new.patience → EndsAtChoice looking.old.patience }
         ensures found { FindsTurn looking.old.patience self.old result self.new }
     {
         match &mut self.source {
@@ -208,7 +208,7 @@ impl Joining {
         ensures types { joined_types self.new.joiner ≡ joined_types self.old.joiner }
         ensures depth { left.new.depth ≡ left.old.depth }
         ensures endless { looking.old.patience ≡ Endless → looking.new.patience ≡ Endless }
-        ensures choice { looking.new.patience ≡ Choice → looking.old.patience ≡ Choice }
+        ensures choice { EndsAtChoice looking.new.patience → EndsAtChoice looking.old.patience }
         ensures found { FindsTurn looking.old.patience (picked_of (pick_of picker.now) (joined_at left.old self.old.joiner self.old.number))
             result (picked_of (pick_of picker.now) (joined_at left.new self.new.joiner self.new.number)) }
     {
@@ -253,7 +253,7 @@ impl Joining {
         ensures types { joined_types self.new.joiner ≡ joined_types self.old.joiner }
         ensures depth { left.new.depth ≡ left.old.depth }
         ensures endless { looking.old.patience ≡ Endless → looking.new.patience ≡ Endless }
-        ensures choice { looking.new.patience ≡ Choice → looking.old.patience ≡ Choice }
+        ensures choice { EndsAtChoice looking.new.patience → EndsAtChoice looking.old.patience }
         ensures found { FindsTurn looking.old.patience (picked_of (pick_of picker.now) (joined_at left.old self.old.joiner self.old.number)) result
             (picked_of (pick_of picker.now) (joined_at left.new self.new.joiner self.new.number)) }
     {
@@ -276,7 +276,7 @@ impl Joining {
     #[cycle(turn)]
     fn choose(&mut self, left: &mut Rows, looking: &Looking) -> Result<Turn<Piece>, AllocError>
         requires joined { IsJoined left.old self.old.joiner self.old.number }
-        requires choice { looking.now.patience ≡ Choice }
+        requires choice { EndsAtChoice looking.now.patience }
         ensures joined { IsJoined left.new self.new.joiner self.new.number }
         ensures types { joined_types self.new.joiner ≡ joined_types self.old.joiner }
         ensures depth { left.new.depth ≡ left.old.depth }
@@ -305,7 +305,7 @@ impl Joining {
         ensures types { joined_types self.new.joiner ≡ joined_types self.old.joiner }
         ensures depth { left.new.depth ≡ left.old.depth }
         ensures endless { looking.old.patience ≡ Endless → looking.new.patience ≡ Endless }
-        ensures choice { looking.new.patience ≡ Choice → looking.old.patience ≡ Choice }
+        ensures choice { EndsAtChoice looking.new.patience → EndsAtChoice looking.old.patience }
         ensures feeds { FeedsNext looking.old.patience (joined_at left.old self.old.joiner self.old.number) result
             (joined_at left.new self.new.joiner self.new.number) }
         ensures fewer { TakesLeft result (length left.old.ahead) (length left.new.ahead) }
