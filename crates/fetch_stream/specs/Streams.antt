@@ -56,11 +56,6 @@ Opens database handle (Err BadTicket) = MeansNothing database handle
 Opens database handle (Err OutOfMemory) = Unit {0}
 Opens database handle (Err _) = ⊥
 
--- what is still to come of a stream, if there is one
-abbrev pub stream_in : Result RunningAt Fault → Result StreamAt Fault
-stream_in (Ok running) = Ok running.stream
-stream_in (Err fault) = Err fault
-
 -- the payloads that a stream has given say these rows behind its schema, each batch of them right behind its dictionaries
 abbrev pub SaySoFar : StreamAt → List Payload → List Row → Type 0
 SaySoFar stream payloads rows = so_far stream.begun

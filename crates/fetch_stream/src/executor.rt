@@ -2,7 +2,7 @@
 
 ghost use Rattle.std.specs.Prelude.{◌≡◌, ◌⊎◌, ℕ, IfOk, Result, OnOk};
 ghost use Rattle.scan_base.specs.declared.fault.Fault.{Fault as FaultAt};
-ghost use Rattle.fetch_stream.specs.Streams.{StreamAt, Gives, GivesTurn, LooksFor};
+ghost use Rattle.fetch_stream.specs.Streams.{StreamAt, GivesTurn, LooksFor};
 
 use crate::parcel::Parcel;
 use crate::stream::FetchStream;
@@ -23,29 +23,15 @@ pub trait Payloads {
     // That a turn may give nothing since others are at work.
     ghost waits: { Self → Type 0 };
 
-    /// The next parcel, as that of a [`FetchStream`], and `None` behind the last one.
+    /// A turn to the next parcel, as that of a [`FetchStream`].
     ///
     /// # Errors
     ///
     /// F20 (`Fault::ResultTooLarge`) where the answer has more than 67,108,864 rows, behind a beginning of it; F21
     /// (`Fault::OutOfMemory`) where memory is refused. What refuses payloads is answered from then on.
-    fn next(&mut self, alloc: Global) -> Result<Option<Parcel>, Fault>
-        ensures { Gives (stream self.old) result (stream self.new) };
-
-    /// A turn to the next parcel, as that of a [`FetchStream`]. An impl that leaves it out finds a parcel or the end in each.
-    ///
-    /// # Errors
-    ///
-    /// Those of `next`.
-    fn turn(&mut self, alloc: Global, _patience: Patience) -> Result<Turn<Parcel>, Fault>
-        ensures turns { GivesTurn _patience (stream self.old) result (stream self.new) }
-        ensures looks { waits self.old ⊎ LooksFor _patience result (unseen self.old) (unseen self.new) }
-    {
-        match self.next(alloc)? {
-            Some(parcel) => Ok(Turn::Given(parcel)),
-            None => Ok(Turn::End),
-        }
-    }
+    fn turn(&mut self, alloc: Global, patience: Patience) -> Result<Turn<Parcel>, Fault>
+        ensures turns { GivesTurn patience (stream self.old) result (stream self.new) }
+        ensures looks { waits self.old ⊎ LooksFor patience result (unseen self.old) (unseen self.new) };
 }
 
 impl Payloads for FetchStream {
@@ -56,10 +42,6 @@ impl Payloads for FetchStream {
     ghost unseen = { λ s. s.unseen };
 
     ghost waits = { λ _. ⊥ };
-
-    fn next(&mut self, alloc: Global) -> Result<Option<Parcel>, Fault> {
-        FetchStream::next(self, alloc)
-    }
 
     fn turn(&mut self, alloc: Global, patience: Patience) -> Result<Turn<Parcel>, Fault> {
         FetchStream::turn(self, alloc, patience)

@@ -1,19 +1,12 @@
 //! Streams: an answer, one parcel at a time.
 
-ghost use Rattle.std.specs.Prelude.{◌≡◌, ◌≢◌, ◌≤◌, ◌<◌, ◌+◌, ◌++◌, true, false, None, length, nat_le, Err, IfOk, IfErr, IfSome, OnOk};
+ghost use Rattle.std.specs.Prelude.{◌≡◌, ◌≤◌, ◌<◌, ◌+◌, ◌++◌, false, None, length, IfOk, IfSome, OnOk};
 ghost use Rattle.std.specs.List.{list_any};
-ghost use Rattle.scan_base.specs.declared.fault.Fault.TheVariants.{BadTicket, LimitReached, OutOfMemory};
-ghost use Rattle.scan_base.specs.Limits.{most_answer_rows, most_query_bytes};
-ghost use Rattle.scan_base.specs.Reading.{RefusesFirst, demand};
-ghost use Rattle.endpoint_split.specs.Seen.{handle_seen};
+ghost use Rattle.scan_base.specs.Limits.{most_answer_rows};
 ghost use Rattle.arrow_schema.specs.Schema.{IsSchema};
 ghost use Rattle.arrays.specs.Batch.{rows_of};
-ghost use Rattle.table_versions.specs.Table.{Table, is_long_text};
-ghost use Rattle.table_versions.specs.Stored.{tables_of};
-ghost use Rattle.flight_info.specs.Meant.{Meant};
-ghost use Rattle.flight_info.specs.Tables.{tables_listed};
-ghost use Rattle.fetch_stream.specs.Fetches.{may_mean};
-ghost use Rattle.fetch_stream.specs.Streams.{Gives, GivesTurn, LooksFor, Opens, opened, stream_in};
+ghost use Rattle.table_versions.specs.Table.{is_long_text};
+ghost use Rattle.fetch_stream.specs.Streams.{Gives, GivesTurn, LooksFor};
 ghost use Rattle.fetch_stream.specs.Morsels.{whole_stream};
 ghost use Rattle.fetch_stream.specs.inside.Ahead.{IsGoing, IsSource, AnsweredAs, schema_behind, left_behind, rows_taken};
 ghost use Rattle.fetch_stream.specs.inside.Steps.{GivesFirst, Refills, GivesRows};
@@ -21,21 +14,18 @@ ghost use Rattle.fetch_stream.specs.inside.Steps.{GivesFirst, Refills, GivesRows
 use crate::cutter::Cutter;
 use crate::message::{Writing, schema_payload};
 use crate::morsels::{MakingMorsels, Morsels};
-use crate::opening::Opening;
 use crate::parcel::Parcel;
 use crate::source::Source;
 use crate::work::Work;
 use arrays::Batch;
 use arrays::laws::batch_slices_keep_rows;
 use arrow_schema::Schema;
-use endpoint_split::Handle;
 use hash_seed::HashSeed;
 use row_sources::{Patience, Turn};
 use scan_base::Fault;
-use scan_exec::{GroupsBatches, InOneWalk, Making};
+use scan_exec::GroupsBatches;
 use std::alloc::{AllocError, Global};
 use std::marker::Model;
-use table_versions::Snapshot;
 use work_watch::Watches;
 
 /// The answer to a handle, one parcel at a time: the message of its schema, and then record batches, each right behind its
@@ -158,29 +148,6 @@ impl FetchStream {
         }
     }
 
-    /// The stream of the answer to a handle at a version of the catalog. The list of
-    /// tables has a row for each table of this version, in byte order of the names. So many workers may make its
-    /// parcels, if an executor lets them: what it gives is the same for any number.
-    ///
-    /// # Errors
-    ///
-    /// F17 (`Fault::BadTicket`) where the query does not parse or is not bound at this version, or the range is not within the
-    /// rows of its first place. Also where the query makes groups and the range is not all of them, so never for the list of
-    /// tables. F21 (`Fault::OutOfMemory`) where memory is refused, but neither for a query of more than 16,384 bytes nor for a
-    /// range that ends before it begins.
-    pub fn new(
-        alloc: Global,
-        snapshot: &Snapshot,
-        handle: &Handle<'_>,
-        workers: usize,
-    ) -> Result<FetchStream, Fault>
-        ensures opens { Opens (tables_of snapshot.now.catalog) (handle_seen handle.now) (stream_in result) }
-        ensures first { may_mean (handle_seen handle.now) ≡ false → result ≡ Err BadTicket }
-    {
-        let opening = Opening::new(alloc, snapshot, handle, workers)?;
-        Ok(opening.stream(alloc)?)
-    }
-
     /// How many workers may make its payloads at most.
     pub fn workers(&self) -> usize {
         self.work.workers
@@ -296,23 +263,7 @@ impl FetchStream {
     pub fn next(&mut self, alloc: Global) -> Result<Option<Parcel>, Fault>
         ensures { Gives self.old.stream result self.new.stream }
     {
-        self.next_by(alloc, &InOneWalk)
-    }
-
-    /// The same, where the groups of a grouped query are made by the one that is handed in, before the first parcel of them.
-    ///
-    /// # Errors
-    ///
-    /// Those of `next`.
-    pub fn next_by<G: GroupsBatches>(
-        &mut self,
-        alloc: Global,
-        by: &G,
-    ) -> Result<Option<Parcel>, Fault>
-        ensures { Gives self.old.stream result self.new.stream }
-    {
-        let patience = Patience::Endless;
-        match self.turn_by(alloc, Making { by, patience })? {
+        match self.turn(alloc, Patience::Endless)? {
             Turn::Given(parcel) => Ok(Some(parcel)),
             Turn::Working => Ok(None),
             Turn::End => Ok(None),
@@ -320,7 +271,7 @@ impl FetchStream {
     }
 
     /// A turn to the next parcel. `Turn::Working` where none of the rows is given that the turn looked at: then the same is
-    /// still to come, and the next turn goes on behind them.
+    /// still to come, and the next turn goes on behind them. Groups that were not made before are made in one turn.
     ///
     /// # Errors
     ///
@@ -328,23 +279,6 @@ impl FetchStream {
     pub fn turn(&mut self, alloc: Global, patience: Patience) -> Result<Turn<Parcel>, Fault>
         ensures turns { GivesTurn patience self.old.stream result self.new.stream }
         ensures looks { LooksFor patience result self.old.unseen self.new.unseen }
-    {
-        let by = &InOneWalk;
-        self.turn_by(alloc, Making { by, patience })
-    }
-
-    /// The same, where the groups of a grouped query are made by the one that is handed in, in one turn.
-    ///
-    /// # Errors
-    ///
-    /// Those of `next`.
-    pub fn turn_by<G: GroupsBatches>(
-        &mut self,
-        alloc: Global,
-        making: Making<'_, G>,
-    ) -> Result<Turn<Parcel>, Fault>
-        ensures turns { GivesTurn making.entry.patience self.old.stream result self.new.stream }
-        ensures looks { LooksFor making.entry.patience result self.old.unseen self.new.unseen }
     {
         if let Some(fault) = self.refused {
             return Err(fault);
@@ -354,7 +288,7 @@ impl FetchStream {
                 alloc,
                 seed: self.seed,
             };
-            turn_of_rows(writing, making, &mut self.cutter, &mut self.source)
+            turn_of_rows(writing, patience, &mut self.cutter, &mut self.source)
         } else {
             first_parcel(alloc, self.source.schema())
         };
@@ -376,20 +310,20 @@ fn first_parcel(alloc: Global, schema: &Schema) -> Result<Turn<Parcel>, Fault>
 }
 
 // A turn to the next batch, where the last one was given whole.
-fn refill<G: GroupsBatches>(
+fn refill(
     alloc: Global,
-    making: Making<'_, G>,
+    patience: Patience,
     cutter: &mut Cutter,
     source: &mut Source,
 ) -> Result<Turn<()>, Fault>
     requires { IsGoing cutter.old source.old }
-    ensures { Refills making.entry.patience cutter.old source.old result cutter.new source.new }
+    ensures { Refills patience cutter.old source.old result cutter.new source.new }
 {
     batch_slices_keep_rows();
     if cutter.at < cutter.batch.rows() {
         return Ok(Turn::Given(()));
     }
-    match source.turn(alloc, making)? {
+    match source.turn(alloc, patience)? {
         Turn::Given(batch) => {
             *cutter = Cutter::new(batch);
             Ok(Turn::Given(()))
@@ -400,17 +334,17 @@ fn refill<G: GroupsBatches>(
 }
 
 // A turn to the parcel of the next rows.
-fn turn_of_rows<G: GroupsBatches>(
+fn turn_of_rows(
     writing: Writing,
-    making: Making<'_, G>,
+    patience: Patience,
     cutter: &mut Cutter,
     source: &mut Source,
 ) -> Result<Turn<Parcel>, Fault>
     requires { IsGoing cutter.old source.old }
-    ensures { GivesRows making.entry.patience cutter.old source.old result cutter.new source.new }
+    ensures { GivesRows patience cutter.old source.old result cutter.new source.new }
 {
     batch_slices_keep_rows();
-    match refill(writing.alloc, making, cutter, source)? {
+    match refill(writing.alloc, patience, cutter, source)? {
         Turn::Given(_) => Ok(Turn::Given(cutter.next(writing, source.schema())?)),
         Turn::Working => Ok(Turn::Working),
         Turn::End => Ok(Turn::End),

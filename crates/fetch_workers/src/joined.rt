@@ -56,14 +56,6 @@ impl<'x, 'a, A: Part, P: Answers<A>> Payloads for Joined<'x, 'a, A, P> {
 
     ghost waits = { λ _. Unit {0} };
 
-    fn next(&mut self, alloc: Global) -> Result<Option<Parcel>, Fault> {
-        match self.turn(alloc, Patience::Endless)? {
-            Turn::Given(parcel) => Ok(Some(parcel)),
-            Turn::Working => Ok(None),
-            Turn::End => Ok(None),
-        }
-    }
-
     fn turn(&mut self, alloc: Global, patience: Patience) -> Result<Turn<Parcel>, Fault> {
         if let Some(fault) = self.refused {
             return Err(fault);

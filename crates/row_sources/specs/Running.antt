@@ -79,9 +79,3 @@ FindsTurn patience before (Ok (Given piece)) after = FindsPiece before piece aft
 FindsTurn patience before (Ok Working) after = FindsNone before after × LooksOn patience before.unseen after.unseen
 FindsTurn patience before (Ok End) after = Ends before after
 FindsTurn patience before (Err _) after = GoesOn before after
-
--- the next piece, or none where no row is left
-abbrev pub FindsNext : RowsAt → Result (Option Piece) AllocError → RowsAt → Type 0
-FindsNext before (Ok (Some piece)) after = FindsPiece before piece after
-FindsNext before (Ok None) after = Ends before after
-FindsNext before (Err _) after = GoesOn before after

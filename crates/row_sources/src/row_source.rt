@@ -27,7 +27,7 @@ use hash_seed::HashSeed;
 use std::alloc::{AllocError, Global};
 use std::marker::Model;
 use typed_plan::{Columns, Output, Plan};
-use work_watch::{Unwatched, Watches};
+use work_watch::Watches;
 
 /// A plan: the tree that gives its rows, and what its result takes of them.
 #[derive(Drop)]
@@ -86,34 +86,8 @@ pub struct UnfilteredRows {
 
 impl RowSource {
     /// What gives the rows of a rewritten plan's tree over a range of its first place, which begins in the first batch that is read,
-    /// and of which each such batch has a row. The tables are those of its places, in order. The further places are read here.
-    ///
-    /// # Errors
-    ///
-    /// `AllocError` where memory is refused.
-    pub fn new(
-        alloc: Global,
-        plan: WholePlan<'_>,
-        tables: Vec<OpenedTable>,
-        reading: Reading,
-    ) -> Result<RowSource, AllocError>
-        requires folded { is_folded_tree (tree_of plan.tree) ≡ true }
-        requires below { is_pushed (tree_of plan.tree) ≡ true }
-        requires pruned { (schema : Schema) → IsPruned (record { tree = tree_of plan.tree; output = plan.output.now; schema = schema }) }
-        requires typed { IsTypedTree (tree_of plan.tree) }
-        requires schemas { tree_schemas (tree_of plan.tree) ≡ map (λ (table : TableAt). table.schema) tables.items }
-        requires first { BeginsInFirst reading.from (first_batches tables.items) }
-        requires each { batches_in reading.from reading.to (first_batches tables.items)
-            ≡ range_with_len 0 (length (first_batches tables.items)) }
-        ensures begun { IfOk result (λ source. IsBegun (tree_of plan.entry.tree) tables.items reading.from reading.to source.rows) }
-        ensures few { IfOk result (λ source. is_place (tree_of plan.entry.tree) ≡ true →
-            source.count ≤ length (flat_map rows_of (first_batches tables.items))) }
-    {
-        RowSource::watched(alloc, plan, tables, reading, &mut Unwatched)
-    }
-
-    /// The same, watched: who watches may end it behind each batch of a further place that is read, and while the rows of one are
-    /// hashed.
+    /// and of which each such batch has a row. The tables are those of its places, in order. The further places are read here. Who
+    /// watches may end it behind each batch of one that is read, and while its rows are hashed.
     ///
     /// # Errors
     ///

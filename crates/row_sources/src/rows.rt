@@ -7,7 +7,7 @@ ghost use Rattle.join_batches.specs.Joiner.{joined_types};
 ghost use Rattle.row_sources.specs.Joined.{FeedsNext, IsJoined, IsSource, TakesLeft, joined_at, source_at};
 ghost use Rattle.row_sources.specs.Parting.{ComeInOrder, part_of};
 ghost use Rattle.row_sources.specs.Picking.{IsPick, PickAt, pick_of};
-ghost use Rattle.row_sources.specs.Running.{EndsAtChoice, FindsNext, FindsTurn, picked_of};
+ghost use Rattle.row_sources.specs.Running.{EndsAtChoice, FindsTurn, picked_of};
 ghost use Rattle.row_sources.specs.declared.turn.Patience.TheVariants.{Endless};
 
 use crate::choice::Choice;
@@ -98,27 +98,6 @@ impl Rows {
                     joining.turn(left, &self.picker, &mut self.choice.selection, looking)
                 }
             }
-        }
-    }
-}
-
-impl Rows {
-    /// The next rows, one or more, of one batch of the first place: at most 65,536. `None` where no row is left.
-    ///
-    /// # Errors
-    ///
-    /// `AllocError` where memory is refused. Then nothing is said of the rows that come next.
-    pub fn next(&mut self, alloc: Global) -> Result<Option<Piece>, AllocError>
-        ensures { FindsNext self.old result self.new }
-    {
-        let mut looking = Looking {
-            alloc,
-            patience: Patience::Endless,
-        };
-        match self.turn(&mut looking)? {
-            Turn::Given(piece) => Ok(Some(piece)),
-            Turn::Working => Ok(None),
-            Turn::End => Ok(None),
         }
     }
 }

@@ -13,8 +13,7 @@ ghost use Rattle.scan_exec.specs.Morsels.{HasMorsels, morsel_of, of_first};
 ghost use Rattle.scan_exec.specs.Scan.{Gives, GivesTurn, IsBeginning, IsReadied, left};
 
 use crate::answer::{Answer, answer_of};
-use crate::group_work::{GroupsBatches, InOneWalk};
-use crate::making::Making;
+use crate::group_work::GroupsBatches;
 use crate::opened::{further_batches, push_numbers};
 use arrays::Batch;
 use arrow_schema::Schema;
@@ -199,23 +198,7 @@ impl Scan {
     pub fn next(&mut self, alloc: Global) -> Result<Option<Batch>, Fault>
         ensures { Gives self.old result self.new }
     {
-        self.next_by(alloc, &InOneWalk)
-    }
-
-    /// The same, where the groups of a grouped query are made by the one that is handed in, at the first call.
-    ///
-    /// # Errors
-    ///
-    /// Those of `next`.
-    pub fn next_by<G: GroupsBatches>(
-        &mut self,
-        alloc: Global,
-        by: &G,
-    ) -> Result<Option<Batch>, Fault>
-        ensures { Gives self.old result self.new }
-    {
-        let patience = Patience::Endless;
-        match self.turn_by(alloc, Making { by, patience })? {
+        match self.turn(alloc, Patience::Endless)? {
             Turn::Given(batch) => Ok(Some(batch)),
             Turn::Working => Ok(None),
             Turn::End => Ok(None),
@@ -223,22 +206,18 @@ impl Scan {
     }
 
     /// A turn to the next batch. `Turn::Working` where none of the rows is given that the turn looked at: the next turn goes
-    /// on behind them.
+    /// on behind them. Groups that were not made before are made in one turn.
     ///
     /// # Errors
     ///
     /// Those of `next`.
-    pub fn turn_by<G: GroupsBatches>(
-        &mut self,
-        alloc: Global,
-        making: Making<'_, G>,
-    ) -> Result<Turn<Batch>, Fault>
-        ensures { GivesTurn making.entry.patience self.old result self.new }
+    pub fn turn(&mut self, alloc: Global, patience: Patience) -> Result<Turn<Batch>, Fault>
+        ensures { GivesTurn patience self.old result self.new }
     {
         if let Some(fault) = self.refused {
             return Err(fault);
         }
-        match turn_counted(alloc, making, &mut self.answer, &mut self.given) {
+        match turn_counted(alloc, patience, &mut self.answer, &mut self.given) {
             Ok(found) => Ok(found),
             Err(fault) => {
                 self.refused = Some(fault);
@@ -307,18 +286,18 @@ impl Scan {
 }
 
 // A turn to the next batch, where so many rows were given.
-fn turn_counted<G: GroupsBatches>(
+fn turn_counted(
     alloc: Global,
-    making: Making<'_, G>,
+    patience: Patience,
     answer: &mut Answer,
     given: &mut usize,
 ) -> Result<Turn<Batch>, Fault>
     requires giving { IsGiving answer.old }
     requires few { given.old ≤ most_answer_rows }
     ensures giving { IsGiving answer.new }
-    ensures counts { CountsTurn making.entry.patience (giving_at answer.old) given.old result (giving_at answer.new) given.new }
+    ensures counts { CountsTurn patience (giving_at answer.old) given.old result (giving_at answer.new) given.new }
 {
-    match answer.turn(alloc, making)? {
+    match answer.turn(alloc, patience)? {
         Turn::Given(batch) => {
             if batch.rows() > MAX_ANSWER_ROWS - *given {
                 return Err(Fault::ResultTooLarge);

@@ -6,19 +6,19 @@ use Rattle.fetch_stream.specs.Streams.{StreamAt, RunningAt, LooksFor, Parcel}
 use Rattle.fetch_stream.specs.inside.Ahead.{schema_behind, rows_cut, unseen_behind}
 use Rattle.fetch_stream.specs.inside.Steps.{GivesFirst, rows_left}
 use Rattle.fetch_stream.proofs.Going.{cut_few, goes_on, gives_so, gives_next, gives_first, looks_first, looks_next}
-use Rattle.fetch_stream.proofs.stream.FetchStream.turn_by.Goals as goal
-use Rattle.fetch_stream.proofs.stream.FetchStream.turn_by.Goals.{then-self, else-self}
+use Rattle.fetch_stream.proofs.stream.FetchStream.turn.Goals as goal
+use Rattle.fetch_stream.proofs.stream.FetchStream.turn.Goals.{then-self, else-self}
 
 pub invariant_of-self : goal.invariant_of-self
-invariant_of-self g c none = elim c.if-self.branch [
+invariant_of-self c none = elim c.if-self.branch [
   | then-self w ↦
       let rows = w.turn_of_rows-given in
-      rw w.self-inside-is (goes_on c.args.making.patience c.self.inside.cutter c.self.inside.source c.in-Ok.field-0 rows.new.cutter rows.new.source (rw (sym w.given-is ∙ c.in-Ok.is) at rows.ensures))
+      rw w.self-inside-is (goes_on c.args.patience c.self.inside.cutter c.self.inside.source c.in-Ok.field-0 rows.new.cutter rows.new.source (rw (sym w.given-is ∙ c.in-Ok.is) at rows.ensures))
   | else-self w ↦ rw w.self-inside-is (c.self.invariant c.in_default.is)
 ]
 
 pub returns-in-Ok-clause-turns : goal.returns-in-Ok-clause-turns
-returns-in-Ok-clause-turns g c =
+returns-in-Ok-clause-turns c =
     let inside = c.self.inside in
     let new = c.if-self.self-inside in
     let given = c.in-Ok.field-0 in
@@ -31,18 +31,18 @@ returns-in-Ok-clause-turns g c =
           let rows = w.turn_of_rows-given in
           let last : StreamAt = record { schema = schema_behind rows.new.source; begun = true; left = rows_left rows.new.cutter rows.new.source; given = rows_cut rows.new.cutter rows.new.source; refused = inside.refused } in
           let same : after ≡ last = rw w.self-inside-is refl in
-          gives_so c.args.making.patience c.args.self.now.stream before after last c.if-self.given given (ap (λ (s : RunningAt). s.stream) (sym c.self.view_is)) c.in-Ok.is same c.in_default.is c.in_default.is
-          (gives_next c.args.making.patience inside.cutter inside.source given rows.new.cutter rows.new.source inside.begun w.if-self.true (rw (sym w.given-is ∙ c.in-Ok.is) at rows.ensures))
+          gives_so c.args.patience c.args.self.now.stream before after last c.if-self.given given (ap (λ (s : RunningAt). s.stream) (sym c.self.view_is)) c.in-Ok.is same c.in_default.is c.in_default.is
+          (gives_next c.args.patience inside.cutter inside.source given rows.new.cutter rows.new.source inside.begun w.if-self.true (rw (sym w.given-is ∙ c.in-Ok.is) at rows.ensures))
       | else-self w ↦
           let last : StreamAt = record { schema = schema_behind inside.source; begun = true; left = left; given = count; refused = inside.refused } in
           let same : after ≡ last = rw w.self-inside-is refl in
-          gives_so c.args.making.patience c.args.self.now.stream before after last c.if-self.given given (ap (λ (s : RunningAt). s.stream) (sym c.self.view_is)) c.in-Ok.is same c.in_default.is c.in_default.is
-          (gives_first c.args.making.patience (schema_behind inside.source) given left count inside.begun w.if-self.false (cut_few inside.cutter inside.source (c.self.invariant c.in_default.is)) (subst (λ (schema : Schema). GivesFirst schema (Ok given)) w.schema.ensures (rw (sym w.given-is ∙ c.in-Ok.is) at w.first_parcel-given.ensures)))
+          gives_so c.args.patience c.args.self.now.stream before after last c.if-self.given given (ap (λ (s : RunningAt). s.stream) (sym c.self.view_is)) c.in-Ok.is same c.in_default.is c.in_default.is
+          (gives_first c.args.patience (schema_behind inside.source) given left count inside.begun w.if-self.false (cut_few inside.cutter inside.source (c.self.invariant c.in_default.is)) (subst (λ (schema : Schema). GivesFirst schema (Ok given)) w.schema.ensures (rw (sym w.given-is ∙ c.in-Ok.is) at w.first_parcel-given.ensures)))
     ]
 
 pub returns-in-Ok-clause-looks : goal.returns-in-Ok-clause-looks
-returns-in-Ok-clause-looks g c =
-    let patience = c.args.making.patience in
+returns-in-Ok-clause-looks c =
+    let patience = c.args.patience in
     let inside = c.self.inside in
     let new = c.if-self.self-inside in
     let given = c.in-Ok.field-0 in
