@@ -203,7 +203,7 @@ where
         exchange,
         me,
         given: 0,
-        hand: Hand::Did(None),
+        hand: Hand::Empty,
     };
     let draws_first = !exchange.work.chooses_first();
     if draws_first {
@@ -230,8 +230,9 @@ fn put_down<K: Truth<A>, A: Drop, W: Work<Answer = A>, G, R>(pull: Pull<'_, '_, 
         hand,
     } = pull;
     match hand {
+        Hand::Empty => {}
         Hand::Drawn(_) => {}
-        Hand::Did(done) => let_go(done),
+        Hand::Did(done) => let_go(Some(done)),
     }
 }
 

@@ -1,6 +1,6 @@
 // The morsels that were begun and are not read: each lies in the slot of its number, or a thread has it in hand.
 
-ghost use Rattle.std.specs.Prelude.{◌≡◌, ◌<◌, ◌↔◌, IfNone, IfOk, IfSome, IsSome, IsTrue, None, length, replicate};
+ghost use Rattle.std.specs.Prelude.{◌≡◌, ◌↔◌, IfNone, IfOk, IfSome, IsSome, IsTrue, None, replicate};
 ghost use Rattle.scan_workers.specs.Held.{IsInHand, Lies, MayBegin, asked, at_first, begun_one, given_next, laid, taken};
 
 use crate::answered::{Answered, Done, Stage, Truth, let_go};
@@ -117,7 +117,8 @@ impl<K: Truth<A>, A> Held<K, A> {
         ensures { self.new ≡ laid self.old done.answered.number }
     {
         let place = done.answered.number % self.slots.len();
-        let None = std::mem::replace(&mut self.slots[place], Some(done)) else {
+        let before = std::mem::replace(&mut self.slots[place], Some(done));
+        let None = before else {
             unreachable!();
         };
     }
@@ -139,10 +140,11 @@ impl<K: Truth<A>, A> Held<K, A> {
         if !lies_in(&self.slots[place], false) {
             return None;
         }
-        let Some(Done { answered, stage: _ }) = self.slots[place].take() else {
-            unreachable!();
-        };
-        Some(answered)
+        let lying = self.slots[place].take();
+        match lying {
+            Some(Done { answered, stage: _ }) => Some(answered),
+            None => unreachable!(),
+        }
     }
 
     // Gives the reader the answer for which it asks, if it is made.
@@ -154,11 +156,12 @@ impl<K: Truth<A>, A> Held<K, A> {
         if !lies_in(&self.slots[place], true) {
             return None;
         }
-        let Some(Done { answered, stage: _ }) = self.slots[place].take() else {
-            unreachable!();
-        };
         self.given = self.read + 1;
-        Some(answered)
+        let lying = self.slots[place].take();
+        match lying {
+            Some(Done { answered, stage: _ }) => Some(answered),
+            None => unreachable!(),
+        }
     }
 }
 

@@ -1,6 +1,6 @@
 // The answers as the reader takes them, in the order of the morsels.
 
-ghost use Rattle.std.specs.Prelude.{◌≡◌, ℕ, IfSome, None};
+ghost use Rattle.std.specs.Prelude.{◌≡◌, ℕ, IfSome};
 
 use crate::answered::{Answered, Done, Meanwhile, Stage, Task, Truth};
 use crate::claims::{Claimer, draw};
@@ -10,20 +10,13 @@ use std::alloc::Global;
 use std::marker::PhantomData;
 use std::sync::Wait;
 
-// Whether a turn of a morsel is over, and there is more to be made.
-fn is_turned<K: Truth<A>, A>(done: &Option<Done<K, A>>) -> bool {
-    match done {
-        Some(done) => matches!(done.stage, Stage::Turned),
-        None => false,
-    }
-}
-
 // What the reader has in hand.
 pub enum Hand<T> {
+    Empty,
     // A morsel that it drew, and has not begun.
     Drawn(usize),
-    // What it did, if anything, and has not handed in.
-    Did(Option<T>),
+    // What it did, and has not handed in.
+    Did(T),
 }
 
 // The answers in the order of the morsels. Where the next one is not there, the reader works as the others.
@@ -38,18 +31,19 @@ pub struct Pull<'a, 'h, K: Truth<A>, A, W: Work<Answer = A>, G, R> {
 impl<'a, 'h, K: Truth<A>, A, W: Work<Answer = A>, G: Gate, R: Wait> Pull<'a, 'h, K, A, W, G, R> {
     // Takes something into its empty hand.
     fn hold(&mut self, held: Hand<Done<K, A>>)
-        requires empty { self.old.hand ≡ Hand.Did None }
+        requires empty { self.old.hand ≡ Hand.Empty }
         ensures held { self.new.hand ≡ held }
         ensures same { (self.new.exchange ≡ self.old.exchange) × (self.new.given ≡ self.old.given) }
     {
-        let Hand::Did(None) = std::mem::replace(&mut self.hand, held) else {
+        let before = std::mem::replace(&mut self.hand, held);
+        let Hand::Empty = before else {
             unreachable!();
         };
     }
 
     // Draws a morsel, which is for the reader alone, if one may be begun.
     pub fn draw_first(&mut self)
-        requires empty { self.old.hand ≡ Hand.Did None }
+        requires empty { self.old.hand ≡ Hand.Empty }
         ensures same { (self.new.exchange ≡ self.old.exchange) × (self.new.given ≡ self.old.given) }
     {
         if self.exchange.window.give_out(self.exchange.rt) {
@@ -61,25 +55,30 @@ impl<'a, 'h, K: Truth<A>, A, W: Work<Answer = A>, G: Gate, R: Wait> Pull<'a, 'h,
     // What the reader hands in: the morsel that it drew is begun first.
     fn take_done(&mut self) -> Option<Done<K, A>>
         requires { W.ready self.old.exchange.now.work.now }
-        ensures empty { self.new.hand ≡ Hand.Did None }
+        ensures empty { self.new.hand ≡ Hand.Empty }
         ensures same { (self.new.exchange ≡ self.old.exchange) × (self.new.given ≡ self.old.given) }
     {
-        match std::mem::replace(&mut self.hand, Hand::Did(None)) {
+        match std::mem::replace(&mut self.hand, Hand::Empty) {
+            Hand::Empty => None,
             Hand::Drawn(number) => self.exchange.begin(number),
-            Hand::Did(done) => done,
+            Hand::Did(done) => Some(done),
         }
     }
 
     // Does what is to be done next. Whether a turn of a morsel is over.
     fn perform(&mut self, task: Task<Answered<K, A>>) -> bool
         requires ready { W.ready self.old.exchange.now.work.now }
-        requires empty { self.old.hand ≡ Hand.Did None }
+        requires empty { self.old.hand ≡ Hand.Empty }
         ensures same { (self.new.exchange ≡ self.old.exchange) × (self.new.given ≡ self.old.given) }
     {
-        let done = self.exchange.perform(&mut self.me, task);
-        let turned = is_turned(&done);
-        self.hold(Hand::Did(done));
-        turned
+        match self.exchange.perform(&mut self.me, task) {
+            Some(done) => {
+                let turned = matches!(done.stage, Stage::Turned);
+                self.hold(Hand::Did(done));
+                turned
+            }
+            None => false,
+        }
     }
 
     // The answer of a morsel, or none where a turn of one is over before it is there. What it does before has an end, since only so many

@@ -166,8 +166,13 @@ impl<K: Truth<A>, A> Slots<K, A> {
     {
         match self.take_first() {
             Some(answered) => Some(Task::Make(answered)),
-            None if self.begin() => Some(Task::Begin),
-            None => None,
+            None => {
+                if self.begin() {
+                    Some(Task::Begin)
+                } else {
+                    None
+                }
+            }
         }
     }
 
