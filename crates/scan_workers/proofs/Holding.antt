@@ -1,12 +1,12 @@
 -- Where the morsels are, step by step.
-use Rattle.std.proofs.Common.{◌≡◌, ◌≢◌, ◌⊎◌, inl, inr, ℕ, suc, ◌+◌, ◌*◌, ◌/◌, ◌%◌, ◌<◌, ◌≤◌, List, length, map, replicate, slice_index_or, slice_set, Option, Some, None, refl, sym, ap, ◌∙◌, subst, arith, mod-lt, mul-suc, mul-le-mul_left}
+use Rattle.std.proofs.Common.{◌≡◌, ◌≢◌, ◌⊎◌, inl, inr, ℕ, zero, suc, ◌+◌, ◌*◌, ◌/◌, ◌%◌, ◌<◌, ◌≤◌, List, length, map, replicate, slice_index_or, slice_set, Option, Some, None, IsSome, refl, sym, ap, ◌∙◌, subst, arith, mod-lt, mul-suc, mul-le-mul_left}
 use Rattle.std.proofs.Math.Nat.{mod-add-div}
-use Rattle.std.proofs.lemmas.Bool.{cases_lt, cases_order}
+use Rattle.std.proofs.lemmas.Bool.{cases_lt, cases_order, false≢true}
 use Rattle.std.specs.Option.{option_map}
 use Rattle.std.proofs.Math.ListN.{get_or-map}
-use Rattle.std.proofs.lemmas.List.{map-set, length-map, get_or-set_same, get_or-set_other, get_or-replicate, get_or_past, length-set, length-replicate}
+use Rattle.std.proofs.lemmas.List.{map-set, length-map, get_or-set_same, get_or-set_other, get_or-replicate, get_or_past, get_or_read, length-set, length-replicate}
 use Rattle.std.proofs.lemmas.Option.{none-some}
-use Rattle.scan_workers.specs.Held.{HeldAt, IsHeld, Lies, IsInHand, MayBegin, in_slot, at_first, asked, begun_one, laid, taken, given_next}
+use Rattle.scan_workers.specs.Held.{HeldAt, IsHeld, Lies, IsInHand, MayBegin, held_at, in_slot, at_first, asked, begun_one, laid, taken, given_next}
 
 -- the number, or 0 of none
 abbrev or_zero : Option ℕ → ℕ
@@ -72,11 +72,11 @@ pub at_first_held : (count room : ℕ) → IsHeld (at_first count room)
 at_first_held count room =
     kept (at_first count room) (λ place number e. absurd (none-some number (sym (nothing place) ∙ e))) (omega arith) (omega arith, omega arith, omega arith)
   where
-    nothing : (place : ℕ) → slice_index_or (replicate room None) place None ≡ None
+    nothing : (place : ℕ) → slice_index_or (at_first count room).slots place None ≡ None
     nothing place =
         elim (cases_lt place room) [
           | inl less ↦ get_or-replicate room place None None less
-          | inr past ↦ get_or_past (replicate room None) place None (omega (arith, past, length-replicate {A = Option ℕ} room None))
+          | inr past ↦ get_or_past (at_first count room).slots place None (omega (arith, past, length-replicate {A = Option ℕ} room None))
         ]
 
 pub asked_held : (h : HeldAt) → IsHeld h → IsHeld (asked h)
@@ -176,3 +176,99 @@ read_slot number slots place = get_or-map (option_map number) slots place None
 -- the numbers after a change of one slot
 pub changed_slot : {T : Type 0} (number : T → ℕ) (slots : List (Option T)) (place : ℕ) (what : Option T) → map (option_map number) (slice_set slots place what) ≡ slice_set (map (option_map number) slots) place (option_map number what)
 changed_slot number slots place what = map-set (option_map number) slots place what
+
+-- so much is begun and given, and this lies in the slots
+abbrev at_slots : ℕ → ℕ → ℕ → ℕ → List (Option ℕ) → HeldAt
+at_slots count read given begun slots = record { count = count; read = read; given = given; begun = begun; slots = slots }
+
+-- empty slots have no numbers
+no_numbers : {T : Type 0} (number : T → ℕ) (room : ℕ) → map (option_map number) (replicate room None) ≡ replicate room None
+no_numbers number zero = refl
+no_numbers number (suc room) = ap (λ (rest : List (Option ℕ)). None ∷ rest) (no_numbers number room)
+
+-- what is held at first
+pub first_is : {T : Type 0} (number : T → ℕ) (count room : ℕ) (slots : List (Option T)) → slots ≡ replicate room None → held_at number count 0 0 0 slots ≡ at_first count room
+first_is number count room slots e =
+    ap (held_at number count 0 0 0) e ∙ ap (at_slots count 0 0 0) (no_numbers number room)
+
+pub first_held : {T : Type 0} (number : T → ℕ) (count room : ℕ) (slots : List (Option T)) → slots ≡ replicate room None → IsHeld (held_at number count 0 0 0 slots)
+first_held number count room slots e = subst IsHeld (sym (first_is number count room slots e)) (at_first_held count room)
+
+-- one more is begun
+pub begin_held : {T : Type 0} (number : T → ℕ) (count read given begun : ℕ) (slots : List (Option T)) (old : HeldAt) → held_at number count read given begun slots ≡ old → IsHeld (held_at number count read given begun slots) → MayBegin old → IsHeld (held_at number count read given (begun + 1) slots)
+begin_held number count read given begun slots old is k may =
+    begun_one_held (held_at number count read given begun slots) k (subst MayBegin (sym is) may)
+
+-- the slot of a number
+own_slot : {T : Type 0} (number : T → ℕ) (n place : ℕ) (slots : List (Option T)) → place ≡ n % length slots → place ≡ n % length (map (option_map number) slots)
+own_slot number n place slots p = p ∙ ap (λ (size : ℕ). n % size) (sym (length-map slots (option_map number)))
+
+-- what is laid into the slot of its number
+laid_in : {T : Type 0} (number : T → ℕ) (count read given begun : ℕ) (slots : List (Option T)) (place : ℕ) (after : Option T) (what : T) → place ≡ number what % length slots → after ≡ Some what → held_at number count read given begun (slice_set slots place after) ≡ laid (held_at number count read given begun slots) (number what)
+laid_in {T} number count read given begun slots place after what p e =
+    let numbers : List (Option ℕ) = map (option_map number) slots in
+    ap (λ (lying : Option T). held_at number count read given begun (slice_set slots place lying)) e
+    ∙ ap (at_slots count read given begun) (changed_slot number slots place (Some what) ∙ ap (λ (at : ℕ). slice_set numbers at (Some (number what))) (own_slot number (number what) place slots p))
+
+pub lay_is : {T : Type 0} (number : T → ℕ) (count read given begun : ℕ) (slots : List (Option T)) (place : ℕ) (after : Option T) (what : T) (old : HeldAt) → held_at number count read given begun slots ≡ old → place ≡ number what % length slots → after ≡ Some what → held_at number count read given begun (slice_set slots place after) ≡ laid old (number what)
+lay_is number count read given begun slots place after what old is p e =
+    laid_in number count read given begun slots place after what p e ∙ ap (λ (h : HeldAt). laid h (number what)) is
+
+pub lay_held : {T : Type 0} (number : T → ℕ) (count read given begun : ℕ) (slots : List (Option T)) (place : ℕ) (after : Option T) (what : T) (old : HeldAt) → held_at number count read given begun slots ≡ old → IsHeld (held_at number count read given begun slots) → IsInHand old (number what) → place ≡ number what % length slots → after ≡ Some what → IsHeld (held_at number count read given begun (slice_set slots place after))
+lay_held number count read given begun slots place after what old is k hand p e =
+    let h : HeldAt = held_at number count read given begun slots in
+    subst IsHeld (sym (laid_in number count read given begun slots place after what p e)) (laid_held h (number what) k (subst (λ (at : HeldAt). IsInHand at (number what)) (sym is) hand))
+
+-- what lies in a slot, by what was read there
+lies_there : {T : Type 0} (number : T → ℕ) (slots : List (Option T)) (place : ℕ) (slot : Option T) (what : T) → place < length slots → slot ≡ slice_index_or slots place slot → slot ≡ Some what → slice_index_or (map (option_map number) slots) place None ≡ Some (number what)
+lies_there number slots place slot what there is e =
+    read_slot number slots place ∙ ap (option_map number) (sym (get_or_read slots place slot there is None) ∙ e)
+
+-- what a slot had is taken out of it
+taken_out : {T : Type 0} (number : T → ℕ) (count read given begun : ℕ) (slots : List (Option T)) (place : ℕ) (slot after : Option T) (what : T) → IsHeld (held_at number count read given begun slots) → place < length slots → slot ≡ slice_index_or slots place slot → slot ≡ Some what → after ≡ None → Lies (held_at number count read given begun slots) (number what) × (held_at number count read given begun (slice_set slots place after) ≡ taken (held_at number count read given begun slots) (number what))
+taken_out {T} number count read given begun slots place slot after what k there is e f =
+    let numbers : List (Option ℕ) = map (option_map number) slots in
+    let lies : slice_index_or numbers place None ≡ Some (number what) = lies_there number slots place slot what there is e in
+    let own : place ≡ number what % length numbers = (k.alone place (number what) lies).0 in
+    (subst (λ (at : ℕ). slice_index_or numbers at None ≡ Some (number what)) own lies,
+    ap (λ (lying : Option T). held_at number count read given begun (slice_set slots place lying)) f
+    ∙ ap (at_slots count read given begun) (changed_slot number slots place None ∙ ap (λ (at : ℕ). slice_set numbers at None) own))
+
+pub take_is : {T : Type 0} (number : T → ℕ) (count read given begun : ℕ) (slots : List (Option T)) (place : ℕ) (slot after : Option T) (what : T) (old : HeldAt) → held_at number count read given begun slots ≡ old → IsHeld (held_at number count read given begun slots) → place < length slots → slot ≡ slice_index_or slots place slot → slot ≡ Some what → after ≡ None → Lies old (number what) × (held_at number count read given begun (slice_set slots place after) ≡ taken old (number what))
+take_is number count read given begun slots place slot after what old is k there read_is e f =
+    subst (λ (h : HeldAt). Lies h (number what) × (held_at number count read given begun (slice_set slots place after) ≡ taken h (number what))) is
+    (taken_out number count read given begun slots place slot after what k there read_is e f)
+
+pub take_held : {T : Type 0} (number : T → ℕ) (count read given begun : ℕ) (slots : List (Option T)) (place : ℕ) (slot after : Option T) (what : T) → IsHeld (held_at number count read given begun slots) → place < length slots → slot ≡ slice_index_or slots place slot → slot ≡ Some what → after ≡ None → IsHeld (held_at number count read given begun (slice_set slots place after))
+take_held number count read given begun slots place slot after what k there read_is e f =
+    let t = taken_out number count read given begun slots place slot after what k there read_is e f in
+    subst IsHeld (sym t.1) (taken_held (held_at number count read given begun slots) (number what) k t.0)
+
+-- what the slot had for which the reader asks is given to it
+given_out : {T : Type 0} (number : T → ℕ) (count read given begun : ℕ) (slots : List (Option T)) (place : ℕ) (slot after : Option T) (what : T) → IsHeld (held_at number count read given begun slots) → place < length slots → slot ≡ slice_index_or slots place slot → slot ≡ Some what → after ≡ None → place ≡ read % length slots → (number what ≡ read) × Lies (held_at number count read given begun slots) read × (held_at number count read (read + 1) begun (slice_set slots place after) ≡ given_next (held_at number count read given begun slots))
+given_out {T} number count read given begun slots place slot after what k there is e f p =
+    let numbers : List (Option ℕ) = map (option_map number) slots in
+    let own : place ≡ read % length numbers = own_slot number read place slots p in
+    let lies : slice_index_or numbers (read % length numbers) None ≡ Some (number what) =
+    subst (λ (at : ℕ). slice_index_or numbers at None ≡ Some (number what)) own (lies_there number slots place slot what there is e) in
+    let same : number what ≡ read = lies_next (held_at number count read given begun slots) (number what) k lies in
+    (same, lies ∙ ap (λ (n : ℕ). Some n) same,
+    ap (λ (lying : Option T). held_at number count read (read + 1) begun (slice_set slots place lying)) f
+    ∙ ap (at_slots count read (read + 1) begun) (changed_slot number slots place None ∙ ap (λ (at : ℕ). slice_set numbers at None) own))
+
+pub give_is : {T : Type 0} (number : T → ℕ) (count read given begun : ℕ) (slots : List (Option T)) (place : ℕ) (slot after : Option T) (what : T) (old : HeldAt) → held_at number count read given begun slots ≡ old → IsHeld (held_at number count read given begun slots) → place < length slots → slot ≡ slice_index_or slots place slot → slot ≡ Some what → after ≡ None → place ≡ read % length slots → (number what ≡ old.read) × Lies old old.read × (held_at number count read (read + 1) begun (slice_set slots place after) ≡ given_next old)
+give_is number count read given begun slots place slot after what old is k there read_is e f p =
+    subst (λ (h : HeldAt). (number what ≡ h.read) × Lies h h.read × (held_at number count read (read + 1) begun (slice_set slots place after) ≡ given_next h)) is
+    (given_out number count read given begun slots place slot after what k there read_is e f p)
+
+pub give_held : {T : Type 0} (number : T → ℕ) (count read given begun : ℕ) (slots : List (Option T)) (place : ℕ) (slot after : Option T) (what : T) → IsHeld (held_at number count read given begun slots) → place < length slots → slot ≡ slice_index_or slots place slot → slot ≡ Some what → after ≡ None → place ≡ read % length slots → IsHeld (held_at number count read (read + 1) begun (slice_set slots place after))
+give_held number count read given begun slots place slot after what k there read_is e f p =
+    let t = given_out number count read given begun slots place slot after what k there read_is e f p in
+    subst IsHeld (sym t.2) (given_next_held (held_at number count read given begun slots) k t.1)
+
+-- what the reader is given was begun
+pub was_begun : {T : Type 0} (number : T → ℕ) (count read given begun : ℕ) (slots : List (Option T)) (place : ℕ) (slot : Option T) → IsHeld (held_at number count read given begun slots) → place < length slots → slot ≡ slice_index_or slots place slot → IsSome slot → place ≡ read % length slots → read < begun
+was_begun number count read given begun slots place None k there is some p = absurd (false≢true some)
+was_begun number count read given begun slots place (Some what) k there is some p =
+    let t = given_out number count read given begun slots place (Some what) None what k there is refl refl p in
+    (k.alone (read % length (map (option_map number) slots)) read t.1).2
