@@ -5,7 +5,7 @@
 
 It needs the proved program (`rt run` or the gate leaves it in crates/flightscan/out), a C compiler and `sqlite3`. Some
 vectors are made by flatc and protoc, and the gateway's test needs protoc and a Python that has gRPC; where these are absent,
-that is passed over, and the step says so. All steps take about eight minutes. With names, the steps whose names begin so are
+that is passed over, and the step says so. All steps take about ten minutes. With names, the steps whose names begin so are
 run. The last line counts the steps that passed, and it ends with 1 where one did not.
 """
 
