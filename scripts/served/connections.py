@@ -539,7 +539,7 @@ def gone_while_comparing(run: Run) -> str:
     return f"at most {max(taken):.2f} s of work, where batches are judged in {once:.2f}"
 
 
-def work_until_free(server: Server, records: bytes, leave: Callable[[Connection], None] = Connection.close) -> tuple[float, float]:
+def work_until_free(server: Server, records: bytes, leave: Callable[[Connection], None] = Connection.break_off) -> tuple[float, float]:
     """The work of a server up to the schema, and behind that until the only seat of its client, which goes away, is free."""
     connection, began = Connection(server.port), server.seconds_worked()
     connection.send(records)
