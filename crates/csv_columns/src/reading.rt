@@ -1,53 +1,40 @@
 //! Reading spelled columns.
 
-ghost use Rattle.std.specs.Prelude.{◌≡◌, ◌<◌, ℕ, None, All, IfOk, IfSome, ◌++◌, ◌∷◌, [], drop, length, take, slice_index};
+ghost use Rattle.std.specs.Prelude.{◌≡◌, ◌≢◌, ◌<◌, ℕ, None, All, IfErr, IfOk, MatchOption, ◌++◌, ◌∷◌, [], drop, length, take, slice_index};
 ghost use Rattle.csv.specs.Records.{fields_of, trimmed};
 ghost use Rattle.arrow_schema.specs.Schema.{IsField, IsSchema};
 ghost use Rattle.arrow_schema.specs.Written.{encoding_of};
 ghost use Rattle.csv_records.specs.Left.{records_in};
+ghost use Rattle.csv_columns.specs.Refused.{WhyNoColumn, WhyNoColumns, WhyNoFields};
 ghost use Rattle.csv_columns.specs.Spelled.{AreSpelledAs, Spells, mark_of, spelled};
+ghost use Rattle.csv_columns.specs.inside.Marks.{IsUnmarked};
 
+use crate::name::name_of;
 use crate::word::type_named;
-use arrow_schema::{Field, MAX_COLUMNS, MAX_NAME_BYTES, Schema};
+use arrow_schema::{Field, MAX_COLUMNS, Schema};
 use csv::ByteRecord;
 use csv_records::{Records, field_in};
-use scan_base::{Fault, Items, Text, read_text};
+use scan_base::{Fault, Items};
 use std::alloc::Global;
 
 // The place of the last colon.
 fn last_colon(text: &[u8]) -> Option<usize>
-    ensures { IfSome result (λ at. (at < length text.now) × (slice_index text.now at ≡ 58)) }
+    ensures { MatchOption result
+        ((k : ℕ) → k < length text.now → slice_index text.now k ≢ 58)
+        (λ at. (at < length text.now) × (slice_index text.now at ≡ 58)
+        × ((k : ℕ) → at < k → k < length text.now → slice_index text.now k ≢ 58)) }
 {
     text.iter().rposition(|byte| *byte == b':')
 }
 
-// The column of a name and a word.
-fn named(alloc: Global, name: &[u8], word: &[u8], nullable: bool) -> Result<Field, Fault>
-    ensures spelled { IfOk result (λ column. spelled column ≡ name.now ++ 58 ∷ (word.now ++ mark_of nullable)) }
-    ensures named { IfOk result IsField }
-    ensures plain { IfOk result (λ column. encoding_of column.data_type ≡ None) }
-{
-    let Some(data_type) = type_named(read_text(word, Fault::BadBatch)?) else {
-        return Err(Fault::BadBatch);
-    };
-    if name.is_empty() || name.len() > MAX_NAME_BYTES {
-        return Err(Fault::BadBatch);
-    }
-    let name = Text::new(alloc, read_text(name, Fault::BadBatch)?)?;
-    Ok(Field {
-        name,
-        nullable,
-        data_type,
-    })
-}
-
 // A text without its mark, and whether it had one.
 fn unmarked(text: &[u8]) -> (&[u8], bool)
-    ensures { text.now ≡ result.0.now ++ mark_of result.1 }
+    ensures text { text.now ≡ result.0.now ++ mark_of result.1 }
+    ensures marked { IsUnmarked result.1 text.now }
 {
-    match text {
-        [front @ .., b'?'] => (front, true),
-        _ => (text, false),
+    match text.strip_suffix(b"?") {
+        Some(front) => (front, true),
+        None => (text, false),
     }
 }
 
@@ -56,12 +43,21 @@ fn column_in(alloc: Global, text: &[u8]) -> Result<Field, Fault>
     ensures spelled { IfOk result (λ column. spelled column ≡ text.now) }
     ensures named { IfOk result IsField }
     ensures plain { IfOk result (λ column. encoding_of column.data_type ≡ None) }
+    ensures refused { IfErr result (WhyNoColumn text.now) }
 {
     let (front, nullable) = unmarked(text);
     let Some(at) = last_colon(front) else {
         return Err(Fault::BadBatch);
     };
-    named(alloc, &front[..at], &front[at + 1..], nullable)
+    let Some(data_type) = type_named(&front[at + 1..]) else {
+        return Err(Fault::BadBatch);
+    };
+    let name = name_of(alloc, &front[..at])?;
+    Ok(Field {
+        name,
+        nullable,
+        data_type,
+    })
 }
 
 // The columns that the fields of a record spell.
@@ -69,10 +65,12 @@ fn fields_in(alloc: Global, spellings: &ByteRecord) -> Result<Items<Field>, Faul
     ensures spelled { IfOk result (λ columns. AreSpelledAs (fields_of spellings.now) columns) }
     ensures named { IfOk result (λ columns. All IsField columns) }
     ensures plain { IfOk result (λ columns. All (λ column. encoding_of column.data_type ≡ None) columns) }
+    ensures refused { IfErr result (WhyNoFields (fields_of spellings.now)) }
 {
     let mut columns = Items::new(alloc);
     for place in 0..spellings.len() {
-        columns.push(column_in(alloc, field_in(spellings, place))?)?;
+        let column = column_in(alloc, field_in(spellings, place))?;
+        columns.push(column)?;
     }
     Ok(columns)
 }
@@ -81,13 +79,14 @@ fn fields_in(alloc: Global, spellings: &ByteRecord) -> Result<Items<Field>, Faul
 ///
 /// # Errors
 ///
-/// - `Fault::BadBatch` (F8) where it spells none.
-/// - `Fault::LimitReached` (F12) where there are more than 64 columns.
+/// - `Fault::LimitReached` (F12) where its first record has more than 64 fields, or a name has more than 64 bytes.
+/// - `Fault::BadBatch` (F8) where it spells no columns.
 /// - `Fault::OutOfMemory` (F21) where memory is refused.
 pub fn columns_in(alloc: Global, text: &[u8]) -> Result<Schema, Fault>
     ensures spelled { IfOk result (Spells (records_in text.now)) }
     ensures schema { IfOk result IsSchema }
     ensures plain { IfOk result (λ schema. All (λ column. encoding_of column.data_type ≡ None) schema.fields) }
+    ensures refused { IfErr result (WhyNoColumns (records_in text.now)) }
 {
     let mut records = Records::new(alloc, text);
     let mut spellings = ByteRecord::new(alloc);

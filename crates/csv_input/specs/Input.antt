@@ -1,9 +1,7 @@
 -- An input as CSV: its columns, its rows, and what is printed of them and of a record that is wrong.
-use Rattle.std.specs.Prelude.{◌≡◌, ◌⊎◌, ◌<◌, ◌^◌, ℕ, ◌+◌, Bool, true, false, List, [], ◌++◌, length, map, Option, Some, None, Result, Ok, Err, codes, option_map, slice_get, unwrap_or}
+use Rattle.std.specs.Prelude.{◌≡◌, ◌⊎◌, ◌<◌, ◌^◌, ℕ, ◌+◌, Bool, List, Option, Some, None, Result, Ok, Err, codes, option_map}
 use Rattle.std.specs.Borrow.{Bor}
-use Rattle.std.specs.Fmt.{decimal}
 use Rattle.std.specs.Io.KnownBytes.{Appends}
-use Rattle.csv.specs.Writing.{default_writer, row_text}
 use Rattle.scan_base.specs.declared.fault.Fault.{Fault}
 use Rattle.scan_base.specs.declared.fault.Fault.TheVariants.{OutOfMemory, Transport}
 use Rattle.arrow_schema.specs.declared.schema.Field.{Field}
@@ -15,11 +13,12 @@ use Rattle.command_ends.specs.Whole.{Source, Gives, Stops}
 use Rattle.command_ends.specs.declared.exit_status.ExitStatus.{ExitStatus}
 use Rattle.command_ends.specs.declared.exit_status.ExitStatus.TheVariants.{FaultAtThisEnd}
 use Rattle.csv_records.specs.Left.{records_in}
-use Rattle.csv_columns.specs.Spelled.{Spells, spelled}
-use Rattle.csv_types.specs.Found.{AreFound, rows_behind}
+use Rattle.csv_columns.specs.Refused.{WhyNoColumns}
+use Rattle.csv_columns.specs.Spelled.{Spells}
+use Rattle.csv_input.specs.Lines.{columns_line, wrong_line}
+use Rattle.csv_types.specs.Found.{AreFound, WhyNoneFound, rows_behind}
+use Rattle.csv_table.specs.Long.{WhyNoneTold}
 use Rattle.csv_table.specs.Rows.{AreRight, IsFirstWrong}
-use Rattle.csv_table.specs.declared.outcome.Wrong.{Wrong}
-use Rattle.csv_table.specs.declared.outcome.Wrong.TheVariants.{Fields, Cell}
 use Rattle.csv_table.specs.declared.outcome.WrongRecord.{WrongRecord}
 
 -- how CSV is read: the text that spells its columns, if there is one, and whether its first record has their names
@@ -38,38 +37,15 @@ AreColumns None header records schema = AreFound header records schema
 abbrev pub AreColumnsOf : Form → List (List (List ℕ)) → Schema → Type 0
 AreColumnsOf form records schema = AreColumns form.columns form.header records schema
 
--- how many records stand before those that say rows
-abbrev pub head_rows : Bool → ℕ
-head_rows true = 1
-head_rows false = 0
+-- why there are no columns
+abbrev pub WhyNone : Option (List ℕ) → Bool → List (List (List ℕ)) → Fault → Type 0
+WhyNone (Some text) header records fault = WhyNoColumns (records_in text) fault
+WhyNone None header records fault = WhyNoneFound header records fault
 
--- a record has so many fields in place of so many columns
-abbrev pub length_words : ℕ → ℕ → ℕ → List ℕ
-length_words number count columns =
-    codes "fault: record " ++ (decimal number ++ (codes " has " ++ (decimal count ++ (codes " fields in place of " ++ (decimal columns ++ codes "\n")))))
-
--- a field says no value of the column of this name
-abbrev pub cell_words : ℕ → List ℕ → List ℕ
-cell_words number name = codes "fault: record " ++ (decimal number ++ (codes ": no value of column " ++ (name ++ codes "\n")))
-
--- the name of the column at a place
-abbrev pub name_at : List Field → ℕ → List ℕ
-name_at columns place = unwrap_or (option_map (λ (column : Field). column.name) (slice_get columns place)) []
-
--- what is said of a record of this number
-abbrev pub line_for : List Field → ℕ → Wrong → List ℕ
-line_for columns number (Fields count) = length_words number count (length columns)
-line_for columns number (Cell place) = cell_words number (name_at columns place)
-
--- The line for a record that is wrong. Records are counted from 1, with the one of names.
-abbrev pub wrong_line : List Field → Bool → WrongRecord → List ℕ
-wrong_line columns header wrong = line_for columns (wrong.before + head_rows header + 1) wrong.wrong
+abbrev pub WhyNoneOf : Form → List (List (List ℕ)) → Fault → Type 0
+WhyNoneOf form records fault = WhyNone form.columns form.header records fault
 
 -- ---- what is printed
-
--- the text that spells the columns
-abbrev pub columns_line : List Field → List ℕ
-columns_line columns = row_text default_writer (map spelled columns)
 
 -- columns that are found are printed, and others are not
 abbrev pub Shows : Option (List ℕ) → List Field → Said → Said → Type 0
@@ -79,21 +55,25 @@ Shows None columns old new = Appends old.bytes new.bytes (columns_line columns) 
 abbrev pub IsTold : Form → List Field → Said → Said → Type 0
 IsTold form columns old new = Shows form.columns columns old new
 
--- they were not printed in whole: a write failed, or memory is refused for their text
-abbrev pub IsUntold : List Field → Said → Said → Type 0
-IsUntold columns old new =
+-- columns that are found were not printed in whole: a write failed, or memory is refused for their text
+abbrev pub Hides : Option (List ℕ) → List Field → Said → Said → Type 0
+Hides (Some text) columns old new = ⊥
+Hides None columns old new =
     (AppendsBeginning old.bytes new.bytes (columns_line columns) × (new.failures ≡ old.failures + 1)) ⊎ (new ≡ old)
+
+abbrev pub IsUntold : Form → List Field → Said → Said → Type 0
+IsUntold form columns old new = Hides form.columns columns old new
 
 -- the line for a wrong record is printed, or that of F21 where memory is refused for it
 abbrev pub TellsWrong : List Field → Bool → WrongRecord → Said → Said → Type 0
 TellsWrong columns header wrong old new =
     (wrong.before < 2 ^ 63 → Prints (wrong_line columns header wrong) old new) ⊎ Prints (fault_line OutOfMemory) old new
 
--- a record is the first that is wrong, which is told; or a fault is
+-- a record is the first that is wrong, which is told; or the fault is why none is told
 abbrev pub Refuses : Bool → Schema → List (List (List ℕ)) → Said → Said → Type 0
 Refuses header schema records old new =
     ((wrong : WrongRecord) × IsFirstWrong schema.fields (rows_behind header records) wrong × TellsWrong schema.fields header wrong old new)
-    ⊎ ((fault : Fault) × Prints (fault_line fault) old new)
+    ⊎ ((fault : Fault) × WhyNoneTold schema.fields (rows_behind header records) fault × Prints (fault_line fault) old new)
 
 -- each record says a row, and nothing is printed; or which is the first that is wrong
 abbrev pub ChecksRows : {A : Type 0} → Bool → Schema → List (List (List ℕ)) → Result A ExitStatus → Said → Said → Type 0
@@ -103,8 +83,8 @@ ChecksRows header schema records (Err status) old new = (status ≡ FaultAtThisE
 -- No columns: why is printed. Or they were not printed; or they were, as far as they are found, and then which record is wrong.
 abbrev pub RefusesText : Form → List (List (List ℕ)) → Said → Said → Type 0
 RefusesText form records old new =
-    ((fault : Fault) × Prints (fault_line fault) old new)
-    ⊎ ((schema : Schema) × AreColumnsOf form records schema × IsUntold schema.fields old new)
+    ((fault : Fault) × WhyNoneOf form records fault × Prints (fault_line fault) old new)
+    ⊎ ((schema : Schema) × AreColumnsOf form records schema × IsUntold form schema.fields old new)
     ⊎ ((schema : Schema) × AreColumnsOf form records schema × ((middle : Said) × IsTold form schema.fields old middle × Refuses form.header schema records middle new))
 
 -- a text that was read: its columns, and the records that say rows

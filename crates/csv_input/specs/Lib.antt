@@ -1,1 +1,2 @@
 pub mod Input
+pub mod Lines

@@ -66,7 +66,7 @@ fn tell_columns<E: Output>(
     requires { CanFail (E.failures faults.old) }
     ensures told { MatchResult result
         (λ _. IsTold (form_of form.entry) columns.now (said_of E.Output faults.old) (said_of E.Output faults.new))
-        (λ _. IsUntold columns.now (said_of E.Output faults.old) (said_of E.Output faults.new)) }
+        (λ _. IsUntold (form_of form.entry) columns.now (said_of E.Output faults.old) (said_of E.Output faults.new)) }
     ensures quiet { OnOk result (E.failures faults.new ≡ E.failures faults.old) }
 {
     if form.columns.is_some() {

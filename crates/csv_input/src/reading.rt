@@ -1,12 +1,13 @@
 //! Reading a whole text.
 
-ghost use Rattle.std.specs.Prelude.{◌≡◌, None, All, IfOk};
+ghost use Rattle.std.specs.Prelude.{◌≡◌, None, All, IfErr, IfOk};
 ghost use Rattle.arrow_schema.specs.Schema.{IsSchema};
 ghost use Rattle.arrow_schema.specs.Written.{encoding_of};
 ghost use Rattle.csv_records.specs.Left.{records_in};
 ghost use Rattle.csv_types.specs.Found.{rows_behind};
+ghost use Rattle.csv_table.specs.Long.{WhyNoneTold};
 ghost use Rattle.csv_table.specs.Rows.{FindsWrong};
-ghost use Rattle.csv_input.specs.Input.{AreColumnsOf, form_of};
+ghost use Rattle.csv_input.specs.Input.{AreColumnsOf, WhyNoneOf, form_of};
 
 use arrow_schema::Schema;
 use command_line::CsvForm;
@@ -22,13 +23,14 @@ use std::alloc::{AllocError, Global};
 ///
 /// # Errors
 ///
-/// - `Fault::BadBatch` (F8) where its text spells none, the text has no record, or a name is empty or no text.
+/// - `Fault::BadBatch` (F8) where its text spells none, the text has no record, or a name is no text of a byte or more.
 /// - `Fault::LimitReached` (F12) where there are more than 64 columns, or a name has more than 64 bytes.
 /// - `Fault::OutOfMemory` (F21) where memory is refused.
 pub(crate) fn columns_of(alloc: Global, text: &[u8], form: CsvForm<'_>) -> Result<Schema, Fault>
     ensures columns { IfOk result (AreColumnsOf (form_of form.entry) (records_in text.now)) }
     ensures schema { IfOk result IsSchema }
     ensures plain { IfOk result (λ schema. All (λ column. encoding_of column.data_type ≡ None) schema.fields) }
+    ensures refused { IfErr result (WhyNoneOf (form_of form.entry) (records_in text.now)) }
 {
     match form.columns {
         Some(spelled) => columns_in(alloc, spelled.as_bytes()),
@@ -66,7 +68,8 @@ pub(crate) fn wrong_record(
     schema: &Schema,
     header: bool,
 ) -> Result<Option<WrongRecord>, Fault>
-    ensures { IfOk result (FindsWrong (schema.now).fields (rows_behind header (records_in text.now))) }
+    ensures finds { IfOk result (FindsWrong (schema.now).fields (rows_behind header (records_in text.now))) }
+    ensures refused { IfErr result (WhyNoneTold (schema.now).fields (rows_behind header (records_in text.now))) }
 {
     let mut records = records_behind(alloc, text, header)?;
     first_wrong(alloc, schema.fields.as_slice(), &mut records)

@@ -2,7 +2,7 @@
 
 ghost use Rattle.std.specs.Prelude.{◌≡◌, ◌<◌, ◌+◌, ◌++◌, ◌^◌, codes, IfOk, string_bytes};
 ghost use Rattle.std.specs.Fmt.{decimal};
-ghost use Rattle.csv_input.specs.Input.{cell_words, head_rows, length_words, wrong_line};
+ghost use Rattle.csv_input.specs.Lines.{cell_words, head_rows, length_words, wrong_line};
 
 use arrow_schema::Field;
 use csv_table::{Wrong, WrongRecord};

@@ -1,6 +1,7 @@
 //! A text that was read, and its rows.
 
-ghost use Rattle.std.specs.Prelude.{◌≡◌, ◌<◌, ◌∷◌, [], IfOk, IfSome, length};
+ghost use Rattle.std.specs.Prelude.{◌≡◌, ◌<◌, ◌∷◌, [], IfErr, IfOk, IfSome, length};
+ghost use Rattle.csv_table.specs.Long.{WhyNoMessage};
 ghost use Rattle.csv_table.specs.Rows.{SaysRecords, TakesMessage};
 
 use crate::reading::records_behind;
@@ -94,9 +95,10 @@ impl<'a> CsvRows<'a> {
     /// # Errors
     ///
     /// - `Fault::OutOfMemory` (F21) where memory is refused.
-    /// - `Fault::LimitReached` (F12) where one record is too long for a message.
+    /// - `Fault::LimitReached` (F12) where they are too long for a message.
     pub fn next(&mut self, alloc: Global) -> Result<Option<IpcMessage>, Fault>
         ensures taken { IfOk result (λ found. TakesMessage self.old.schema found self.old.records self.new.records) }
+        ensures refused { IfErr result (WhyNoMessage (self.old.schema).fields self.old.records self.new.records) }
         ensures same { self.new.schema ≡ self.old.schema }
         ensures fewer { IfOk result (λ found. IfSome found (λ _. length self.new.records < length self.old.records)) }
     {

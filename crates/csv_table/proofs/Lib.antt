@@ -4,4 +4,5 @@ mod Transposed
 mod Joined
 mod Faulty
 mod Columnar
+mod Lengthy
 pub mod Taken

@@ -1,9 +1,9 @@
 //! A batch of records.
 
-ghost use Rattle.std.specs.Prelude.{◌≡◌, ◌<◌, None, All, IfOk, MatchOption, length};
+ghost use Rattle.std.specs.Prelude.{◌≡◌, ◌<◌, None, All, IfErr, IfOk, MatchOption, length};
 ghost use Rattle.arrow_schema.specs.Written.{encoding_of};
 ghost use Rattle.arrays.specs.Typed.{AreOfTypes};
-ghost use Rattle.csv_table.specs.inside.Cells.{AreColumnsIn, HasWrongColumn};
+ghost use Rattle.csv_table.specs.inside.Cells.{AreColumnsIn, HasWrongColumn, WhyNoColumns};
 ghost use Rattle.csv_table.specs.inside.Batches.{IsBatchOf};
 
 use crate::cells::column_in;
@@ -17,8 +17,9 @@ use std::alloc::Global;
 fn columns_in(alloc: Global, chunk: &Chunk, columns: &[Field]) -> Result<Option<Vec<Column>>, Fault>
     requires wide { chunk.now.width ≡ length columns.now }
     requires plain { All (λ column. encoding_of column.data_type ≡ None) columns.now }
-    ensures { IfOk result (λ found. MatchOption found (HasWrongColumn chunk.now columns.now)
+    ensures found { IfOk result (λ found. MatchOption found (HasWrongColumn chunk.now columns.now)
         (λ made. AreColumnsIn chunk.now columns.now made.items (length columns.now))) }
+    ensures refused { IfErr result (WhyNoColumns chunk.now columns.now) }
 {
     let mut made = Vec::with_capacity(alloc, columns.len())?;
     for (number, column) in columns.iter().enumerate() {
@@ -43,8 +44,9 @@ pub(crate) fn batch_in(
 ) -> Result<Option<Batch>, Fault>
     requires wide { chunk.now.width ≡ length columns.now }
     requires plain { All (λ column. encoding_of column.data_type ≡ None) columns.now }
-    ensures { IfOk result (λ found. MatchOption found (HasWrongColumn chunk.now columns.now)
+    ensures found { IfOk result (λ found. MatchOption found (HasWrongColumn chunk.now columns.now)
         (λ batch. IsBatchOf chunk.now columns.now batch)) }
+    ensures refused { IfErr result (WhyNoColumns chunk.now columns.now) }
 {
     match columns_in(alloc, chunk, columns)? {
         Some(made) => Ok(Some(Batch::new(made, chunk.rows()))),

@@ -1,10 +1,10 @@
 //! A column of the fields at one place of records.
 
-ghost use Rattle.std.specs.Prelude.{◌≡◌, ◌<◌, ◌^◌, None, true, IfOk, MatchOption, length, map};
+ghost use Rattle.std.specs.Prelude.{◌≡◌, ◌≤◌, ◌<◌, ◌^◌, None, false, true, IfErr, IfOk, MatchOption, length, map};
 ghost use Rattle.scan_base.specs.Value.{value_of};
 ghost use Rattle.arrow_schema.specs.Written.{encoding_of};
 ghost use Rattle.arrays.specs.Written.{text_bytes, texts_joined};
-ghost use Rattle.csv_table.specs.inside.Cells.{AreCells, HasWrongCell, IsColumnIn};
+ghost use Rattle.csv_table.specs.inside.Cells.{AreCells, HasWrongCell, IsColumnIn, WhyNoColumn};
 
 use crate::chunk::Chunk;
 use arrays::Column;
@@ -30,8 +30,9 @@ pub(crate) fn column_in(
 ) -> Result<Option<Column>, Fault>
     requires there { number < chunk.now.width }
     requires plain { encoding_of (column.now).data_type ≡ None }
-    ensures { IfOk result (λ found. MatchOption found (HasWrongCell chunk.now column.now number)
+    ensures found { IfOk result (λ found. MatchOption found (HasWrongCell chunk.now column.now number)
         (IsColumnIn chunk.now column.now number)) }
+    ensures refused { IfErr result (WhyNoColumn chunk.now column.now number) }
 {
     match cells_in(alloc, chunk, column, number)? {
         Some(cells) => {
@@ -68,7 +69,8 @@ fn cells_in<'a>(
 
 // Whether offsets can name each byte of the texts.
 fn texts_fit(cells: &[ValueRef<'_>]) -> bool
-    ensures { result ≡ true → length (texts_joined (map value_of cells.now)) < 2 ^ 31 }
+    ensures fits { result ≡ true → length (texts_joined (map value_of cells.now)) < 2 ^ 31 }
+    ensures long { result ≡ false → 2 ^ 31 ≤ length (texts_joined (map value_of cells.now)) }
 {
     let mut left = MOST_TEXT_BYTES;
     for cell in cells {

@@ -1,7 +1,8 @@
 //! The first record that is wrong.
 
-ghost use Rattle.std.specs.Prelude.{◌<◌, ℕ, IfOk, MatchOption, length};
+ghost use Rattle.std.specs.Prelude.{◌<◌, ℕ, IfErr, IfOk, MatchOption, length};
 ghost use Rattle.csv.specs.Records.{fields_of};
+ghost use Rattle.csv_table.specs.Long.{WhyNoneTold};
 ghost use Rattle.csv_table.specs.Rows.{FindsWrong, IsRight, IsWrong, IsWrongCell, SaysCell};
 
 use crate::outcome::{Wrong, WrongRecord};
@@ -55,7 +56,8 @@ pub fn first_wrong(
     columns: &[Field],
     records: &mut Records<'_>,
 ) -> Result<Option<WrongRecord>, Fault>
-    ensures { IfOk result (FindsWrong columns.now records.old) }
+    ensures finds { IfOk result (FindsWrong columns.now records.old) }
+    ensures refused { IfErr result (WhyNoneTold columns.now records.old) }
 {
     let mut fields = ByteRecord::new(alloc);
     let mut before = 0;

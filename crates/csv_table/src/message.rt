@@ -1,9 +1,10 @@
 //! The messages of a schema and of a batch.
 
-ghost use Rattle.std.specs.Prelude.{◌≤◌, ◌∷◌, [], IfOk, length};
+ghost use Rattle.std.specs.Prelude.{◌≡◌, ◌⊎◌, ◌≤◌, ◌^◌, ◌∷◌, [], IfErr, IfOk, length};
 ghost use Rattle.scan_base.specs.Limits.{most_columns};
+ghost use Rattle.scan_base.specs.declared.fault.Fault.TheVariants.{LimitReached, OutOfMemory};
 ghost use Rattle.arrow_schema.specs.Schema.{IsSchema};
-ghost use Rattle.ipc_batch.specs.Written.{SaysBatch};
+ghost use Rattle.ipc_batch.specs.Written.{SaysBatch, body_length};
 ghost use Rattle.csv_table.specs.Rows.{SaysRecords, sent_in};
 
 use arrays::Batch;
@@ -31,7 +32,9 @@ pub fn schema_message(alloc: Global, schema: &Schema) -> Result<IpcMessage, Allo
 /// `Fault::OutOfMemory` where memory is refused, and `Fault::LimitReached` where the body would have 2 to the 31 bytes or more.
 pub(crate) fn batch_message(alloc: Global, batch: &Batch) -> Result<IpcMessage, Fault>
     requires { length batch.now.columns ≤ most_columns }
-    ensures { IfOk result (λ message. SaysBatch (sent_in message) batch.now) }
+    ensures says { IfOk result (λ message. SaysBatch (sent_in message) batch.now) }
+    ensures refused { IfErr result (λ fault. (fault ≡ OutOfMemory)
+        ⊎ ((fault ≡ LimitReached) × (2 ^ 31 ≤ body_length batch.now))) }
 {
     let Some(written) = write_batch(alloc, batch)? else {
         return Err(Fault::LimitReached);

@@ -1,8 +1,9 @@
 //! The rows of records that are right, message by message.
 
-ghost use Rattle.std.specs.Prelude.{◌≡◌, None, All, IfOk};
+ghost use Rattle.std.specs.Prelude.{◌≡◌, None, All, IfErr, IfOk};
 ghost use Rattle.arrow_schema.specs.Schema.{IsSchema};
 ghost use Rattle.arrow_schema.specs.Written.{encoding_of};
+ghost use Rattle.csv_table.specs.Long.{WhyNoMessage};
 ghost use Rattle.csv_table.specs.Rows.{AreRight, TakesMessage};
 ghost use Rattle.csv_table.specs.inside.Batches.{TakesBatch};
 
@@ -25,6 +26,7 @@ fn next_batch(
     requires plain { All (λ column. encoding_of column.data_type ≡ None) columns.now }
     requires right { AreRight columns.now records.old }
     ensures taken { IfOk result (λ found. TakesBatch columns.now found records.old records.new) }
+    ensures refused { IfErr result (WhyNoMessage columns.now records.old records.new) }
     ensures right { AreRight columns.now records.new }
 {
     let chunk = next_chunk(alloc, columns, records)?;
@@ -43,7 +45,7 @@ fn next_batch(
 /// # Errors
 ///
 /// - `Fault::OutOfMemory` (F21) where memory is refused.
-/// - `Fault::LimitReached` (F12) where one record is too long for a message.
+/// - `Fault::LimitReached` (F12) where they are too long: the texts of a column, or the body of the message.
 pub fn next_message(
     alloc: Global,
     schema: &Schema,
@@ -53,6 +55,7 @@ pub fn next_message(
     requires plain { All (λ column. encoding_of column.data_type ≡ None) schema.now.fields }
     requires right { AreRight schema.now.fields records.old }
     ensures taken { IfOk result (λ found. TakesMessage schema.now found records.old records.new) }
+    ensures refused { IfErr result (WhyNoMessage (schema.now).fields records.old records.new) }
     ensures right { AreRight schema.now.fields records.new }
 {
     match next_batch(alloc, schema.fields.as_slice(), records)? {

@@ -1,13 +1,17 @@
 -- The columns that a whole CSV text fits: their names, their types, and whether they may have nulls.
-use Rattle.std.specs.Prelude.{◌≡◌, ◌<◌, ℕ, ◌+◌, ◌==◌, ◌||◌, Bool as Truth, true, false, List, [], ◌∷◌, ◌++◌, length, map, drop, get_or, codes, if◌then◌else◌}
+use Rattle.std.specs.Prelude.{◌≡◌, ◌⊎◌, ◌<◌, ℕ, ◌+◌, ◌==◌, ◌||◌, Bool as Truth, true, false, List, [], ◌∷◌, ◌++◌, length, map, drop, get_or, codes, if◌then◌else◌}
 use Rattle.std.specs.Fmt.{decimal}
 use Rattle.std.specs.List.{list_all, list_any}
 use Rattle.std.specs.Option.{is_some}
+use Rattle.scan_base.specs.declared.fault.Fault.{Fault}
+use Rattle.scan_base.specs.declared.fault.Fault.TheVariants.{BadBatch, LimitReached, OutOfMemory}
 use Rattle.arrow_schema.specs.declared.data_type.IntegerType.TheVariants.{Int64}
 use Rattle.arrow_schema.specs.declared.data_type.DataType.{DataType}
 use Rattle.arrow_schema.specs.declared.data_type.DataType.TheVariants.{Integer, Utf8, Bool, Decimal128, Date}
 use Rattle.arrow_schema.specs.declared.schema.Field.{Field}
 use Rattle.arrow_schema.specs.declared.schema.Schema.{Schema}
+use Rattle.arrow_schema.specs.Schema.{IsName}
+use Rattle.csv_columns.specs.Refused.{FailsFirst, IsTooWide, WhyNoName}
 use Rattle.csv_values.specs.Said.{value_in}
 
 -- whether a field has no byte
@@ -58,3 +62,16 @@ AreFound header [] schema = ⊥
 AreFound header (first ∷ others) schema =
     (length schema.fields ≡ length first)
     × ((k : ℕ) (d : Field) → k < length first → get_or schema.fields k d ≡ column_seen header first (rows_behind header (first ∷ others)) k)
+
+-- the first name that is none, and why
+abbrev pub WhyNoNames : Truth → List (List ℕ) → Fault → Type 0
+WhyNoNames header first fault = FailsFirst (length first) (λ k. IsName (name_of header first k)) (λ k. WhyNoName (name_of header first k) fault)
+
+-- Why no columns are found. The first record has more fields than a schema may have columns, which is F12. Or no record has a
+-- field, which is F8. Or the first name that is none says why.
+abbrev pub WhyNoneFound : Truth → List (List (List ℕ)) → Fault → Type 0
+WhyNoneFound header records fault =
+    (fault ≡ OutOfMemory)
+    ⊎ ((fault ≡ LimitReached) × IsTooWide records)
+    ⊎ ((fault ≡ BadBatch) × (get_or records 0 [] ≡ []))
+    ⊎ (¬ IsTooWide records × WhyNoNames header (get_or records 0 []) fault)

@@ -1,11 +1,11 @@
 //! The columns that are found.
 
-ghost use Rattle.std.specs.Prelude.{◌≡◌, ◌<◌, ◌∷◌, [], ◌++◌, ℕ, List, None, All, IfOk, length, get_or};
+ghost use Rattle.std.specs.Prelude.{◌≡◌, ◌<◌, ◌∷◌, [], ◌++◌, ℕ, List, None, All, IfErr, IfOk, length, get_or};
 ghost use Rattle.csv.specs.Records.{fields_of};
 ghost use Rattle.arrow_schema.specs.Schema.{IsField, IsSchema};
 ghost use Rattle.arrow_schema.specs.Written.{encoding_of};
 ghost use Rattle.csv_records.specs.Left.{records_in};
-ghost use Rattle.csv_types.specs.Found.{AreFound, column_seen, rows_behind};
+ghost use Rattle.csv_types.specs.Found.{AreFound, WhyNoNames, WhyNoneFound, column_seen, rows_behind};
 ghost use Rattle.csv_types.specs.inside.Tests.{HaveSeen, PassesOne};
 
 use crate::naming::name_in;
@@ -64,6 +64,7 @@ fn fields_in(
         (k : ℕ) (d : Field) → k < length seen.now → get_or columns k d ≡ column_seen header (fields_of first.now) records k) }
     ensures named { IfOk result (λ columns. All IsField columns) }
     ensures plain { IfOk result (λ columns. All (λ column. encoding_of column.data_type ≡ None) columns) }
+    ensures refused { IfErr result (WhyNoNames header (fields_of first.now)) }
 {
     let mut columns = Items::new(alloc);
     for (place, one) in seen.iter().enumerate() {
@@ -106,13 +107,16 @@ fn rows_seen(
 ///
 /// # Errors
 ///
-/// - `Fault::BadBatch` (F8) where there is no record, or a name is empty or no text.
 /// - `Fault::LimitReached` (F12) where there are more than 64 columns, or a name has more than 64 bytes.
+/// - `Fault::BadBatch` (F8) where there is no record, or a name is no text of a byte or more.
 /// - `Fault::OutOfMemory` (F21) where memory is refused.
+///
+/// The number of columns is looked at before the names, and these in order.
 pub fn found_columns(alloc: Global, text: &[u8], header: bool) -> Result<Schema, Fault>
     ensures found { IfOk result (AreFound header (records_in text.now)) }
     ensures schema { IfOk result IsSchema }
     ensures plain { IfOk result (λ schema. All (λ column. encoding_of column.data_type ≡ None) schema.fields) }
+    ensures refused { IfErr result (WhyNoneFound header (records_in text.now)) }
 {
     let mut first = ByteRecord::new(alloc);
     if !Records::new(alloc, text).next(&mut first)? {

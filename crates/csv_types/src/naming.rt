@@ -1,31 +1,17 @@
 //! Names of columns.
 
-ghost use Rattle.std.specs.Prelude.{◌≡◌, ◌<◌, ◌++◌, IfOk, codes, length, string_bytes};
+ghost use Rattle.std.specs.Prelude.{◌≡◌, ◌<◌, ◌++◌, IfErr, IfOk, codes, length, string_bytes};
 ghost use Rattle.std.specs.Fmt.{decimal};
 ghost use Rattle.csv.specs.Records.{fields_of};
 ghost use Rattle.arrow_schema.specs.Schema.{IsName};
+ghost use Rattle.csv_columns.specs.Refused.{WhyNoName};
 ghost use Rattle.csv_types.specs.Found.{name_of};
 
-use arrow_schema::MAX_NAME_BYTES;
 use csv::ByteRecord;
+use csv_columns::name_of;
 use csv_records::field_in;
-use scan_base::{Fault, Text, read_text};
+use scan_base::{Fault, Text};
 use std::alloc::{AllocError, Global};
-
-// A text as a name, which has a byte or more, and at most 64.
-fn as_name(alloc: Global, text: &str) -> Result<Text, Fault>
-    ensures value { IfOk result (λ name. name ≡ text.now) }
-    ensures named { IfOk result IsName }
-{
-    let len = text.as_bytes().len();
-    if len == 0 {
-        return Err(Fault::BadBatch);
-    }
-    if len > MAX_NAME_BYTES {
-        return Err(Fault::LimitReached);
-    }
-    Ok(Text::new(alloc, text)?)
-}
 
 // `col` and a number.
 fn numbered(alloc: Global, number: usize) -> Result<String, AllocError>
@@ -38,7 +24,7 @@ fn numbered(alloc: Global, number: usize) -> Result<String, AllocError>
 ///
 /// # Errors
 ///
-/// `Fault::BadBatch` where it is empty or no text, `Fault::LimitReached` where it has more than 64 bytes, and
+/// `Fault::BadBatch` where it is no text of a byte or more, `Fault::LimitReached` where it has more than 64 bytes, and
 /// `Fault::OutOfMemory` where memory is refused.
 pub(crate) fn name_in(
     alloc: Global,
@@ -49,12 +35,12 @@ pub(crate) fn name_in(
     requires { place < length (fields_of first.now) }
     ensures value { IfOk result (λ name. name ≡ name_of header (fields_of first.now) place) }
     ensures named { IfOk result IsName }
+    ensures refused { IfErr result (WhyNoName (name_of header (fields_of first.now) place)) }
 {
     if header {
-        let field = field_in(first, place);
-        return as_name(alloc, read_text(field, Fault::BadBatch)?);
+        return name_of(alloc, field_in(first, place));
     }
     let _count = first.len();
     let name = numbered(alloc, place + 1)?;
-    as_name(alloc, name.as_str())
+    name_of(alloc, name.as_bytes())
 }

@@ -1,11 +1,14 @@
 -- Inside: the values of a column, and the columns of a batch.
-use Rattle.std.specs.Prelude.{◌≡◌, ◌<◌, ℕ, List, All, length, map, get_or, Some, None, IsSome}
+use Rattle.std.specs.Prelude.{◌≡◌, ◌⊎◌, ◌≤◌, ◌<◌, ◌^◌, ℕ, List, All, length, map, get_or, Some, None, IsSome}
 use Rattle.scan_base.specs.Value.{value_of}
+use Rattle.scan_base.specs.declared.fault.Fault.{Fault}
+use Rattle.scan_base.specs.declared.fault.Fault.TheVariants.{LimitReached, OutOfMemory}
 use Rattle.scan_base.specs.declared.value.Value.TheVariants.{Null}
 use Rattle.scan_base.specs.declared.value.ValueRef.{ValueRef}
 use Rattle.arrow_schema.specs.declared.schema.Field.{Field}
 use Rattle.arrays.specs.Column.{ColumnAt, values_of}
 use Rattle.arrays.specs.Typed.{IsOfType, IsValueOf}
+use Rattle.arrays.specs.Written.{texts_joined}
 use Rattle.csv_values.specs.Said.{cell_in}
 use Rattle.csv_table.specs.inside.Chunks.{ChunkAt, field_in}
 
@@ -20,6 +23,16 @@ pub record AreCells (chunk : ChunkAt) (column : Field) (number : ℕ) (cells : L
   pub many : length cells ≡ count
   pub each : (k : ℕ) → k < count → cell_in column (field_in chunk k number) ≡ Some (get_or (map value_of cells) k Null)
   pub typed : All (λ value. IsValueOf column.data_type (value_of value)) cells
+
+-- the texts of the column's fields are too long for its offsets
+pub record HasLongCells (chunk : ChunkAt) (column : Field) (number : ℕ) : Type 0 where
+  pub cells : List ValueRef
+  pub are : AreCells chunk column number cells chunk.rows
+  pub long : 2 ^ 31 ≤ length (texts_joined (map value_of cells))
+
+-- why no column is made of its fields
+abbrev pub WhyNoColumn : ChunkAt → Field → ℕ → Fault → Type 0
+WhyNoColumn chunk column number fault = (fault ≡ OutOfMemory) ⊎ ((fault ≡ LimitReached) × HasLongCells chunk column number)
 
 -- a column that holds the values of its fields
 pub record IsColumnIn (chunk : ChunkAt) (column : Field) (number : ℕ) (made : ColumnAt) : Type 0 where
@@ -37,6 +50,16 @@ pub record HasWrongColumn (chunk : ChunkAt) (columns : List Field) : Type 0 wher
   pub number : ℕ
   pub there : number < length columns
   pub wrong : (d : Field) → HasWrongCell chunk (get_or columns number d) number
+
+-- a column has texts that are too long
+pub record HasLongColumn (chunk : ChunkAt) (columns : List Field) : Type 0 where
+  pub number : ℕ
+  pub there : number < length columns
+  pub long : (d : Field) → HasLongCells chunk (get_or columns number d) number
+
+-- why no columns are made
+abbrev pub WhyNoColumns : ChunkAt → List Field → Fault → Type 0
+WhyNoColumns chunk columns fault = (fault ≡ OutOfMemory) ⊎ ((fault ≡ LimitReached) × HasLongColumn chunk columns)
 
 -- a record says a value in each of the first columns
 abbrev pub SaysCells : ChunkAt → List Field → ℕ → ℕ → Type 0

@@ -9,5 +9,5 @@ new-requires c =
     let chunk = c.args.chunk.now in
     let columns = c.args.columns.now in
     let made = c.in-Some.made.items in
-    let are : AreColumnsIn chunk columns made (length columns) = rw c.in-Some.is at c.in_ok-made.ensures in
+    let are : AreColumnsIn chunk columns made (length columns) = rw c.in-Some.is at c.in_ok-made.ensures.found in
     λ k d low. columns_long chunk columns made (record { name = []; nullable = false; data_type = type.Bool }) are k d low ∙ sym c.rows.ensures

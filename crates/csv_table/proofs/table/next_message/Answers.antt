@@ -9,4 +9,4 @@ returns-in_ok-batch_message-in-Some-clause-taken c =
     let batch = c.in-Some.batch in
     let taken : IsNextBatch c.as_slice.result.now batch c.args.records.now c.next_batch.new.records = rw c.in-Some.is at c.in_ok-batch.ensures.taken in
     let next = subst (λ (f : List Field). IsNextBatch f batch c.args.records.now c.next_batch.new.records) c.as_slice.ensures taken in
-    message_taken c.args.schema.now _ batch _ _ c.requires.plain c.in_ok-batch_message-in-Some.ensures next
+    message_taken c.args.schema.now _ batch _ _ c.requires.plain c.in_ok-batch_message-in-Some.ensures.says next

@@ -1,11 +1,14 @@
-use Rattle.std.proofs.Common.{◌≡◌, ◌<◌, ◌+◌, ℕ, Bool, None, List, [], ◌∷◌, ◌++◌, All, length, length-append, get_or, sym, subst, ap, ◌∙◌, arith}
+use Rattle.std.proofs.Common.{◌≡◌, ◌<◌, ◌+◌, ℕ, Bool, None, List, [], ◌∷◌, ◌++◌, All, length, length-append, get_or, sym, subst, ap, ◌∙◌, arith, below_more, inl, refl, rules}
 use Rattle.std.proofs.lemmas.List.Elements.{All-push}
+use Rattle.std.proofs.lemmas.Result.{err_from_is_err_and}
+use Rattle.std.specs.Prelude.{Err}
 use Rattle.csv.specs.Records.{fields_of}
+use Rattle.scan_base.specs.declared.fault.Fault.TheVariants.{OutOfMemory}
 use Rattle.arrow_schema.specs.declared.data_type.DataType.{DataType}
 use Rattle.arrow_schema.specs.declared.schema.Field.{Field}
-use Rattle.arrow_schema.specs.Schema.{IsField}
+use Rattle.arrow_schema.specs.Schema.{IsField, IsName}
 use Rattle.arrow_schema.specs.Written.{encoding_of}
-use Rattle.csv_types.specs.Found.{column_of, column_seen}
+use Rattle.csv_types.specs.Found.{column_of, column_seen, name_of}
 use Rattle.csv_types.proofs.Each.{each_more}
 use Rattle.csv_types.proofs.columns.fields_in.Goals as goal
 
@@ -31,7 +34,20 @@ loop-place-preserved c =
           let own : one ≡ column_seen c.args.header first records n = same_column _ _ _ _ _ _ c.in_ok-name.ensures.value (c.nullable.ensures (column_of n records) (have n _ low)) (c.data_type.ensures.found (column_of n records) (have n _ low)) in
           subst (λ (l : List Field). (k : ℕ) (d : Field) → k < n + 1 → get_or l k d ≡ column_seen c.args.header first records k) (sym pushed)
           (each_more (λ (k : ℕ) (f : Field). f ≡ column_seen c.args.header first records k) old one n inv.many own (inv.found records have));
+      names = below_more (λ (k : ℕ). IsName (name_of c.args.header first k)) n inv.names (subst IsName c.in_ok-name.ensures.value c.in_ok-name.ensures.named);
       named = subst (λ (l : List Field). All IsField l) (sym pushed) (All-push IsField old one inv.named (record { named = c.in_ok-name.ensures.named; typed = c.data_type.ensures.typed }));
       plain = subst (λ (l : List Field). All (λ (f : Field). encoding_of f.data_type ≡ None) l) (sym pushed)
           (All-push (λ (f : Field). encoding_of f.data_type ≡ None) old one inv.plain c.data_type.ensures.plain);
     }
+
+pub returns-in_err-name-clause-refused : goal.returns-in_err-name-clause-refused
+returns-in_err-name-clause-refused c =
+    let p = err_from_is_err_and c.from_residual.result c.from_residual.ensures.1 in
+    let there : c.loop-place.place < length (fields_of c.args.first.now) = omega (arith, c.loop-place-test.true, c.requires) in
+    rw (p.1, p.2) (record { place = c.loop-place.place; there = there; before = c.loop-place.invariant.names; why = c.in_err-name.ensures.refused })
+
+pub returns-in_err-push-clause-refused : goal.returns-in_err-push-clause-refused
+returns-in_err-push-clause-refused c =
+    let memory : c.from_residual-in_err-push.result ≡ Err OutOfMemory = search rules in
+    let there : c.loop-place.place < length (fields_of c.args.first.now) = omega (arith, c.loop-place-test.true, c.requires) in
+    rw memory (record { place = c.loop-place.place; there = there; before = c.loop-place.invariant.names; why = inl refl })

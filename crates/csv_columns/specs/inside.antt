@@ -1,0 +1,2 @@
+-- Inside: what only the contracts of private functions cite.
+pub mod Marks
