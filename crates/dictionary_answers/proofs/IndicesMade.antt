@@ -19,7 +19,7 @@ use Rattle.dictionary_answers.specs.Firsts.{Leads, AreLed}
 use Rattle.dictionary_answers.specs.inside.Packed.{ArePacked, AreValidWhereSome}
 
 -- a small number of 32 bits has no sign
-plain : (n : ℕ) → n < 2 ^ 31 → number_from Int32 n ≡ pos n
+pub plain : (n : ℕ) → n < 2 ^ 31 → number_from Int32 n ≡ pos n
 plain n low = rw (lt-ltb n (2 ^ 31) low) refl
 
 -- each place leads to its value

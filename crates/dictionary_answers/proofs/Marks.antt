@@ -1,5 +1,5 @@
 -- Lists of places where a mark stands for none.
-use Rattle.std.proofs.Common.{◌≡◌, ◌≢◌, ◌≤◌, ◌<◌, ◌^◌, ℕ, zero, suc, ◌+◌, ◌/◌, ◌||◌, not, Bool, true, false, List, [], ◌∷◌, length, map, get_or, set, nat_eq, Option, Some, None, is_some, unwrap_or, refl, sym, ap, ◌∙◌, inl, inr, arith}
+use Rattle.std.proofs.Common.{◌≡◌, ◌≢◌, ◌≤◌, ◌<◌, ◌^◌, ℕ, zero, suc, pos, ◌+◌, ◌/◌, ◌||◌, not, Bool, true, false, List, [], ◌∷◌, length, map, get_or, set, nat_eq, Option, Some, None, is_some, unwrap_or, refl, sym, ap, ◌∙◌, inl, inr, arith}
 use Rattle.std.specs.List.{flat_map, list_any}
 use Rattle.std.proofs.lemmas.Bool.{cases_eq, ne_eqb}
 use Rattle.std.proofs.lemmas.Option.{slice_get_within}
@@ -7,7 +7,8 @@ use Rattle.std.proofs.lemmas.List.{length-map, get_or-map, get_or_default}
 use Rattle.std.proofs.lemmas.List.FromFn.{length-map-range_with_len, get_or-map-range_with_len}
 use Rattle.byteorder.specs.Endian.{IsMapped, little_bytes}
 use Rattle.byteorder.proofs.Slices.{MappedTo, mapped_all, mapped_more}
-use Rattle.arrays.specs.Number.{element_at}
+use Rattle.arrow_schema.specs.declared.data_type.IntegerType.TheVariants.{Int32}
+use Rattle.arrays.specs.Number.{element_at, integer_at, number_from}
 use Rattle.scan_base.specs.declared.value.Value.{Value}
 use Rattle.scan_base.specs.declared.value.Value.TheVariants.{Null}
 use Rattle.scan_base.specs.Value.{is_null}
@@ -17,7 +18,7 @@ use Rattle.dictionary_answers.specs.Firsts.{AreLed, Leads}
 use Rattle.dictionary_answers.specs.Coded.{held, no_place}
 use Rattle.dictionary_answers.specs.inside.Packed.{numbers_in, shown, ArePacked, AreValidWhereSome}
 use Rattle.dictionary_answers.proofs.Indexed.{none_null}
-use Rattle.dictionary_answers.proofs.IndicesMade.{led_at}
+use Rattle.dictionary_answers.proofs.IndicesMade.{led_at, plain}
 use Rattle.dictionary_answers.proofs.Numbers.{length-numbers, get_or-numbers, numbers_packed}
 use Rattle.dictionary_answers.proofs.Adding.{held_some}
 
@@ -192,3 +193,16 @@ valid_own texts places column all own led long same told = record {
     not_not : (b : Bool) → b ≡ not (not b)
     not_not true = refl
     not_not false = refl
+
+-- where a slot is null, its index is 0
+pub zero_where : (texts : List (List ℕ)) (places : List (Option ℕ)) (bytes : List ℕ) (column : ColumnAt) → ArePacked bytes places → AreLed texts places (values_of column) →
+    (k : ℕ) → k < column.len → slot_of column k ≡ Null → integer_at Int32 bytes k ≡ pos 0
+zero_where texts places bytes column packed led k low null =
+    let count = led_long texts places (values_of column) led ∙ length-map-range_with_len (slot_of column) 0 column.len in
+    let under : k < length places = omega (arith, count, low) in
+    let none : is_some (get_or places k None) ≡ false = some_at texts places column k led under ∙ ap (λ (v : Value). not (is_null v)) null in
+    ap (number_from Int32) (packed.each k under ∙ by (get_or places k None) none) ∙ plain 0 (omega arith)
+  where
+    by : (place : Option ℕ) → is_some place ≡ false → unwrap_or place 0 ≡ 0
+    by None none = refl
+    by (Some place) none = absurd (let no : ⊥ = cc in no)

@@ -1,7 +1,7 @@
 -- Columns as they are answered: those of dictionaries as indices of 32 bits over the texts that they hold, and no others.
-use Rattle.std.specs.Prelude.{◌≡◌, ℕ, ◌+◌, List, [], ◌∷◌, ◌++◌, All, map}
+use Rattle.std.specs.Prelude.{◌≡◌, ◌<◌, ℕ, pos, ◌+◌, List, [], ◌∷◌, ◌++◌, All, map}
 use Rattle.scan_base.specs.declared.value.Value.{Value}
-use Rattle.scan_base.specs.declared.value.Value.TheVariants.{Text}
+use Rattle.scan_base.specs.declared.value.Value.TheVariants.{Null, Text}
 use Rattle.scan_base.specs.Value.{IsTextOrNull}
 use Rattle.arrow_schema.specs.declared.data_type.IntegerType.TheVariants.{Int32}
 use Rattle.arrow_schema.specs.declared.data_type.DataType.{DataType}
@@ -9,17 +9,20 @@ use Rattle.arrow_schema.specs.declared.data_type.DataType.TheVariants.{Dictionar
 use Rattle.arrow_schema.specs.declared.schema.Field.{Field}
 use Rattle.arrays.specs.declared.layout.Layout.TheVariants as layout
 use Rattle.arrays.specs.Indices.{IndicesAt}
-use Rattle.arrays.specs.Column.{ColumnAt, values_of}
+use Rattle.arrays.specs.Number.{integer_at}
+use Rattle.arrays.specs.Column.{ColumnAt, slot_of, values_of}
 use Rattle.arrays.specs.Texts.{texts_values}
 use Rattle.dictionary_answers.specs.declared.batches.ColumnDictionary.{ColumnDictionary}
 use Rattle.dictionary_answers.specs.Firsts.{firsts, bytes_in}
 
--- the column lies as indices of 32 bits over a dictionary of these texts
+-- The column lies as indices of 32 bits over a dictionary of these texts. Where a slot is null, its index is 0.
 pub record LiesOver (texts : List (List ℕ)) (column : ColumnAt) : Type 0 where
   pub cells : IndicesAt
   pub layout : column.layout ≡ layout.Indices cells
   pub index : cells.index ≡ Int32
   pub dictionary : cells.dictionary ≡ map Text texts
+  pub zeros : (slot : ℕ) → slot < column.len → slot_of column slot ≡ Null →
+      integer_at cells.index cells.values (column.first + slot) ≡ pos 0
 
 -- a column may be answered as one of this type: where that is a dictionary, it holds texts
 abbrev pub IsCodable : DataType → ColumnAt → Type 0

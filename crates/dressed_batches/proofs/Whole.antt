@@ -41,4 +41,5 @@ dressed_whole typed schema batch made dictionaries long few numbered are stand s
       short = messages_short dictionaries sents all;
       sized = omega (arith, messages_length dictionaries sents all, written_short 0 fields columns made.batch.columns dictionaries answered seen);
       many = answered_many fields columns made.batch.columns answered;
+      columns = answered;
     }

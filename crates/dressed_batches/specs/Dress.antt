@@ -14,6 +14,7 @@ use Rattle.arrays.specs.Column.{ColumnAt}
 use Rattle.arrays.specs.Firsts.{firsts}
 use Rattle.arrays.specs.Texts.{texts_values}
 use Rattle.arrays.specs.Typed.{IsOfType}
+use Rattle.dictionary_answers.specs.Answer.{AreAnswered}
 use Rattle.dictionary_answers.specs.declared.batches.ColumnDictionary.{ColumnDictionary}
 use Rattle.ipc_batch.specs.Said.{Sent}
 use Rattle.ipc_batch.specs.Written.{body_length, most_header_bytes, values_batch, SaysBatch, SaysValues}
@@ -63,7 +64,8 @@ pub record IsMessageOf (dictionary : ColumnDictionary) (sent : Sent) : Type 0 wh
   pub sized : length sent.body ≡ body_length (values_batch dictionary.texts)
 
 -- The dictionaries say the texts of the rows, column by column, and what says the batch that was made adds the rows to whoever
--- has these. Together they have no more bytes than they may.
+-- has these. Its columns of dictionaries lie over these texts, with the index 0 where a slot is null, and the others as they are.
+-- Together the bodies have no more bytes than they may.
 pub record IsDressedBatch (schema : Schema) (batch : BatchAt) (made : DressedBatch) : Type 0 where
   pub coded : AllZip (λ number sent. SaysWhole schema number (firsts (cells_in number (rows_of batch))) sent)
       (coded_from 0 schema.fields) (map written_seen made.dictionaries.items)
@@ -73,3 +75,4 @@ pub record IsDressedBatch (schema : Schema) (batch : BatchAt) (made : DressedBat
   pub sized : bodies_length (map written_seen made.dictionaries.items) + body_length made.batch
       ≤ dressed_length schema.fields batch.columns
   pub many : length made.batch.columns ≡ length batch.columns
+  pub columns : AreAnswered schema.fields batch.columns made.batch.columns

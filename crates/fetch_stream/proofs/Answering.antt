@@ -7,7 +7,7 @@ use Rattle.arrow_schema.specs.declared.schema.Schema.{Schema}
 use Rattle.endpoint_split.specs.Handle.{HandleAt}
 use Rattle.table_versions.specs.Table.{Row, Table}
 use Rattle.table_versions.specs.Database.{Database}
-use Rattle.flight_info.specs.Payloads.{Payload, PayloadsSay}
+use Rattle.flight_info.specs.Payloads.{Payload}
 use Rattle.fetch_stream.specs.Fetches.{HandleMeans, SayBeginning, SayDressed, FetchAt}
 use Rattle.fetch_stream.specs.Streams.{StreamAt, Parcel, SaySoFar, GivesParcel, Gives, MayRefuse, HasGiven, StreamsAnswer, opened}
 use Rattle.fetch_stream.specs.inside.Collected.{Collects}
@@ -116,7 +116,7 @@ given_part answer payloads stream has begun =
       n,
       omega (arith, has.counted, has.within),
       omega (arith, long, length-append has.rows stream.left),
-      subst (λ (rows : List Row). PayloadsSay payloads answer.schema rows) (sym first) (said_begun answer payloads stream has begun).said,
+      subst (λ (rows : List Row). SayDressed payloads answer.schema rows) (sym first) (said_begun answer payloads stream has begun),
     )
 
 -- where none did, there is no payload

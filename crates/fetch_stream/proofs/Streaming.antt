@@ -1,8 +1,8 @@
 -- Payloads that are written say what they are written for.
-use Rattle.std.proofs.Common.{◌≡◌, ◌≤◌, ◌<◌, ◌^◌, ◌+◌, ℕ, zero, suc, All, List, [], ◌∷◌, ◌++◌, length, map, get_or, Some, None, Result, Ok, refl, sym, ap, subst, ◌∙◌, append_assoc, append-nil, arith}
-use Rattle.std.specs.List.{flat_map, AllZip}
+use Rattle.std.proofs.Common.{◌≡◌, ◌≤◌, ◌<◌, ◌^◌, ◌+◌, ℕ, zero, suc, All, Bool, true, false, if◌then◌else◌, ◌⊎◌, inl, inr, List, [], ◌∷◌, ◌++◌, length, map, get_or, Some, None, Result, Ok, refl, sym, ap, subst, ◌∙◌, append_assoc, append-nil, arith}
+use Rattle.std.specs.List.{flat_map, AllByRecursion, AllZip}
 use Rattle.std.proofs.lemmas.List.{map-append}
-use Rattle.std.proofs.lemmas.List.Elements.{All-nil, All-push}
+use Rattle.std.proofs.lemmas.List.Elements.{All-nil, All-append, All-cons, All-push}
 use Rattle.std.proofs.lemmas.Grind.{flat_map-append}
 use Rattle.scan_base.specs.declared.fault.Fault.{Fault}
 use Rattle.scan_base.specs.Limits.{most_columns}
@@ -20,9 +20,13 @@ use Rattle.arrow_schema.proofs.Messages.{messages_read}
 use Rattle.arrow_schema.proofs.Again.{whole_schema, short_schema, schemas_read}
 use Rattle.arrays.specs.Column.{ColumnAt, cut}
 use Rattle.arrays.specs.Batch.{BatchAt, rows_of}
+use Rattle.proto_wire.specs.Calls.{chunk_entry}
+use Rattle.proto_wire.specs.Reading.{fields_of}
+use Rattle.proto_wire.specs.Standard.{Entry}
 use Rattle.flight_proto.specs.FlightData.{DataSaid, data_of, data_bytes, data_head}
 use Rattle.flight_proto.specs.Laws.{FitsMemory}
-use Rattle.flight_proto.proofs.ReadsBack.{data_back}
+use Rattle.flight_proto.specs.Message.{is_set, set_fields}
+use Rattle.flight_proto.proofs.ReadsBack.{chunk_writable, data_back, fields_back, set_writable}
 use Rattle.flight_proto.proofs.Heads.{bodies_follow_heads}
 use Rattle.ipc_batch.specs.State.{Known}
 use Rattle.ipc_batch.specs.Parts.{body_claimed}
@@ -38,12 +42,40 @@ use Rattle.dressed_batches.specs.Dress.{IsDressable, AreDressable, IsDressedBatc
 use Rattle.dressed_batches.specs.Lengths.{bodies_length}
 use Rattle.flight_info.specs.Payloads.{Payload, message_in, PayloadsSay}
 use Rattle.flight_info.proofs.Forms.{schema_plain}
-use Rattle.fetch_stream.specs.Fetches.{HasRow, SayDressed}
+use Rattle.fetch_stream.specs.Fetches.{HasRow, IsBare, SayDressed}
 use Rattle.fetch_stream.specs.Streams.{Parcel, HaveShortBodies, most_body_bytes}
 use Rattle.fetch_stream.specs.inside.Ahead.{AnsweredAs}
 use Rattle.fetch_stream.specs.inside.Written.{Carries, CarryDressed, IsShort, SaysRows, SaysSchema, SaysWritten}
 
 -- ---- one payload
+
+-- the number of a field of a header or of a body
+abbrev IsNumber : Entry → Type 0
+IsNumber field = (field.number ≡ 2) ⊎ (field.number ≡ 1000)
+
+-- what holds of fields holds of those that are set
+set_all : (P : Entry → Type 0) (entries : List Entry) → AllByRecursion P entries → All P (set_fields entries)
+set_all P [] all = All-nil P
+set_all P (entry ∷ entries) all = by (is_set entry.content) (set_all P entries all.1)
+  where
+    by : (set : Bool) → All P (set_fields entries) → All P (if set then entry ∷ set_fields entries else set_fields entries)
+    by true rest = All-cons P entry (set_fields entries) all.0 rest
+    by false rest = rest
+
+-- what is written of a header and a body has only these
+bare_back : (payload header body : List ℕ) → payload ≡ data_bytes None (record { data_header = header; data_body = body })
+    → FitsMemory header → FitsMemory body → IsBare payload
+bare_back payload header body e long wide fields read =
+    let first = chunk_entry 2 header in
+    let second = chunk_entry 1000 body in
+    let entries = first ∷ second ∷ [] in
+    let writable = set_writable entries (
+      chunk_writable 2 header (omega arith, omega arith) (omega (arith, long)),
+      (chunk_writable 1000 body (omega arith, omega arith) (omega (arith, wide)), tt),
+    ) in
+    let both = sym read ∙ (ap fields_of e ∙ fields_back (set_fields entries) writable) in
+    let same : set_fields entries ≡ fields = cc in
+    subst (All IsNumber) same (set_all IsNumber entries (inl refl, (inr refl, tt)))
 
 -- what is written of a message is carried
 carried_back : (payload header body : List ℕ) → payload ≡ data_bytes None (record { data_header = header; data_body = body })
@@ -51,6 +83,7 @@ carried_back : (payload header body : List ℕ) → payload ≡ data_bytes None 
 carried_back payload header body e long wide = record {
   carried = record { data_header = header; data_body = body };
   read = ap data_of e ∙ (data_back None (record { data_header = header; data_body = body }) tt long wide).1;
+  bare = bare_back payload header body e long wide;
   same = refl;
 }
 
@@ -113,16 +146,18 @@ each_more {B = B} read (a ∷ xs) more ys others all behind =
 record Carry (payloads : List Payload) (messages : List Sent) : Type 0 where
   all : List DataSaid
   read : each data_of payloads ≡ Ok all
+  bare : All IsBare payloads
   same : map message_in all ≡ messages
 
 carry_none : Carry [] []
-carry_none = record { all = []; read = refl; same = refl }
+carry_none = record { all = []; read = refl; bare = All-nil IsBare; same = refl }
 
 -- payloads before others
 carry_more : (payloads more : List Payload) (messages others : List Sent) → Carry payloads messages → Carry more others → Carry (payloads ++ more) (messages ++ others)
 carry_more payloads more messages others e c = record {
   all = e.all ++ c.all;
   read = each_more data_of payloads more e.all c.all e.read c.read;
+  bare = All-append IsBare payloads more e.bare c.bare;
   same = map-append message_in e.all c.all ∙ rw (e.same, c.same) refl;
 }
 
@@ -130,6 +165,7 @@ carry_one : (payload : Payload) (message : Sent) → Carries payload message →
 carry_one payload message c = record {
   all = c.carried ∷ [];
   read = each_step data_of payload [] c.carried [] c.read refl;
+  bare = All-cons IsBare payload [] c.bare (All-nil IsBare);
   same = ap (λ (sent : Sent). sent ∷ []) c.same;
 }
 
@@ -171,6 +207,7 @@ say_first payload schema s =
     let carry = carry_one payload s.message s.carries in
     record {
       said = say_carried (payload ∷ []) (s.message ∷ []) schema [] carry (known, refl, (news, [], s.said, refl, (refl, refl)));
+      bare = carry.bare;
       first = s.message;
       behind = [];
       messages = carry.same;
@@ -192,9 +229,10 @@ say_more payloads parcel schema rows more s some so =
     let one : AreDressed schema messages more = more_dressed schema [] [] d (none_dressed schema) s.dressed in
     let read = dressed_say schema messages more one known said.2.1 in
     let all : Follows None (sent ++ messages) (Some read.0) (rows ++ more) = joined None sent messages (Some known) (Some read.0) rows more said.2.2 read.2 in
-    let carry = carry_more payloads parcel sent messages (record { all = said.0; read = said.1; same = refl }) (carry_each parcel messages s.carry) in
+    let carry = carry_more payloads parcel sent messages (record { all = said.0; read = said.1; bare = so.bare; same = refl }) (carry_each parcel messages s.carry) in
     record {
       said = say_carried (payloads ++ parcel) (sent ++ messages) schema (rows ++ more) carry (read.0, read.1, all);
+      bare = carry.bare;
       first = so.first;
       behind = so.behind ++ messages;
       messages = carry.same ∙ ap (λ (l : List Sent). l ++ messages) so.messages;

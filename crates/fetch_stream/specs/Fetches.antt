@@ -1,10 +1,12 @@
 -- What a handle shows by itself, and what it answers.
-use Rattle.std.specs.Prelude.{◌≡◌, ◌≤◌, ◌<◌, ◌⊎◌, ◌&&◌, ℕ, Bool, true, nat_le, All, List, [], ◌∷◌, length, map, take, Option, Some, None}
+use Rattle.std.specs.Prelude.{◌≡◌, ◌≤◌, ◌<◌, ◌⊎◌, ◌&&◌, ℕ, Bool, true, nat_le, All, List, [], ◌∷◌, length, map, take, Option, Some, None, Ok}
 use Rattle.scan_base.specs.declared.fault.Fault.{Fault}
 use Rattle.scan_base.specs.declared.fault.Fault.TheVariants.{BadTicket, ResultTooLarge, OutOfMemory}
 use Rattle.scan_base.specs.Limits.{most_query_bytes, most_answer_rows}
 use Rattle.arrow_schema.specs.declared.schema.Schema.{Schema}
 use Rattle.endpoint_split.specs.Handle.{HandleAt, Query, Tables}
+use Rattle.proto_wire.specs.Standard.{Entry}
+use Rattle.proto_wire.specs.Reading.{fields_of}
 use Rattle.ipc_batch.specs.Said.{Sent}
 use Rattle.ipc_batch.specs.Dressed.{Dressing, AreDressed}
 use Rattle.table_versions.specs.Table.{Row, Table}
@@ -46,11 +48,17 @@ MeansNothing database handle = (answer : Table) → HandleMeans database handle 
 abbrev pub HasRow : Dressing → Type 0
 HasRow dressing = 0 < length dressing.rows
 
--- Payloads say a schema and rows. The schema's message says no more than it has to. Behind it come record batches of one row or
--- more, and right before each of them a dictionary for each column that is one, in the columns' order: its id is the column's
--- number, and its values the texts of that batch.
+-- A FlightData has only a header, field 2, and a body, field 1000: no descriptor, and no app_metadata.
+abbrev pub IsBare : Payload → Type 0
+IsBare payload = (fields : List Entry) → fields_of payload ≡ Ok fields →
+    All (λ field. (field.number ≡ 2) ⊎ (field.number ≡ 1000)) fields
+
+-- Payloads say a schema and rows, each by only a header and a body. The schema's message says no more than it has to. After it
+-- come record batches of one row or more, and right before each of them a dictionary for each column that is one, in the
+-- columns' order: its id is the column's number, and its values the texts of that batch.
 pub record SayDressed (payloads : List Payload) (schema : Schema) (rows : List Row) : Type 0 where
   pub said : PayloadsSay payloads schema rows
+  pub bare : All IsBare payloads
   pub first : Sent
   pub behind : List Sent
   pub messages : map message_in said.0 ≡ first ∷ behind
@@ -58,10 +66,10 @@ pub record SayDressed (payloads : List Payload) (schema : Schema) (rows : List R
   pub dressed : AreDressed schema behind rows
   pub some : All HasRow dressed.dressings
 
--- payloads say a beginning of an answer, or all of it, but no more rows than an answer may have
+-- payloads say a beginning of an answer, or all of it, in the form of a whole answer, but no more rows than an answer may have
 abbrev pub SayBeginning : List Payload → Table → Type 0
 SayBeginning payloads answer = (n : ℕ) × (n ≤ most_answer_rows) × (n ≤ length answer.rows)
-    × PayloadsSay payloads answer.schema (take n answer.rows)
+    × SayDressed payloads answer.schema (take n answer.rows)
 
 -- payloads are all of an answer: what the handle means, its rows cut into batches freely, each behind its dictionaries
 pub record IsAnswer (database : Database) (handle : HandleAt) (payloads : List Payload) : Type 0 where

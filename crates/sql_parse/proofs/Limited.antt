@@ -12,8 +12,7 @@ use Rattle.sql_query.specs.Sentence.{Sentence}
 use Rattle.grammar.specs.Rule.{Any}
 use Rattle.grammar.specs.Reading.{nullable}
 use Rattle.grammar.proofs.Rules.{solid_of}
-use Rattle.sql_parse.specs.declared.limits.Tally.{Tally}
-use Rattle.sql_parse.specs.Limits.{passes_from, passes}
+use Rattle.sql_parse.specs.Limits.{TallyAt, passes_from, passes}
 use Rattle.sql_parse.specs.Parse.{IsSentence}
 use Rattle.sql_parse.specs.Productions.{name, column, minus, digits, date, number, string, operand, compare}
 use Rattle.sql_parse.specs.Notation.{Condition}
@@ -232,7 +231,7 @@ fits_select (select.List items) rest fresh few f = fits_list 64 items rest fresh
 
 -- ---- sentences
 
-abbrev start : Tally
+abbrev start : TallyAt
 start = record { places = 0; items = 0; most = 64 }
 
 within : (ts : List Mark) (s : Sentence) → IsSentence ts s → Fits start ts → IsWithinLimits s

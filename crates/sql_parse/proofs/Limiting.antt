@@ -10,8 +10,7 @@ use Rattle.sql_text.specs.declared.symbol.Symbol.TheVariants as symbol
 use Rattle.sql_text.specs.declared.token.TokenKind.{TokenKind}
 use Rattle.sql_text.specs.Words.{is_name}
 use Rattle.grammar.proofs.Flags.{or-left, or-right}
-use Rattle.sql_parse.specs.declared.limits.Tally.{Tally}
-use Rattle.sql_parse.specs.Limits.{counted, is_past, is_long_name, passes_from}
+use Rattle.sql_parse.specs.Limits.{TallyAt, counted, is_past, is_long_name, passes_from}
 use Rattle.sql_parse.specs.Tokens.{Mark, value_of, is_word, is_symbol}
 use Rattle.sql_parse.proofs.NameTokens.{names_at}
 use Rattle.sql_parse.proofs.ListTokens.{Step, begun, next, stepped, steps_at, placed, places_at, announces_place}
@@ -31,20 +30,20 @@ fit_now items most [] f = f
 fit_now items most (begun more ∷ steps) f = f.0
 fit_now items most (next ∷ steps) f = let later = fit_now (items + 1) most steps f in omega (arith, later)
 
-pub record AllFit (tally : Tally) (announced : List (Unit {0})) (steps : List Step) : Type 0 where
+pub record AllFit (tally : TallyAt) (announced : List (Unit {0})) (steps : List Step) : Type 0 where
   pub places : tally.places + length announced ≤ 4
   pub lists : Fit tally.items tally.most steps
 
 -- ---- one token
 
-in_time : (tally : Tally) → is_past tally ≡ false → (tally.places ≤ 4) × (tally.items ≤ tally.most)
+in_time : (tally : TallyAt) → is_past tally ≡ false → (tally.places ≤ 4) × (tally.items ≤ tally.most)
 unfolding is_past
 in_time tally h = (
   ltb-false 4 tally.places (or-left (nat_lt 4 tally.places) (nat_lt tally.most tally.items) h),
   ltb-false tally.most tally.items (or-right (nat_lt 4 tally.places) (nat_lt tally.most tally.items) h),
 )
 
-not_past : (tally : Tally) → tally.places ≤ 4 → tally.items ≤ tally.most → is_past tally ≡ false
+not_past : (tally : TallyAt) → tally.places ≤ 4 → tally.items ≤ tally.most → is_past tally ≡ false
 unfolding is_past
 not_past tally p i =
     or_from (nat_lt 4 tally.places) (nat_lt tally.most tally.items) (le-ltb 4 tally.places p)
@@ -69,7 +68,7 @@ not_long t = go (is_name t.0)
     go false a = refl
 
 -- the tally, by what the next token announces
-abbrev told_by : (place begins members comma : Bool) → Tally → Tally
+abbrev told_by : (place begins members comma : Bool) → TallyAt → TallyAt
 told_by place begins members comma tally =
     if place then record tally { places = tally.places + 1 }
     else (if begins then record tally { items = 1; most = 64 }
@@ -77,7 +76,7 @@ told_by place begins members comma tally =
     else (if comma then record tally { items = tally.items + 1 }
     else tally)))
 
-before_one : (a b c d : Bool) (tally : Tally) (places : List (Unit {0})) (steps : List Step) →
+before_one : (a b c d : Bool) (tally : TallyAt) (places : List (Unit {0})) (steps : List Step) →
     is_past tally ≡ false → AllFit (told_by a b c d tally) places steps →
     AllFit tally (placed a ++ places) (stepped a b c d ++ steps)
 before_one true b c d tally places steps h f =
@@ -89,13 +88,13 @@ before_one false false true d tally places steps h f =
 before_one false false false true tally places steps h f = record { places = f.places; lists = f.lists }
 before_one false false false false tally places steps h f = f
 
-fits_now : (tally : Tally) (places : List (Unit {0})) (steps : List Step) → AllFit tally places steps →
+fits_now : (tally : TallyAt) (places : List (Unit {0})) (steps : List Step) → AllFit tally places steps →
     is_past tally ≡ false
 fits_now tally places steps f =
     let p = f.places in
     not_past tally (omega (arith, p)) (fit_now tally.items tally.most steps f.lists)
 
-behind_one : (a b c d : Bool) (tally : Tally) (places : List (Unit {0})) (steps : List Step) →
+behind_one : (a b c d : Bool) (tally : TallyAt) (places : List (Unit {0})) (steps : List Step) →
     AllFit tally (placed a ++ places) (stepped a b c d ++ steps) → AllFit (told_by a b c d tally) places steps
 behind_one true b c d tally places steps f =
     let p = f.places in record { places = omega (arith, p); lists = f.lists }
@@ -116,12 +115,12 @@ nothing_last false false true d h = cc
 nothing_last false false false true h = cc
 nothing_last false false false false h = (refl, refl)
 
-pub record Fits (tally : Tally) (ts : List Mark) : Type 0 where
+pub record Fits (tally : TallyAt) (ts : List Mark) : Type 0 where
   pub names : All IsShort (flat_map names_at ts)
   pub announced : AllFit tally (flat_map places_at ts) (flat_map steps_at ts)
 
 -- where the last token announces nothing, each item and place that is announced is reached
-pub all_fit : (tally : Tally) (front : List Mark) (last : Mark) → announces last.0 ≡ false →
+pub all_fit : (tally : TallyAt) (front : List Mark) (last : Mark) → announces last.0 ≡ false →
     passes_from tally (front ++ last ∷ []) ≡ false → Fits tally (front ++ last ∷ [])
 unfolding counted
 all_fit tally [] last quiet h =
@@ -163,7 +162,7 @@ all_back : {X : Type 0} (P : X → Type 0) (xs ys : List X) → All P (xs ++ ys)
 all_back P [] ys a = a
 all_back P (x ∷ xs) ys a = all_back P xs ys (All-tail P x (xs ++ ys) a)
 
-pub none_pass : (tally : Tally) (ts : List Mark) → Fits tally ts → passes_from tally ts ≡ false
+pub none_pass : (tally : TallyAt) (ts : List Mark) → Fits tally ts → passes_from tally ts ≡ false
 unfolding counted
 none_pass tally [] f = refl
 none_pass tally (t ∷ ts) f =

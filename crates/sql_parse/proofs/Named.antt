@@ -30,8 +30,7 @@ use Rattle.sql_query.specs.Names.{QueryHasNames}
 use Rattle.grammar.specs.Rule.{empty, both, either, many, make, Language, Spells, Any}
 use Rattle.grammar.proofs.Keeping.{Keeps, keeps_one, keeps_empty, keeps_both, keeps_either, keeps_many, keeps_make}
 use Rattle.grammar.proofs.Keeping.{keeps_opened, keeps_any}
-use Rattle.sql_parse.specs.declared.limits.Tally.{Tally}
-use Rattle.sql_parse.specs.Limits.{counted, is_past, is_long_name, passes_from, passes}
+use Rattle.sql_parse.specs.Limits.{TallyAt, counted, is_past, is_long_name, passes_from, passes}
 use Rattle.sql_parse.specs.Parse.{IsSentence, Accepts, Answered}
 use Rattle.sql_parse.specs.Notation.{Condition, Of, a_word, a_symbol, symbol_for, ◌⊳◌, ◌⊲◌, maybe, listed, joined}
 use Rattle.sql_parse.specs.Productions.{name, column_name, column, operand, compare, negated, inner, conj, pred}
@@ -396,7 +395,7 @@ named token says short n =
     second_false (is_name token.kind) (nat_lt 64 (length (said token.kind token.text.now))) n short in
     record { some = text.0; few = ltb-false 64 (length (said token.kind token.text.now)) few; utf8 = text.1 }
 
-all_named : (tally : Tally) (tokens : List Token) → All SaysText (map lexeme_of tokens) →
+all_named : (tally : TallyAt) (tokens : List Token) → All SaysText (map lexeme_of tokens) →
     passes_from tally (marks tokens) ≡ false → All Named (marks tokens)
 all_named tally [] says short = All-nil Named
 all_named tally (token ∷ tokens) says short =

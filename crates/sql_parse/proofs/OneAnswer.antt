@@ -8,9 +8,8 @@ use Rattle.grammar.specs.Rule.{Language}
 use Rattle.grammar.specs.Sentence.{Begins, NoneGoesOn}
 use Rattle.grammar.proofs.Exact.{one_value}
 use Rattle.grammar.proofs.Flags.{or-left, or-right}
-use Rattle.sql_parse.specs.declared.limits.Tally.{Tally}
 use Rattle.sql_parse.specs.Factored.{factor}
-use Rattle.sql_parse.specs.Limits.{counted, is_past, is_long_name, passes_from, passes}
+use Rattle.sql_parse.specs.Limits.{TallyAt, counted, is_past, is_long_name, passes_from, passes}
 use Rattle.sql_parse.specs.Parse.{IsSentence, IsShallow, Accepts, PassesLimit, HasOffender}
 use Rattle.sql_parse.specs.Parse.{fault_or, Refuses}
 use Rattle.sql_parse.specs.Productions.{begins_factor}
@@ -55,7 +54,7 @@ part_begins L a b q = (b ++ q.0, q.1, subst (λ (z : List Mark). L z q.1) (appen
 whole_begins : (L : Language Mark Sentence) (a b : List Mark) (s : Sentence) → L (a ++ b) s → Begins L a
 whole_begins L a b s q = (b, s, q)
 
-part_passes_from : (tally : Tally) (a b : List Mark) → passes_from tally (a ++ b) ≡ false → passes_from tally a ≡ false
+part_passes_from : (tally : TallyAt) (a b : List Mark) → passes_from tally (a ++ b) ≡ false → passes_from tally a ≡ false
 part_passes_from tally [] b e = refl
 part_passes_from tally (t ∷ a) b e =
     let here : (is_long_name t.0 t.1.1 || is_past tally) ≡ false =

@@ -4,8 +4,7 @@ use Rattle.std.proofs.Common.{sym, ◌∙◌, ap, subst, arith, get_or}
 use Rattle.std.proofs.lemmas.Bool.{or_from}
 use Rattle.std.proofs.lemmas.List.{drop_more, take_all}
 use Rattle.sql_text.specs.declared.token.Token.{Token}
-use Rattle.sql_parse.specs.declared.limits.Tally.{Tally}
-use Rattle.sql_parse.specs.Limits.{counted, is_past, is_long_name, passes_from, passes}
+use Rattle.sql_parse.specs.Limits.{TallyAt, counted, is_past, is_long_name, passes_from, passes}
 use Rattle.sql_parse.specs.Tokens.{Mark, marks}
 
 pub marks_length : (xs : List Token) → length (marks xs) ≡ length xs
@@ -13,10 +12,10 @@ marks_length [] = refl
 marks_length (x ∷ xs) = let h = marks_length xs in omega (arith, h)
 
 -- Of each front that goes beyond the first i tokens, what follows them tells whether one passes a limit.
-abbrev pub TellsFronts : Tally → ℕ → List Token → Type 0
+abbrev pub TellsFronts : TallyAt → ℕ → List Token → Type 0
 TellsFronts tally i xs = (n : ℕ) → passes_from tally (take n (marks (drop i xs))) ≡ passes (take (i + n) (marks xs))
 
-pub one_counted : (tally : Tally) (xs : List Token) (i : ℕ) (d : Token) (long past : Bool) (more : Tally) →
+pub one_counted : (tally : TallyAt) (xs : List Token) (i : ℕ) (d : Token) (long past : Bool) (more : TallyAt) →
     i < length xs → long ≡ is_long_name (get_or xs i d).kind (get_or xs i d).text.now → long ≡ false →
     past ≡ is_past tally → past ≡ false → more ≡ counted tally (get_or xs i d).kind → TellsFronts tally i xs →
     TellsFronts more (i + 1) xs
@@ -29,11 +28,11 @@ one_counted tally xs i d long past more at el fl ep fp en h n =
     let step : i + suc n ≡ i + 1 + n = omega arith in
     let none : (is_long_name t.kind t.text.now || is_past tally) ≡ false =
     or_from (is_long_name t.kind t.text.now) (is_past tally) (sym el ∙ fl) (sym ep ∙ fp) in
-    subst (λ (z : Tally). passes_from z rest ≡ passes (take (i + 1 + n) (marks xs))) (sym en)
+    subst (λ (z : TallyAt). passes_from z rest ≡ passes (take (i + 1 + n) (marks xs))) (sym en)
     (subst (λ (m : ℕ). passes_from (counted tally t.kind) rest ≡ passes (take m (marks xs))) step
     (ap (λ (b : Bool). b || passes_from (counted tally t.kind) rest) (sym none) ∙ told))
 
-pub none_past : (tally : Tally) (xs : List Token) (i : ℕ) → length xs ≤ i → TellsFronts tally i xs →
+pub none_past : (tally : TallyAt) (xs : List Token) (i : ℕ) → length xs ≤ i → TellsFronts tally i xs →
     passes (marks xs) ≡ false
 none_past tally xs i past h =
     let size = marks_length xs in

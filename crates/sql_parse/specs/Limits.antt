@@ -5,15 +5,19 @@ use Rattle.scan_base.specs.Limits.{most_places, most_items, most_members, most_n
 use Rattle.sql_text.specs.declared.word.Keyword.TheVariants as word
 use Rattle.sql_text.specs.declared.symbol.Symbol.TheVariants as symbol
 use Rattle.sql_text.specs.declared.token.TokenKind.{TokenKind}
-use Rattle.sql_parse.specs.declared.limits.Tally.{Tally}
 use Rattle.sql_text.specs.Words.{is_name}
 use Rattle.sql_parse.specs.Tokens.{Mark, is_word, is_symbol}
 use Rattle.sql_text.specs.Calls.{said}
 
--- The places that the tokens so far announce, and the items of the list that was begun last, of which there may
--- be `most`.
+-- What the tokens so far announce: places, and items of the list that was begun last, of which there may be `most`.
+pub record TallyAt : Type 0 where
+  pub places : ℕ
+  pub items : ℕ
+  pub most : ℕ
+
+-- What is announced with the next token.
 -- FROM and JOIN announce a place; SELECT, BY and IN begin a list and announce its first item, and a comma the next one.
-unfoldable pub counted : Tally → TokenKind → Tally
+unfoldable pub counted : TallyAt → TokenKind → TallyAt
 counted tally kind =
     if is_word word.From kind || is_word word.Join kind then record tally { places = tally.places + 1 }
     else (if is_word word.Select kind || is_word word.By kind then record tally { items = 1; most = most_items }
@@ -22,7 +26,7 @@ counted tally kind =
     else tally)))
 
 -- the place or the item that was announced last is one too many
-unfoldable pub is_past : Tally → Bool
+unfoldable pub is_past : TallyAt → Bool
 is_past tally = nat_lt most_places tally.places || nat_lt tally.most tally.items
 
 -- a name of too many bytes
@@ -30,7 +34,7 @@ unfoldable pub is_long_name : TokenKind → List ℕ → Bool
 is_long_name kind text = is_name kind && nat_lt most_name_bytes (length (said kind text))
 
 -- whether one of the tokens passes a limit, where those before announced so much
-abbrev pub passes_from : Tally → List Mark → Bool
+abbrev pub passes_from : TallyAt → List Mark → Bool
 passes_from tally [] = false
 passes_from tally (t ∷ ts) = (is_long_name t.0 t.1.1 || is_past tally) || passes_from (counted tally t.0) ts
 

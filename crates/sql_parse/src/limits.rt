@@ -1,6 +1,7 @@
 //! The limits of number and of names, in one pass over the tokens.
 
 ghost use Rattle.std.specs.Prelude.{◌≡◌, ◌≤◌, false};
+ghost use Rattle.sql_parse.specs.Calls.{tally_seen};
 ghost use Rattle.sql_parse.specs.Limits as limits;
 ghost use Rattle.sql_parse.specs.Limits.{IsFirstPast};
 ghost use Rattle.sql_parse.specs.Tokens.{marks};
@@ -37,7 +38,7 @@ impl Tally {
         requires places { self.places ≤ 4 }
         requires items { self.items ≤ 256 }
         requires most { self.most ≤ 256 }
-        ensures exact { result ≡ limits.counted self kind }
+        ensures exact { tally_seen result ≡ limits.counted (tally_seen self) kind }
         ensures most { result.most ≤ 256 }
     {
         match kind {
@@ -66,7 +67,7 @@ impl Tally {
     // Whether the place or the item that was announced last is one too many.
     #[tactic(auto, unfolding(crate::specs::Limits::is_past))]
     fn is_past(self) -> bool
-        ensures exact { result ≡ limits.is_past self }
+        ensures exact { result ≡ limits.is_past (tally_seen self) }
         ensures within { result ≡ false → (self.places ≤ 4) × (self.items ≤ self.most) }
     {
         self.places > MOST_PLACES || self.items > self.most

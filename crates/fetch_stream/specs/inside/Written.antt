@@ -10,12 +10,14 @@ use Rattle.ipc_batch.specs.Dressed.{IsDressed}
 use Rattle.dressed_batches.specs.Lengths.{bodies_length}
 use Rattle.flight_info.specs.Forms.{IsPlain}
 use Rattle.flight_info.specs.Payloads.{Payload, message_in}
+use Rattle.fetch_stream.specs.Fetches.{IsBare}
 use Rattle.fetch_stream.specs.Streams.{Parcel, most_body_bytes}
 
--- a payload carries this message
+-- a payload carries this message, and nothing else
 pub record Carries (payload : Payload) (message : Sent) : Type 0 where
   pub carried : DataSaid
   pub read : data_of payload ≡ Ok carried
+  pub bare : IsBare payload
   pub same : message_in carried ≡ message
 
 -- a payload says a schema and no more than it has to, as the first of payloads
