@@ -10,7 +10,6 @@ use Rattle.table_versions.specs.Database.{Database}
 use Rattle.flight_info.specs.Payloads.{Payload}
 use Rattle.fetch_stream.specs.Fetches.{HandleMeans, SayBeginning, SayDressed, FetchAt}
 use Rattle.fetch_stream.specs.Streams.{StreamAt, Parcel, SaySoFar, GivesParcel, Gives, MayRefuse, HasGiven, StreamsAnswer, opened}
-use Rattle.fetch_stream.specs.inside.Collected.{Collects}
 
 -- ---- one call
 
@@ -161,23 +160,3 @@ streams_answer = record {
   end = all_given;
   refused = λ database handle answer payloads stream fault means has why. stopped database handle answer payloads stream means has fault why;
 }
-
--- ---- the payloads of an answer, all together
-
--- up to where a stream is refused
-pub collected_before : (answer : Table) (payloads : List Payload) (before after : StreamAt) (fault : Fault) → (before.refused ≡ None) × HasGiven answer payloads before
-    → Gives before (Err fault) after → Collects answer payloads (Err fault)
-collected_before answer payloads before after fault has gives = record { stream = before; given = has.1; stops = was_refused before after fault has.0 gives }
-
--- or where memory was refused for what it gave
-pub collected_short : (answer : Table) (payloads : List Payload) (stream : StreamAt) → HasGiven answer payloads stream → Collects answer payloads (Err OutOfMemory)
-collected_short answer payloads stream has = record { stream = stream; given = has; stops = inl refl }
-
-pub collected_whole : (database : Database) (handle : HandleAt) (answer : Table) (payloads : List Payload) (done : Unit {0}) → HandleMeans database handle answer
-    → Collects answer payloads (Ok done) → FetchAt database handle payloads None
-collected_whole database handle answer payloads done means all = all_given database handle answer payloads all.stream means all.given all.stops.0 all.stops.1
-
-pub collected_large : (database : Database) (handle : HandleAt) (answer : Table) (payloads : List Payload) (fault : Fault) → fault ≡ ResultTooLarge → HandleMeans database handle answer
-    → Collects answer payloads (Err fault) → FetchAt database handle payloads (Some ResultTooLarge)
-collected_large database handle answer payloads fault is means all =
-    subst (λ (f : Fault). FetchAt database handle payloads (Some f)) is (stopped database handle answer payloads all.stream means all.given fault all.stops)

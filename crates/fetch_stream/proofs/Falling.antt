@@ -28,8 +28,8 @@ morsel_at scan count number begun there =
     ap (λ (rows : List Row). behind_schema scan.schema rows) (sym (get_or-map-range_with_len (morsel_rows scan) 0 count number number [] there here))
 
 -- a morsel of a source of rows is one
-pub is_part : (scan : ScanAt) (count number : ℕ) → FallsInto scan count → IsSource (Scanned (morsel_of scan number))
-is_part scan count number falls = record {
+pub is_part : (scan : ScanAt) (count number unseen : ℕ) → FallsInto scan count → IsSource (Scanned (record (morsel_of scan number) { unseen = unseen }))
+is_part scan count number unseen falls = record {
   schema = falls.source.schema;
   typed = falls.source.typed;
   short = short_part (list_any is_long_text) (λ (given : Option ℕ × Row). comes_of (batch_of scan number) given.0) scan.ahead falls.source.short;
@@ -57,7 +57,10 @@ pub source_of : (source : Source) (scan : ScanAt) → source ≡ Scanned scan �
 source_of source scan is goes = subst IsSource is goes
 
 -- the stream of a morsel, behind the payload of its schema
-pub behind_part : (scan : ScanAt) (number : ℕ) (nothing : List Row) (morsel : ScanAt) (stream last : StreamAt) → nothing ≡ [] → morsel ≡ morsel_of scan number
+pub behind_part : (scan : ScanAt) (number : ℕ) (nothing : List Row) (morsel : ScanAt) (stream last : StreamAt) → nothing ≡ [] → morsel ≡ record (morsel_of scan number) { unseen = morsel.unseen }
     → stream ≡ record { schema = morsel.schema; begun = false; left = nothing ++ left morsel; given = 0; refused = None } → last ≡ record stream { begun = true }
     → last ≡ behind_schema scan.schema (morsel_rows scan number)
-behind_part scan number nothing morsel stream last none is begins goes = goes ∙ ap (λ (s : StreamAt). record s { begun = true }) begins ∙ rw (none, is) refl
+behind_part scan number nothing morsel stream last none is begins goes =
+    let schema : morsel.schema ≡ scan.schema = ap (λ (s : ScanAt). s.schema) is in
+    let rows : left morsel ≡ morsel_rows scan number = ap left is in
+    goes ∙ ap (λ (s : StreamAt). record s { begun = true }) begins ∙ rw (none, schema, rows) refl

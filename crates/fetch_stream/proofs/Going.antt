@@ -10,10 +10,10 @@ use Rattle.table_versions.specs.Table.{Row, Table}
 use Rattle.flight_info.specs.Payloads.{Payload, FitMessages}
 use Rattle.flight_info.proofs.Fitting.{none_fit, one_fits}
 use Rattle.fetch_stream.specs.Fetches.{SayDressed}
-use Rattle.fetch_stream.specs.Streams.{StreamAt, Parcel, GivesParcel, GivesTurn, opened}
+use Rattle.fetch_stream.specs.Streams.{StreamAt, Parcel, GivesParcel, GivesTurn, LooksFor, opened}
 use Rattle.fetch_stream.specs.declared.cutter.Cutter.{Cutter}
 use Rattle.fetch_stream.specs.declared.source.Source.{Source}
-use Rattle.fetch_stream.specs.inside.Ahead.{IsGoing, schema_behind, rows_cut}
+use Rattle.fetch_stream.specs.inside.Ahead.{IsGoing, schema_behind, rows_cut, unseen_behind}
 use Rattle.fetch_stream.specs.inside.Steps.{GivesFirst, GivesRows, Waits, rows_left}
 use Rattle.fetch_stream.specs.inside.Written.{SaysRows, SaysSchema}
 use Rattle.fetch_stream.proofs.Streaming.{say_first, say_more, together_short}
@@ -99,7 +99,7 @@ gives_next patience cutter source Working new_cutter new true on waits = (
   refl,
   same_stream (schema_behind source) (schema_behind new) (rows_left cutter source) (rows_left new_cutter new) (rows_cut cutter source) (rows_cut new_cutter new)
       waits.0.keeps.schema waits.0.rows waits.0.same,
-  waits.1,
+  waits.1.0,
 )
 gives_next patience cutter source End new_cutter new false on ends = absurd cc
 gives_next patience cutter source End new_cutter new true on ends = (
@@ -117,6 +117,18 @@ gives_first patience schema (Given parcel) left count begun first within s =
     (gives_schema schema begun left count s.payload first within s.said s.fits)
 gives_first patience schema Working left count begun first within s = absurd s
 gives_first patience schema End left count begun first within s = absurd s
+
+-- what a turn looks at
+pub looks_next : (patience : Patience) (cutter : Cutter) (source : Source) (given : Turn Parcel) (new_cutter : Cutter) (new : Source) →
+    GivesRows patience cutter source (Ok given) new_cutter new → LooksFor patience (Ok given) (unseen_behind source) (unseen_behind new)
+looks_next patience cutter source (Given parcel) new_cutter new next = tt
+looks_next patience cutter source Working new_cutter new waits = waits.1.1
+looks_next patience cutter source End new_cutter new ends = tt
+
+pub looks_first : (patience : Patience) (schema : Schema) (given : Turn Parcel) (before after : ℕ) → GivesFirst schema (Ok given) → LooksFor patience (Ok given) before after
+looks_first patience schema (Given parcel) before after s = tt
+looks_first patience schema Working before after s = absurd s
+looks_first patience schema End before after s = absurd s
 
 -- what is left of a stream that goes on
 pub goes_on : (patience : Patience) (cutter : Cutter) (source : Source) (given : Turn Parcel) (new_cutter : Cutter) (new : Source) →

@@ -1,5 +1,4 @@
 pub mod Answering
-pub mod Collecting
 pub mod Falling
 pub mod Going
 pub mod MadeAhead

@@ -9,7 +9,7 @@ use Rattle.row_sources.specs.declared.turn.Turn.{Turn}
 use Rattle.row_sources.specs.declared.turn.Turn.TheVariants.{Given, Working, End}
 use Rattle.table_versions.specs.Table.{Row}
 use Rattle.table_versions.proofs.Storable.{first_false, second_false}
-use Rattle.fetch_stream.specs.Streams.{StreamAt, Parcel, Gives, GivesParcel, MayRefuse}
+use Rattle.fetch_stream.specs.Streams.{StreamAt, RunningAt, Parcel, Gives, GivesParcel, MayRefuse}
 use Rattle.fetch_stream.specs.declared.made.Made.{Made}
 use Rattle.fetch_stream.specs.inside.MadeAhead.{AreAhead, GivesMade, MakesNext, behind}
 use Rattle.fetch_stream.proofs.Answering.{ended}
@@ -48,47 +48,52 @@ module _ (schema : Schema) (rows : List Row) (given : ℕ) (parcel : Parcel) (af
   pub next_whole : after.given + length after.left ≡ length rows
   next_whole = omega (arith, gives.counted, gives.some refl, ap length gives.left, length-append gives.rows after.left, length-drop given rows)
 
-pub one_ahead : (patience : Patience) (schema : Schema) (rows : List Row) (given : ℕ) (next : Made) (after : StreamAt) → MakesNext patience (behind schema rows given) (Ok (Given next)) after → AreAhead schema rows given (next ∷ []) (Some after)
+pub one_ahead : (patience : Patience) (schema : Schema) (rows : List Row) (given : ℕ) (next : Made) (after : RunningAt) → MakesNext patience (behind schema rows given) (Ok (Given next)) after.stream → AreAhead schema rows given (next ∷ []) (Some after)
 one_ahead patience schema rows given next after makes =
-    let gives : GivesParcel (behind schema rows given) next.parcel after = makes.0 in
-    let stands : after ≡ behind schema rows next.given = next_stands schema rows given next.parcel after gives ∙ ap (λ (k : ℕ). behind schema rows k) (sym makes.1) in (
+    let gives : GivesParcel (behind schema rows given) next.parcel after.stream = makes.0 in
+    let stands : after.stream ≡ behind schema rows next.given = next_stands schema rows given next.parcel after.stream gives ∙ ap (λ (k : ℕ). behind schema rows k) (sym makes.1) in (
       subst (λ (s : StreamAt). GivesParcel (behind schema rows given) next.parcel s) stands gives,
       makes.2,
-      omega (arith, makes.3, next_whole schema rows given next.parcel after gives),
+      omega (arith, makes.3, next_whole schema rows given next.parcel after.stream gives),
       inl stands,
     )
 
-pub more_ahead : (patience : Patience) (schema : Schema) (rows : List Row) (given : ℕ) (made : List Made) (before after : StreamAt) (next : Made) → AreAhead schema rows given made (Some before)
-    → MakesNext patience before (Ok (Given next)) after → AreAhead schema rows given (made ++ next ∷ []) (Some after)
+pub more_ahead : (patience : Patience) (schema : Schema) (rows : List Row) (given : ℕ) (made : List Made) (before after : RunningAt) (next : Made) → AreAhead schema rows given made (Some before)
+    → MakesNext patience before.stream (Ok (Given next)) after.stream → AreAhead schema rows given (made ++ next ∷ []) (Some after)
 more_ahead patience schema rows given [] before after next (inl same) makes =
-    one_ahead patience schema rows given next after (subst (λ (s : StreamAt). MakesNext patience s (Ok (Given next)) after) same makes)
+    one_ahead patience schema rows given next after (subst (λ (s : StreamAt). MakesNext patience s (Ok (Given next)) after.stream) same makes)
 more_ahead patience schema rows given [] before after next (inr refused) makes =
-    absurd (let e = (stays_refused before after (Ok (Some next.parcel)) refused.0 refused.1 makes.0).0 in cc)
+    absurd (let e = (stays_refused before.stream after.stream (Ok (Some next.parcel)) refused.0 refused.1 makes.0).0 in cc)
 more_ahead patience schema rows given (made ∷ more) before after next all makes =
     (all.0, all.1, all.2, more_ahead patience schema rows made.given more before after next all.3 makes)
 
 -- ---- none more
 
+-- the rest is still to come
+same_ahead : (schema : Schema) (rows : List Row) (given : ℕ) (made : List Made) (before after : RunningAt) → AreAhead schema rows given made (Some before)
+    → after.stream ≡ before.stream → AreAhead schema rows given made (Some after)
+same_ahead schema rows given [] before after (inl same) e = inl (e ∙ same)
+same_ahead schema rows given [] before after (inr refused) e = inr (refused.0, ap (λ (s : StreamAt). s.refused) e ∙ refused.1, refused.2)
+same_ahead schema rows given (made ∷ more) before after all e = (all.0, all.1, all.2, same_ahead schema rows made.given more before after all.3 e)
+
 -- the rest gave nothing yet
-pub working_ahead : (patience : Patience) (schema : Schema) (rows : List Row) (given : ℕ) (made : List Made) (before after : StreamAt) → AreAhead schema rows given made (Some before)
-    → MakesNext patience before (Ok Working) after → AreAhead schema rows given made (Some after)
-working_ahead patience schema rows given made before after all makes =
-    subst (λ (s : StreamAt). AreAhead schema rows given made (Some s)) (sym makes.1) all
+pub working_ahead : (patience : Patience) (schema : Schema) (rows : List Row) (given : ℕ) (made : List Made) (before after : RunningAt) → AreAhead schema rows given made (Some before)
+    → MakesNext patience before.stream (Ok Working) after.stream → AreAhead schema rows given made (Some after)
+working_ahead patience schema rows given made before after all makes = same_ahead schema rows given made before after all makes.1
 
 -- or nothing at all
-pub ended_ahead : (schema : Schema) (rows : List Row) (given : ℕ) (made : List Made) (before after : StreamAt) → AreAhead schema rows given made (Some before)
-    → Gives before (Ok None) after → AreAhead schema rows given made (Some after)
-ended_ahead schema rows given made before after all gives =
-    subst (λ (s : StreamAt). AreAhead schema rows given made (Some s)) (sym (ended before after gives).2) all
+pub ended_ahead : (schema : Schema) (rows : List Row) (given : ℕ) (made : List Made) (before after : RunningAt) → AreAhead schema rows given made (Some before)
+    → Gives before.stream (Ok None) after.stream → AreAhead schema rows given made (Some after)
+ended_ahead schema rows given made before after all gives = same_ahead schema rows given made before after all (ended before.stream after.stream gives).2
 
 -- or was refused
-pub refused_ahead : (schema : Schema) (rows : List Row) (given : ℕ) (made : List Made) (before after : StreamAt) (fault : Fault) → AreAhead schema rows given made (Some before)
-    → Gives before (Err fault) after → AreAhead schema rows given made (Some after)
+pub refused_ahead : (schema : Schema) (rows : List Row) (given : ℕ) (made : List Made) (before after : RunningAt) (fault : Fault) → AreAhead schema rows given made (Some before)
+    → Gives before.stream (Err fault) after.stream → AreAhead schema rows given made (Some after)
 refused_ahead schema rows given [] before after fault (inl same) gives =
-    let refuses : MayRefuse (behind schema rows given) fault × (after.refused ≡ Some fault) = subst (λ (s : StreamAt). Gives s (Err fault) after) same gives in
+    let refuses : MayRefuse (behind schema rows given) fault × (after.stream.refused ≡ Some fault) = subst (λ (s : StreamAt). Gives s (Err fault) after.stream) same gives in
     inr (fault, refuses.1, refuses.0)
 refused_ahead schema rows given [] before after fault (inr refused) gives =
-    let stays = stays_refused before after (Err fault) refused.0 refused.1 gives in
+    let stays = stays_refused before.stream after.stream (Err fault) refused.0 refused.1 gives in
     inr (refused.0, ap (λ (s : StreamAt). s.refused) stays.1 ∙ refused.1, refused.2)
 refused_ahead schema rows given (made ∷ more) before after fault all gives =
     (all.0, all.1, all.2, refused_ahead schema rows made.given more before after fault all.3 gives)
@@ -96,30 +101,30 @@ refused_ahead schema rows given (made ∷ more) before after fault all gives =
 -- ---- what is given
 
 -- the first parcel that was made
-pub gives_first_made : (patience : Patience) (schema : Schema) (rows : List Row) (given : ℕ) (first : Made) (more : List Made) (rest : Option StreamAt) → AreAhead schema rows given (first ∷ more) rest
+pub gives_first_made : (patience : Patience) (schema : Schema) (rows : List Row) (given : ℕ) (first : Made) (more : List Made) (rest : Option RunningAt) → AreAhead schema rows given (first ∷ more) rest
     → GivesMade patience schema rows given (Ok (Given first)) more rest
 gives_first_made patience schema rows given first more rest all = all
 
 -- or that of the rest
-pub gives_rest : (patience : Patience) (schema : Schema) (rows : List Row) (given : ℕ) (before after : StreamAt) (result : Result (Turn Made) Fault) → AreAhead schema rows given [] (Some before)
-    → MakesNext patience before result after → GivesMade patience schema rows given result [] (Some after)
+pub gives_rest : (patience : Patience) (schema : Schema) (rows : List Row) (given : ℕ) (before after : RunningAt) (result : Result (Turn Made) Fault) → AreAhead schema rows given [] (Some before)
+    → MakesNext patience before.stream result after.stream → GivesMade patience schema rows given result [] (Some after)
 gives_rest patience schema rows given before after (Ok (Given next)) (inl same) makes =
-    one_ahead patience schema rows given next after (subst (λ (s : StreamAt). MakesNext patience s (Ok (Given next)) after) same makes)
+    one_ahead patience schema rows given next after (subst (λ (s : StreamAt). MakesNext patience s (Ok (Given next)) after.stream) same makes)
 gives_rest patience schema rows given before after (Ok (Given next)) (inr refused) makes =
-    absurd (let e = (stays_refused before after (Ok (Some next.parcel)) refused.0 refused.1 makes.0).0 in cc)
+    absurd (let e = (stays_refused before.stream after.stream (Ok (Some next.parcel)) refused.0 refused.1 makes.0).0 in cc)
 gives_rest patience schema rows given before after (Ok Working) (inl same) makes = (inl (makes.1 ∙ same), makes.2)
 gives_rest patience schema rows given before after (Ok Working) (inr refused) makes =
     absurd (let e = refused.1 in let none = makes.0 in cc)
 gives_rest patience schema rows given before after (Ok End) (inl same) makes =
-    let end = ended before after makes in
+    let end = ended before.stream after.stream makes in
     (sym (ap (λ (s : StreamAt). s.left) same) ∙ end.1, inl (end.2 ∙ same))
 gives_rest patience schema rows given before after (Ok End) (inr refused) makes =
-    absurd (let e = (stays_refused before after (Ok None) refused.0 refused.1 makes).0 in cc)
+    absurd (let e = (stays_refused before.stream after.stream (Ok None) refused.0 refused.1 makes).0 in cc)
 gives_rest patience schema rows given before after (Err fault) (inl same) makes =
-    let refuses : MayRefuse (behind schema rows given) fault × (after.refused ≡ Some fault) = subst (λ (s : StreamAt). Gives s (Err fault) after) same makes in
+    let refuses : MayRefuse (behind schema rows given) fault × (after.stream.refused ≡ Some fault) = subst (λ (s : StreamAt). Gives s (Err fault) after.stream) same makes in
     refuses.0
 gives_rest patience schema rows given before after (Err fault) (inr refused) makes =
-    let e = (stays_refused before after (Err fault) refused.0 refused.1 makes).0 in
+    let e = (stays_refused before.stream after.stream (Err fault) refused.0 refused.1 makes).0 in
     let same : fault ≡ refused.0 = cc in
     subst (λ (f : Fault). MayRefuse (behind schema rows given) f) (sym same) refused.2
 
@@ -129,16 +134,16 @@ none_dropped [] same = refl
 none_dropped (x ∷ xs) same = absurd (let long : length (x ∷ xs) ≡ length xs = ap length same in omega (arith, long))
 
 -- none was made, and the rest gives the next one
-pub gives_behind : (patience : Patience) (schema : Schema) (rows : List Row) (given : ℕ) (made more : List Made) (rest : Option StreamAt) (before after : StreamAt) (result : Result (Turn Made) Fault)
-    → made ≡ more → more ≡ drop 1 made → rest ≡ Some before → MakesNext patience before result after → AreAhead schema rows given made rest → GivesMade patience schema rows given result more (Some after)
+pub gives_behind : (patience : Patience) (schema : Schema) (rows : List Row) (given : ℕ) (made more : List Made) (rest : Option RunningAt) (before after : RunningAt) (result : Result (Turn Made) Fault)
+    → made ≡ more → more ≡ drop 1 made → rest ≡ Some before → MakesNext patience before.stream result after.stream → AreAhead schema rows given made rest → GivesMade patience schema rows given result more (Some after)
 gives_behind patience schema rows given made more rest before after result same none is makes all =
     let empty : more ≡ [] = none_dropped more (none ∙ ap (λ (l : List Made). drop 1 l) same) in
-    let there : AreAhead schema rows given made (Some before) = subst (λ (r : Option StreamAt). AreAhead schema rows given made r) is all in
+    let there : AreAhead schema rows given made (Some before) = subst (λ (r : Option RunningAt). AreAhead schema rows given made r) is all in
     let begins : AreAhead schema rows given [] (Some before) = subst (λ (m : List Made). AreAhead schema rows given m (Some before)) (same ∙ empty) there in
     subst (λ (m : List Made). GivesMade patience schema rows given result m (Some after)) (sym empty) (gives_rest patience schema rows given before after result begins makes)
 
 -- none is made at the beginning
-pub begins_ahead : (schema : Schema) (rows : List Row) (made : List Made) (rest : StreamAt) → made ≡ [] → rest ≡ behind schema rows 0 → AreAhead schema rows 0 made (Some rest)
+pub begins_ahead : (schema : Schema) (rows : List Row) (made : List Made) (rest : RunningAt) → made ≡ [] → rest.stream ≡ behind schema rows 0 → AreAhead schema rows 0 made (Some rest)
 begins_ahead schema rows made rest none same = subst (λ (m : List Made). AreAhead schema rows 0 m (Some rest)) (sym none) (inl same)
 
 -- ---- morsels of a scan

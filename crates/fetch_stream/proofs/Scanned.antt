@@ -167,24 +167,24 @@ refused_scan before fault (inr large) =
     inr (large.0, λ last. omega (arith, large.1, length-map before.ahead (λ (given : Option ℕ × Row). given.1)))
 
 scan_gives : (before after : ScanAt) (result : Result (Option BatchAt) Fault) → IsSource (Scanned before) → Gives before result after → GivesBatch (Scanned before) result (Scanned after)
-scan_gives before after result is gives = by before.schema before.types before.ahead before.batches before.opened before.given before.refused is.begins result is gives
+scan_gives before after result is gives = by before.schema before.types before.ahead before.batches before.opened before.given before.unseen before.refused is.begins result is gives
   where
-    by : (schema : Schema) (types : List DataType) (ahead : List (Option ℕ × Row)) (batches opened : List (ℕ × ℕ)) (given : ℕ) (refused : Option Fault) → refused ≡ None
+    by : (schema : Schema) (types : List DataType) (ahead : List (Option ℕ × Row)) (batches opened : List (ℕ × ℕ)) (given unseen : ℕ) (refused : Option Fault) → refused ≡ None
         → (result : Result (Option BatchAt) Fault)
-        → IsSource (Scanned (record { schema = schema; types = types; ahead = ahead; batches = batches; opened = opened; given = given; refused = refused }))
-        → Gives (record { schema = schema; types = types; ahead = ahead; batches = batches; opened = opened; given = given; refused = refused }) result after
-        → GivesBatch (Scanned (record { schema = schema; types = types; ahead = ahead; batches = batches; opened = opened; given = given; refused = refused })) result (Scanned after)
-    by schema types ahead batches opened given (Some fault) none result is gives = absurd cc
-    by schema types ahead batches opened given None none (Ok (Some batch)) is gives =
-        gives_batch (record { schema = schema; types = types; ahead = ahead; batches = batches; opened = opened; given = given; refused = None }) after batch is gives
-    by schema types ahead batches opened given None none (Ok None) is gives =
-        let scan : ScanAt = record { schema = schema; types = types; ahead = ahead; batches = batches; opened = opened; given = given; refused = None } in
-        let same : record { schema = schema; types = types; ahead = ahead; batches = batches; opened = batches; given = given; refused = None } ≡ after = sym gives.1 in
+        → IsSource (Scanned (record { schema = schema; types = types; ahead = ahead; batches = batches; opened = opened; given = given; refused = refused; unseen = unseen }))
+        → Gives (record { schema = schema; types = types; ahead = ahead; batches = batches; opened = opened; given = given; refused = refused; unseen = unseen }) result after
+        → GivesBatch (Scanned (record { schema = schema; types = types; ahead = ahead; batches = batches; opened = opened; given = given; refused = refused; unseen = unseen })) result (Scanned after)
+    by schema types ahead batches opened given unseen (Some fault) none result is gives = absurd cc
+    by schema types ahead batches opened given unseen None none (Ok (Some batch)) is gives =
+        gives_batch (record { schema = schema; types = types; ahead = ahead; batches = batches; opened = opened; given = given; refused = None; unseen = unseen }) after batch is gives
+    by schema types ahead batches opened given unseen None none (Ok None) is gives =
+        let scan : ScanAt = record { schema = schema; types = types; ahead = ahead; batches = batches; opened = opened; given = given; refused = None; unseen = unseen } in
+        let same : record { schema = schema; types = types; ahead = ahead; batches = batches; opened = batches; given = given; refused = None; unseen = after.unseen } ≡ after = sym gives.1 in
         let nothing : left scan ≡ [] = ap (map (λ (some : Option ℕ × Row). some.1)) gives.0 in
         subst (λ (end : ScanAt). GoesOn (Scanned scan) (Scanned end) × (left scan ≡ []) × (left end ≡ []) × ((last : BatchAt) → end.given ≡ given)) same
         (record { source = record { schema = is.schema; typed = is.typed; short = is.short; begins = refl }; schema = refl }, nothing, nothing, λ last. refl)
-    by schema types ahead batches opened given None none (Err fault) is gives =
-        refused_scan (record { schema = schema; types = types; ahead = ahead; batches = batches; opened = opened; given = given; refused = None }) fault gives.0
+    by schema types ahead batches opened given unseen None none (Err fault) is gives =
+        refused_scan (record { schema = schema; types = types; ahead = ahead; batches = batches; opened = opened; given = given; refused = None; unseen = unseen }) fault gives.0
 
 -- nothing yet
 none_yet : (before after : ScanAt) → IsSource (Scanned before) → of_scan.GivesNoneYet before after → GivesNoneYet (Scanned before) (Scanned after)

@@ -7,7 +7,7 @@ use Rattle.scan_base.specs.Limits.{most_answer_rows}
 use Rattle.scan_base.specs.Lists.{each}
 use Rattle.arrow_schema.specs.declared.schema.Schema.{Schema}
 use Rattle.row_sources.specs.declared.turn.Patience.{Patience}
-use Rattle.row_sources.specs.declared.turn.Patience.TheVariants.{Endless}
+use Rattle.row_sources.specs.declared.turn.Patience.TheVariants.{Endless, Choice}
 use Rattle.row_sources.specs.declared.turn.Turn.{Turn}
 use Rattle.row_sources.specs.declared.turn.Turn.TheVariants.{Given, Working, End}
 use Rattle.table_versions.specs.Table.{Row, Table}
@@ -34,6 +34,11 @@ pub record StreamAt : Type 0 where
   pub left : List Row
   pub given : ℕ
   pub refused : Option Fault
+
+-- a stream as it runs: what is still to come, and how many rows its turns have still to look at
+pub record RunningAt : Type 0 where
+  pub stream : StreamAt
+  pub unseen : ℕ
 
 -- payloads that are given together
 abbrev pub Parcel : Type 0
@@ -104,6 +109,11 @@ GivesTurn patience before (Ok (Given parcel)) after = Gives before (Ok (Some par
 GivesTurn patience before (Ok Working) after = (before.refused ≡ None) × (after ≡ before) × (patience ≢ Endless)
 GivesTurn patience before (Ok End) after = Gives before (Ok None) after
 GivesTurn patience before (Err fault) after = Gives before (Err fault) after
+
+-- A turn that gives nothing yet looked at one row or more, unless it ends at a choice.
+abbrev pub LooksFor : Patience → Result (Turn Parcel) Fault → ℕ → ℕ → Type 0
+LooksFor patience (Ok Working) before after = patience ≢ Choice → after < before
+LooksFor patience result before after = Unit {0}
 
 -- a stream of an answer has given these payloads
 pub record HasGiven (answer : Table) (payloads : List Payload) (stream : StreamAt) : Type 0 where

@@ -1,6 +1,5 @@
 -- What contracts of this crate's private functions alone cite.
 pub mod Ahead
-pub mod Collected
 pub mod Cut
 pub mod Given
 pub mod MadeAhead

@@ -5,7 +5,7 @@ ghost use Rattle.arrow_schema.specs.declared.schema.Schema.{Schema};
 ghost use Rattle.table_versions.specs.Table.{Row};
 ghost use Rattle.scan_exec.specs.Morsels.{morsel_rows};
 ghost use Rattle.fetch_stream.specs.Morsels.{behind_schema};
-ghost use Rattle.fetch_stream.specs.Streams.{Gives, GivesTurn};
+ghost use Rattle.fetch_stream.specs.Streams.{GivesTurn};
 ghost use Rattle.fetch_stream.specs.inside.MadeAhead.{AreAhead, GivesMade, MakesNext};
 
 use crate::made::Made;
@@ -102,28 +102,13 @@ impl<'s> Ahead<'s> {
         self.taken
     }
 
-    /// The next parcel, and `None` behind the last one. What refuses it is answered from then on.
-    ///
-    /// # Errors
-    ///
-    /// F20 (`Fault::ResultTooLarge`) where the morsel has more than 67,108,864 rows; F21 (`Fault::OutOfMemory`) where memory is
-    /// refused, or was when parcels were made ahead.
-    pub fn next(&mut self, alloc: Global) -> Result<Option<Parcel>, Fault>
-        ensures { Gives self.old result self.new }
-    {
-        match self.turn(alloc, Patience::Endless)? {
-            Turn::Given(parcel) => Ok(Some(parcel)),
-            Turn::Working => Ok(None),
-            Turn::End => Ok(None),
-        }
-    }
-
     /// A turn to the next parcel. `Turn::Working` where none of the rows is given that the turn looked at: then the same is
     /// still to come, and the next turn goes on behind them.
     ///
     /// # Errors
     ///
-    /// Those of `next`.
+    /// F20 (`Fault::ResultTooLarge`) where the morsel has more than 67,108,864 rows; F21 (`Fault::OutOfMemory`) where memory is
+    /// refused, or was when parcels were made ahead. What refuses it is answered from then on.
     pub fn turn(&mut self, alloc: Global, patience: Patience) -> Result<Turn<Parcel>, Fault>
         ensures { GivesTurn patience self.old result self.new }
     {
@@ -197,7 +182,7 @@ fn make_next(
     patience: Patience,
     stream: &mut FetchStream,
 ) -> Result<Turn<Made>, Fault>
-    ensures { MakesNext patience stream.old result stream.new }
+    ensures { MakesNext patience stream.old.stream result stream.new.stream }
 {
     let parcel = match stream.turn(alloc, patience)? {
         Turn::Given(parcel) => parcel,
@@ -271,7 +256,7 @@ pub(crate) fn made_ahead<'s>(
     number: usize,
     stream: Result<FetchStream, AllocError>,
 ) -> Ahead<'s>
-    requires { IfOk stream (λ stream. stream ≡ behind_schema scan.now.schema (morsel_rows scan.now number)) }
+    requires { IfOk stream (λ stream. stream.stream ≡ behind_schema scan.now.schema (morsel_rows scan.now number)) }
     ensures { result ≡ behind_schema scan.now.schema (morsel_rows scan.now number) }
 {
     let made = room_ahead(alloc);

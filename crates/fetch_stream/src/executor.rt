@@ -1,8 +1,8 @@
 //! Who makes the payloads of a stream, and who reads them.
 
-ghost use Rattle.std.specs.Prelude.{◌≡◌, IfOk, Result, OnOk};
+ghost use Rattle.std.specs.Prelude.{◌≡◌, ◌⊎◌, ℕ, IfOk, Result, OnOk};
 ghost use Rattle.scan_base.specs.declared.fault.Fault.{Fault as FaultAt};
-ghost use Rattle.fetch_stream.specs.Streams.{StreamAt, Gives, GivesTurn};
+ghost use Rattle.fetch_stream.specs.Streams.{StreamAt, GivesTurn, LooksFor};
 
 use crate::parcel::Parcel;
 use crate::stream::FetchStream;
@@ -17,36 +17,31 @@ pub trait Payloads {
     // What is still to come of the answer.
     ghost stream: { Self → StreamAt };
 
-    /// The next parcel, as that of a [`FetchStream`], and `None` behind the last one.
+    // How many rows its turns have still to look at.
+    ghost unseen: { Self → ℕ };
+
+    // That a turn may give nothing since others are at work.
+    ghost waits: { Self → Type 0 };
+
+    /// A turn to the next parcel, as that of a [`FetchStream`].
     ///
     /// # Errors
     ///
     /// F20 (`Fault::ResultTooLarge`) where the answer has more than 67,108,864 rows, behind a beginning of it; F21
     /// (`Fault::OutOfMemory`) where memory is refused. What refuses payloads is answered from then on.
-    fn next(&mut self, alloc: Global) -> Result<Option<Parcel>, Fault>
-        ensures { Gives (stream self.old) result (stream self.new) };
-
-    /// A turn to the next parcel, as that of a [`FetchStream`]. An impl that leaves it out finds a parcel or the end in each.
-    ///
-    /// # Errors
-    ///
-    /// Those of `next`.
-    fn turn(&mut self, alloc: Global, _patience: Patience) -> Result<Turn<Parcel>, Fault>
-        ensures { GivesTurn _patience (stream self.old) result (stream self.new) }
-    {
-        match self.next(alloc)? {
-            Some(parcel) => Ok(Turn::Given(parcel)),
-            None => Ok(Turn::End),
-        }
-    }
+    fn turn(&mut self, alloc: Global, patience: Patience) -> Result<Turn<Parcel>, Fault>
+        ensures turns { GivesTurn patience (stream self.old) result (stream self.new) }
+        ensures looks { waits self.old ⊎ LooksFor patience result (unseen self.old) (unseen self.new) };
 }
 
 impl Payloads for FetchStream {
-    ghost stream = { λ s. s };
+    ghost use Rattle.std.specs.Prelude.{⊥};
 
-    fn next(&mut self, alloc: Global) -> Result<Option<Parcel>, Fault> {
-        FetchStream::next(self, alloc)
-    }
+    ghost stream = { λ s. s.stream };
+
+    ghost unseen = { λ s. s.unseen };
+
+    ghost waits = { λ _. ⊥ };
 
     fn turn(&mut self, alloc: Global, patience: Patience) -> Result<Turn<Parcel>, Fault> {
         FetchStream::turn(self, alloc, patience)
@@ -85,7 +80,7 @@ pub trait Executor {
         reader: &mut S,
     ) -> Result<(), Fault>
         requires { S.takes reader.old }
-        ensures { S.reads reader.old stream result reader.new };
+        ensures { S.reads reader.old stream.stream result reader.new };
 
     /// Has what a stream needs before its rows made: the groups of a grouped query. Who watches may end it. What it gives is the
     /// same, made or not.
@@ -100,7 +95,7 @@ pub trait Executor {
         watch: &mut W,
     ) -> Result<FetchStream, AllocError>
         requires ready { W.ready watch.old }
-        ensures stream { IfOk result (λ readied. readied ≡ stream) }
+        ensures stream { IfOk result (λ readied. readied.stream ≡ stream.stream) }
         ensures ready { OnOk result (W.ready watch.new) }
         ensures watched { W.watched watch.old watch.new };
 }

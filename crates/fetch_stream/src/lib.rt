@@ -21,7 +21,7 @@ mod work;
 
 pub use crate::ahead::Ahead;
 pub use crate::executor::{Execution, Executor, OneWorker, Payloads, ReadsPayloads};
-pub use crate::fetch::{answer_fetch, read_ticket, version_of};
+pub use crate::fetch::{read_ticket, version_of};
 pub use crate::morsels::Morsels;
 pub use crate::opening::Opening;
 pub use crate::parcel::Parcel;

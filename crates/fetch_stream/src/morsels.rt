@@ -127,7 +127,7 @@ impl<'s> Morsels<'s> {
 // The stream of a morsel of a scan, before its first row.
 fn morsel_rest(writing: Writing, scan: &Scan, number: usize) -> Result<FetchStream, AllocError>
     requires falls { (count : ℕ) × FallsInto scan.now count × (number < count) }
-    ensures { IfOk result (λ stream. stream ≡ behind_schema scan.now.schema (morsel_rows scan.now number)) }
+    ensures { IfOk result (λ stream. stream.stream ≡ behind_schema scan.now.schema (morsel_rows scan.now number)) }
 {
     let Writing { alloc, seed } = writing;
     let morsel = scan.morsel(alloc, number)?;

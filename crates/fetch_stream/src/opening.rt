@@ -33,7 +33,7 @@ use std::alloc::{AllocError, Global};
 use std::marker::Model;
 use table_versions::{CatalogVersion, Snapshot};
 use typed_plan::{Output, Plan, TypedPlan};
-use work_watch::{Unwatched, Watches, comparisons_in};
+use work_watch::{Watches, comparisons_in};
 
 // How many rows of a place are joined or grouped in no time that shows.
 const FEW_ROWS: usize = 64;
@@ -176,18 +176,7 @@ impl Opening {
         }
     }
 
-    /// The stream. Batches are judged by their statistics here, and the further places of a join are read.
-    ///
-    /// # Errors
-    ///
-    /// `AllocError` where memory is refused.
-    pub fn stream(self, alloc: Global) -> Result<FetchStream, AllocError>
-        ensures { IfOk result (λ stream. stream ≡ self) }
-    {
-        self.stream_watched(alloc, &mut Unwatched)
-    }
-
-    /// The same, watched: who watches may end it while batches are judged, and while the further places of a join are read.
+    /// The stream. Batches are judged by their statistics here, and the further places of a join are read. Who watches may end it then.
     ///
     /// # Errors
     ///
@@ -198,7 +187,7 @@ impl Opening {
         watch: &mut W,
     ) -> Result<FetchStream, AllocError>
         requires ready { W.ready watch.old }
-        ensures stream { IfOk result (λ stream. stream ≡ self) }
+        ensures stream { IfOk result (λ stream. stream.stream ≡ self) }
         ensures ready { OnOk result (W.ready watch.new) }
         ensures watched { W.watched watch.old watch.new }
     {
@@ -221,7 +210,7 @@ impl Meaning {
     fn stream<W: Watches>(self, alloc: Global, watch: &mut W) -> Result<FetchStream, AllocError>
         requires meaning { IsMeaning self }
         requires ready { W.ready watch.old }
-        ensures stream { IfOk result (λ stream. stream ≡ stream_meant self) }
+        ensures stream { IfOk result (λ stream. stream.stream ≡ stream_meant self) }
         ensures ready { OnOk result (W.ready watch.new) }
         ensures watched { W.watched watch.old watch.new }
     {
@@ -237,7 +226,7 @@ impl PlannedScan {
     fn stream<W: Watches>(self, alloc: Global, watch: &mut W) -> Result<FetchStream, AllocError>
         requires schema { IsSchema self.plan.schema }
         requires ready { W.ready watch.old }
-        ensures stream { IfOk result (λ stream. stream ≡ before_schema self.plan.schema (rows_meant self)) }
+        ensures stream { IfOk result (λ stream. stream.stream ≡ before_schema self.plan.schema (rows_meant self)) }
         ensures ready { OnOk result (W.ready watch.new) }
         ensures watched { W.watched watch.old watch.new }
     {

@@ -7,9 +7,9 @@ ghost use Rattle.fetch_stream.specs.inside.Given.{GivesNoneYet, TurnsBatch};
 
 use arrays::Batch;
 use arrow_schema::Schema;
-use row_sources::Turn;
+use row_sources::{Patience, Turn};
 use scan_base::Fault;
-use scan_exec::{GroupsBatches, Making, Scan};
+use scan_exec::{GroupsBatches, Scan};
 use std::alloc::{AllocError, Global};
 use work_watch::Watches;
 
@@ -81,16 +81,12 @@ impl Source {
     ///
     /// F20 (`Fault::ResultTooLarge`) where the answer has more than 67,108,864 rows, and F21 (`Fault::OutOfMemory`) where
     /// memory is refused; and from then on.
-    pub(crate) fn turn<G: GroupsBatches>(
-        &mut self,
-        alloc: Global,
-        making: Making<'_, G>,
-    ) -> Result<Turn<Batch>, Fault>
+    pub(crate) fn turn(&mut self, alloc: Global, patience: Patience) -> Result<Turn<Batch>, Fault>
         requires { IsSource self.old }
-        ensures { TurnsBatch making.entry.patience self.old result self.new }
+        ensures { TurnsBatch patience self.old result self.new }
     {
         match self {
-            Source::Scanned(scan) => scan.turn_by(alloc, making),
+            Source::Scanned(scan) => scan.turn(alloc, patience),
             Source::Listed(_) => Ok(Turn::End),
         }
     }

@@ -1,19 +1,12 @@
 //! Streams: an answer, one parcel at a time.
 
-ghost use Rattle.std.specs.Prelude.{◌≡◌, ◌≢◌, ◌≤◌, ◌<◌, ◌+◌, ◌++◌, true, false, None, length, nat_le, Err, IfOk, IfErr, IfSome, OnOk};
+ghost use Rattle.std.specs.Prelude.{◌≡◌, ◌≤◌, ◌<◌, ◌+◌, ◌++◌, false, None, length, IfOk, IfSome, OnOk};
 ghost use Rattle.std.specs.List.{list_any};
-ghost use Rattle.scan_base.specs.declared.fault.Fault.TheVariants.{BadTicket, LimitReached, OutOfMemory};
-ghost use Rattle.scan_base.specs.Limits.{most_answer_rows, most_query_bytes};
-ghost use Rattle.scan_base.specs.Reading.{RefusesFirst, demand};
-ghost use Rattle.endpoint_split.specs.Seen.{handle_seen};
+ghost use Rattle.scan_base.specs.Limits.{most_answer_rows};
 ghost use Rattle.arrow_schema.specs.Schema.{IsSchema};
 ghost use Rattle.arrays.specs.Batch.{rows_of};
-ghost use Rattle.table_versions.specs.Table.{Table, is_long_text};
-ghost use Rattle.table_versions.specs.Stored.{tables_of};
-ghost use Rattle.flight_info.specs.Meant.{Meant};
-ghost use Rattle.flight_info.specs.Tables.{tables_listed};
-ghost use Rattle.fetch_stream.specs.Fetches.{may_mean};
-ghost use Rattle.fetch_stream.specs.Streams.{Gives, GivesTurn, Opens, opened};
+ghost use Rattle.table_versions.specs.Table.{is_long_text};
+ghost use Rattle.fetch_stream.specs.Streams.{Gives, GivesTurn, LooksFor};
 ghost use Rattle.fetch_stream.specs.Morsels.{whole_stream};
 ghost use Rattle.fetch_stream.specs.inside.Ahead.{IsGoing, IsSource, AnsweredAs, schema_behind, left_behind, rows_taken};
 ghost use Rattle.fetch_stream.specs.inside.Steps.{GivesFirst, Refills, GivesRows};
@@ -21,26 +14,23 @@ ghost use Rattle.fetch_stream.specs.inside.Steps.{GivesFirst, Refills, GivesRows
 use crate::cutter::Cutter;
 use crate::message::{Writing, schema_payload};
 use crate::morsels::{MakingMorsels, Morsels};
-use crate::opening::Opening;
 use crate::parcel::Parcel;
 use crate::source::Source;
 use crate::work::Work;
 use arrays::Batch;
 use arrays::laws::batch_slices_keep_rows;
 use arrow_schema::Schema;
-use endpoint_split::Handle;
 use hash_seed::HashSeed;
 use row_sources::{Patience, Turn};
 use scan_base::Fault;
-use scan_exec::{GroupsBatches, InOneWalk, Making};
+use scan_exec::GroupsBatches;
 use std::alloc::{AllocError, Global};
 use std::marker::Model;
-use table_versions::Snapshot;
 use work_watch::Watches;
 
 /// The answer to a handle, one parcel at a time: the message of its schema, and then record batches, each right behind its
-/// dictionaries. A contract sees what is still to come, and what refused the stream. It shares the tables of its version, and
-/// holds no message.
+/// dictionaries. A contract sees what is still to come, what refused the stream, and how many rows its turns have still to look at. It
+/// shares the tables of its version, and holds no message.
 pub struct FetchStream {
     begun: bool,
     cutter: Cutter,
@@ -54,17 +44,20 @@ pub struct FetchStream {
 
 impl Model for FetchStream {
     ghost use Rattle.std.specs.Prelude.{◌≡◌, ◌++◌, None};
-    ghost use Rattle.fetch_stream.specs.Streams.{StreamAt};
-    ghost use Rattle.fetch_stream.specs.inside.Ahead.{IsGoing, schema_behind, left_behind, rows_cut, uncut};
+    ghost use Rattle.fetch_stream.specs.Streams.{RunningAt};
+    ghost use Rattle.fetch_stream.specs.inside.Ahead.{IsGoing, schema_behind, left_behind, rows_cut, uncut, unseen_behind};
 
-    ghost Value = { StreamAt };
+    ghost Value = { RunningAt };
 
     ghost view = { λ s. record {
-      schema = schema_behind s.source;
-      begun = s.begun;
-      left = uncut s.cutter ++ left_behind s.source;
-      given = rows_cut s.cutter s.source;
-      refused = s.refused;
+      stream = record {
+        schema = schema_behind s.source;
+        begun = s.begun;
+        left = uncut s.cutter ++ left_behind s.source;
+        given = rows_cut s.cutter s.source;
+        refused = s.refused;
+      };
+      unseen = unseen_behind s.source;
     } };
 
     ghost invariant = { λ s. s.refused ≡ None → IsGoing s.cutter s.source };
@@ -92,7 +85,7 @@ impl FetchStream {
         requires short { list_any (list_any is_long_text) (rows_of batch) ≡ false }
         requires all { rows_taken batch source ≡ batch.rows }
         requires few { batch.rows ≤ most_answer_rows }
-        ensures { result ≡ record {
+        ensures { result.stream ≡ record {
           schema = schema_behind source;
           begun = false;
           left = rows_of batch ++ left_behind source;
@@ -135,7 +128,7 @@ impl FetchStream {
 
     /// The same stream, behind the payload of its schema, for who gives that payload otherwise (`Opening::first_payload`).
     pub fn behind_schema(self) -> FetchStream
-        ensures { result ≡ record self { begun = true } }
+        ensures { result.stream ≡ record self.stream { begun = true } }
     {
         let FetchStream {
             begun: _,
@@ -153,29 +146,6 @@ impl FetchStream {
             seed,
             work,
         }
-    }
-
-    /// The stream of the answer to a handle at a version of the catalog. The list of
-    /// tables has a row for each table of this version, in byte order of the names. So many workers may make its
-    /// parcels, if an executor lets them: what it gives is the same for any number.
-    ///
-    /// # Errors
-    ///
-    /// F17 (`Fault::BadTicket`) where the query does not parse or is not bound at this version, or the range is not within the
-    /// rows of its first place. Also where the query makes groups and the range is not all of them, so never for the list of
-    /// tables. F21 (`Fault::OutOfMemory`) where memory is refused, but neither for a query of more than 16,384 bytes nor for a
-    /// range that ends before it begins.
-    pub fn new(
-        alloc: Global,
-        snapshot: &Snapshot,
-        handle: &Handle<'_>,
-        workers: usize,
-    ) -> Result<FetchStream, Fault>
-        ensures opens { Opens (tables_of snapshot.now.catalog) (handle_seen handle.now) result }
-        ensures first { may_mean (handle_seen handle.now) ≡ false → result ≡ Err BadTicket }
-    {
-        let opening = Opening::new(alloc, snapshot, handle, workers)?;
-        Ok(opening.stream(alloc)?)
     }
 
     /// How many workers may make its payloads at most.
@@ -197,15 +167,15 @@ impl FetchStream {
 
     // The schema of the answer.
     pub(crate) fn schema(&self) -> &Schema
-        ensures is { result.now ≡ self.now.schema }
-        ensures valid { self.now.refused ≡ None → IsSchema result.now }
+        ensures is { result.now ≡ self.now.stream.schema }
+        ensures valid { self.now.stream.refused ≡ None → IsSchema result.now }
     {
         self.source.schema()
     }
 
     /// How many rows were given.
     pub fn given(&self) -> usize
-        ensures { result ≡ self.now.given }
+        ensures { result ≡ self.now.stream.given }
     {
         let rows = self.cutter.batch.rows();
         let uncut = rows.saturating_sub(self.cutter.at);
@@ -214,8 +184,8 @@ impl FetchStream {
 
     // How many rows were taken of the source: those that were given, and what is left of the batch that is being cut.
     pub(crate) fn taken(&self) -> usize
-        ensures given { self.now.given ≤ result }
-        ensures there { result ≤ self.now.given + length self.now.left }
+        ensures given { self.now.stream.given ≤ result }
+        ensures there { result ≤ self.now.stream.given + length self.now.stream.left }
     {
         batch_slices_keep_rows();
         self.source.taken(self.cutter.batch.rows())
@@ -224,7 +194,7 @@ impl FetchStream {
     /// The morsels of a stream of which no row was given: `None` for the list of tables, for groups, and for a stream whose rows
     /// are begun or that was refused.
     pub fn morsels(&self) -> Option<Morsels<'_>>
-        ensures { IfSome result (λ morsels. self.now ≡ whole_stream morsels) }
+        ensures { IfSome result (λ morsels. self.now.stream ≡ whole_stream morsels) }
     {
         batch_slices_keep_rows();
         let Source::Scanned(scan) = &self.source else {
@@ -256,7 +226,7 @@ impl FetchStream {
         watch: &mut W,
     ) -> Result<FetchStream, AllocError>
         requires ready { W.ready watch.old }
-        ensures stream { IfOk result (λ stream. stream ≡ self) }
+        ensures stream { IfOk result (λ stream. stream.stream ≡ self.stream) }
         ensures ready { OnOk result (W.ready watch.new) }
         ensures watched { W.watched watch.old watch.new }
     {
@@ -291,25 +261,9 @@ impl FetchStream {
     /// F20 (`Fault::ResultTooLarge`) where the answer has more than 67,108,864 rows, behind a beginning of it; F21
     /// (`Fault::OutOfMemory`) where memory is refused.
     pub fn next(&mut self, alloc: Global) -> Result<Option<Parcel>, Fault>
-        ensures { Gives self.old result self.new }
+        ensures { Gives self.old.stream result self.new.stream }
     {
-        self.next_by(alloc, &InOneWalk)
-    }
-
-    /// The same, where the groups of a grouped query are made by the one that is handed in, before the first parcel of them.
-    ///
-    /// # Errors
-    ///
-    /// Those of `next`.
-    pub fn next_by<G: GroupsBatches>(
-        &mut self,
-        alloc: Global,
-        by: &G,
-    ) -> Result<Option<Parcel>, Fault>
-        ensures { Gives self.old result self.new }
-    {
-        let patience = Patience::Endless;
-        match self.turn_by(alloc, Making { by, patience })? {
+        match self.turn(alloc, Patience::Endless)? {
             Turn::Given(parcel) => Ok(Some(parcel)),
             Turn::Working => Ok(None),
             Turn::End => Ok(None),
@@ -317,29 +271,14 @@ impl FetchStream {
     }
 
     /// A turn to the next parcel. `Turn::Working` where none of the rows is given that the turn looked at: then the same is
-    /// still to come, and the next turn goes on behind them.
+    /// still to come, and the next turn goes on behind them. Groups that were not made before are made in one turn.
     ///
     /// # Errors
     ///
     /// Those of `next`.
     pub fn turn(&mut self, alloc: Global, patience: Patience) -> Result<Turn<Parcel>, Fault>
-        ensures { GivesTurn patience self.old result self.new }
-    {
-        let by = &InOneWalk;
-        self.turn_by(alloc, Making { by, patience })
-    }
-
-    /// The same, where the groups of a grouped query are made by the one that is handed in, in one turn.
-    ///
-    /// # Errors
-    ///
-    /// Those of `next`.
-    pub fn turn_by<G: GroupsBatches>(
-        &mut self,
-        alloc: Global,
-        making: Making<'_, G>,
-    ) -> Result<Turn<Parcel>, Fault>
-        ensures { GivesTurn making.entry.patience self.old result self.new }
+        ensures turns { GivesTurn patience self.old.stream result self.new.stream }
+        ensures looks { LooksFor patience result self.old.unseen self.new.unseen }
     {
         if let Some(fault) = self.refused {
             return Err(fault);
@@ -349,7 +288,7 @@ impl FetchStream {
                 alloc,
                 seed: self.seed,
             };
-            turn_of_rows(writing, making, &mut self.cutter, &mut self.source)
+            turn_of_rows(writing, patience, &mut self.cutter, &mut self.source)
         } else {
             first_parcel(alloc, self.source.schema())
         };
@@ -371,20 +310,20 @@ fn first_parcel(alloc: Global, schema: &Schema) -> Result<Turn<Parcel>, Fault>
 }
 
 // A turn to the next batch, where the last one was given whole.
-fn refill<G: GroupsBatches>(
+fn refill(
     alloc: Global,
-    making: Making<'_, G>,
+    patience: Patience,
     cutter: &mut Cutter,
     source: &mut Source,
 ) -> Result<Turn<()>, Fault>
     requires { IsGoing cutter.old source.old }
-    ensures { Refills making.entry.patience cutter.old source.old result cutter.new source.new }
+    ensures { Refills patience cutter.old source.old result cutter.new source.new }
 {
     batch_slices_keep_rows();
     if cutter.at < cutter.batch.rows() {
         return Ok(Turn::Given(()));
     }
-    match source.turn(alloc, making)? {
+    match source.turn(alloc, patience)? {
         Turn::Given(batch) => {
             *cutter = Cutter::new(batch);
             Ok(Turn::Given(()))
@@ -395,17 +334,17 @@ fn refill<G: GroupsBatches>(
 }
 
 // A turn to the parcel of the next rows.
-fn turn_of_rows<G: GroupsBatches>(
+fn turn_of_rows(
     writing: Writing,
-    making: Making<'_, G>,
+    patience: Patience,
     cutter: &mut Cutter,
     source: &mut Source,
 ) -> Result<Turn<Parcel>, Fault>
     requires { IsGoing cutter.old source.old }
-    ensures { GivesRows making.entry.patience cutter.old source.old result cutter.new source.new }
+    ensures { GivesRows patience cutter.old source.old result cutter.new source.new }
 {
     batch_slices_keep_rows();
-    match refill(writing.alloc, making, cutter, source)? {
+    match refill(writing.alloc, patience, cutter, source)? {
         Turn::Given(_) => Ok(Turn::Given(cutter.next(writing, source.schema())?)),
         Turn::Working => Ok(Turn::Working),
         Turn::End => Ok(Turn::End),

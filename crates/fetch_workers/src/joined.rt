@@ -51,13 +51,10 @@ impl<'x, 'a, A: Part, P: Answers<A>> Model for Joined<'x, 'a, A, P> {
 impl<'x, 'a, A: Part, P: Answers<A>> Payloads for Joined<'x, 'a, A, P> {
     ghost stream = { λ s. s };
 
-    fn next(&mut self, alloc: Global) -> Result<Option<Parcel>, Fault> {
-        match self.turn(alloc, Patience::Endless)? {
-            Turn::Given(parcel) => Ok(Some(parcel)),
-            Turn::Working => Ok(None),
-            Turn::End => Ok(None),
-        }
-    }
+    // How many rows the workers have still to look at is not told.
+    ghost unseen = { λ _. 0 };
+
+    ghost waits = { λ _. Unit {0} };
 
     fn turn(&mut self, alloc: Global, patience: Patience) -> Result<Turn<Parcel>, Fault> {
         if let Some(fault) = self.refused {

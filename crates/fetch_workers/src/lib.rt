@@ -9,5 +9,4 @@ mod part;
 mod work;
 mod workers;
 
-pub use crate::grouped::GroupedStream;
 pub use crate::workers::Workers;

@@ -2,7 +2,7 @@
 
 ghost use Rattle.std.specs.Prelude.{◌≡◌, IfOk, IfSome, None, OnOk};
 
-use crate::grouped::{GroupedWork, read_grouped, ready_grouped};
+use crate::grouped::{GroupedWork, ready_grouped};
 use crate::joined::Joined;
 use crate::work::MorselWork;
 use fetch_stream::{Ahead, Executor, FetchStream, Morsels, OneWorker, ReadsPayloads};
@@ -42,18 +42,8 @@ pub trait StartsWorkers {
     ) -> Option<Result<(), Fault>>
         requires shared { shared self.now }
         requires takes { S.takes reader.old }
-        ensures read { IfSome result (λ read. S.reads reader.old work.now.stream.now read reader.new) }
+        ensures read { IfSome result (λ read. S.reads reader.old work.now.stream.now.stream read reader.new) }
         ensures kept { result ≡ None → reader.new ≡ reader.old };
-
-    /// Has a stream read whose groups several workers make.
-    ///
-    /// # Errors
-    ///
-    /// Those of the reader.
-    fn read_grouped<S: ReadsPayloads>(&self, work: GroupedWork, reader: &mut S) -> Result<(), Fault>
-        requires shared { shared self.now }
-        requires takes { S.takes reader.old }
-        ensures { S.reads reader.old work.stream result reader.new };
 
     /// Has the groups of a stream made by several workers. Who watches may end it.
     ///
@@ -67,7 +57,7 @@ pub trait StartsWorkers {
     ) -> Result<FetchStream, AllocError>
         requires shared { shared self.now }
         requires ready { L.ready watch.old }
-        ensures stream { IfOk result (λ stream. stream ≡ work.stream) }
+        ensures stream { IfOk result (λ stream. stream.stream ≡ work.stream.stream) }
         ensures ready { OnOk result (L.ready watch.new) }
         ensures watched { L.watched watch.old watch.new };
 }
@@ -83,14 +73,6 @@ impl<R: Threads + Wait + Sync> StartsWorkers for R {
         reader: &mut S,
     ) -> Option<Result<(), Fault>> {
         read_beside(self, work, reader)
-    }
-
-    fn read_grouped<S: ReadsPayloads>(
-        &self,
-        work: GroupedWork,
-        reader: &mut S,
-    ) -> Result<(), Fault> {
-        read_grouped(self, work, reader)
     }
 
     fn ready_grouped<L: Watches>(
@@ -162,12 +144,7 @@ impl<'h, R: StartsWorkers> Executor for Workers<'h, R> {
         if let Some(read) = self.rt.read_beside(&work, reader) {
             return read;
         }
-        let work = GroupedWork {
-            alloc,
-            stream,
-            workers,
-        };
-        self.rt.read_grouped(work, reader)
+        OneWorker.execute(alloc, stream, reader)
     }
 
     fn ready<L: Watches>(
@@ -196,7 +173,7 @@ fn read_beside<R: Threads + Wait + Sync, S: ReadsPayloads>(
     reader: &mut S,
 ) -> Option<Result<(), Fault>>
     requires { S.takes reader.old }
-    ensures read { IfSome result (λ read. S.reads reader.old work.now.stream.now read reader.new) }
+    ensures read { IfSome result (λ read. S.reads reader.old work.now.stream.now.stream read reader.new) }
     ensures kept { result ≡ None → reader.new ≡ reader.old }
 {
     let morsels = work.stream.morsels()?;

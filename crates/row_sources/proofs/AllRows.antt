@@ -25,15 +25,6 @@ next_rows before after piece finds =
     ∙ map-append (λ (row : ℕ × Row). row.1) (map (λ row. (piece.number, row)) (rows_of piece.batch)) after.ahead
     ∙ ap (λ (rows : List Row). rows ++ plain_rows after.ahead) (numbers_off piece.number (rows_of piece.batch))
 
--- fewer are to come
-pub fewer_ahead : (before after : RowsAt) (piece : Piece) → FindsPiece before piece after → length after.ahead < length before.ahead
-fewer_ahead before after piece finds =
-    let long = ap length finds.next in
-    let both = length-append (map (λ row. (piece.number, row)) (rows_of piece.batch)) after.ahead in
-    let size = length-map {B = ℕ × Row} (rows_of piece.batch) (λ (row : Row). (piece.number, row)) in
-    let rows = length-rows_of piece.batch in
-    omega (arith, long, both, size, rows, finds.some)
-
 -- one batch more
 pub one_more : (first before after : RowsAt) (piece : Piece) (batches all : List BatchAt) → FindsPiece before piece after → all ≡ batches ++ piece.batch ∷ [] →
     flat_map rows_of batches ++ plain_rows before.ahead ≡ plain_rows first.ahead → flat_map rows_of all ++ plain_rows after.ahead ≡ plain_rows first.ahead

@@ -104,6 +104,10 @@ module _ (left : RowsAt) (joiner : JoinerAt) (number : ℕ) (rows : List Row) (a
       let size = length-map {B = ℕ × Row} rows (λ (row : Row). (number, row)) in
       omega (arith, long, both, size, takes.some)
 
+  -- and fewer are to be looked at
+  rows_looked : (joined_at left after number).unseen < (joined_at left joiner number).unseen
+  rows_looked = omega (arith, rows_fewer)
+
   -- nothing else is changed
   rows_on : take (length left.opened) left.batches ≡ left.opened → GoesOn (joined_at left joiner number) (joined_at left after number)
   rows_on front = record {
@@ -140,6 +144,9 @@ module _ (left : RowsAt) (joiner : JoinerAt) (number : ℕ) (batch : BatchAt) (a
   pub batch_fewer : length (joined_at left after number).ahead < length (joined_at left joiner number).ahead
   batch_fewer = rows_fewer left joiner number (rows_of batch) after (takes_joined joiner batch after gives)
 
+  pub batch_looked : (joined_at left after number).unseen < (joined_at left joiner number).unseen
+  batch_looked = rows_looked left joiner number (rows_of batch) after (takes_joined joiner batch after gives)
+
   pub batch_on : take (length left.opened) left.batches ≡ left.opened → GoesOn (joined_at left joiner number) (joined_at left after number)
   batch_on front = rows_on left joiner number (rows_of batch) after (takes_joined joiner batch after gives) front
 
@@ -175,8 +182,12 @@ module _ (left : RowsAt) (joiner : JoinerAt) (number : ℕ) (piece : Piece) (aft
     opened = finds.on.opened;
   }
 
+  -- its rows were looked at
+  pub fed_looked : (joined_at after fed piece.number).unseen < (joined_at left joiner number).unseen
+  fed_looked = let same = ap length fed_next in omega (arith, same, finds.looked)
+
   pub fed_none : FindsNone (joined_at left joiner number) (joined_at after fed piece.number)
-  fed_none = record { same = fed_next; on = fed_on }
+  fed_none = record { same = fed_next; looked = omega (arith, fed_looked); on = fed_on }
 
   pub fed_joined : left.types ≡ joiner.left_types → IsJoined after fed piece.number
   fed_joined typed = record { typed = finds.on.types ∙ typed; front = finds.on.opened; latest = inr finds.latest }
@@ -219,9 +230,16 @@ module _ (left : RowsAt) (joiner : JoinerAt) (number : ℕ) (after : RowsAt) (no
     on = left_on ends.on;
   }
 
+  left_same : left.ahead ≡ after.ahead → (joined_at left joiner number).ahead ≡ (joined_at after joiner number).ahead
+  left_same e = ap (λ (rows : List (ℕ × Row)). map (λ row. (number, row)) joiner.ahead ++ numbered_joined joiner rows) e
+
+  pub left_looked : left.ahead ≡ after.ahead → after.unseen < left.unseen → (joined_at after joiner number).unseen < (joined_at left joiner number).unseen
+  left_looked e fewer = let same = ap length (left_same e) in omega (arith, same, fewer)
+
   pub left_none : FindsNone left after → FindsNone (joined_at left joiner number) (joined_at after joiner number)
   left_none is = record {
-    same = ap (λ (rows : List (ℕ × Row)). map (λ row. (number, row)) joiner.ahead ++ numbered_joined joiner rows) is.same;
+    same = left_same is.same;
+    looked = let same = ap length (left_same is.same) in omega (arith, same, is.looked);
     on = left_on is.on;
   }
 
@@ -262,10 +280,11 @@ picks_end pick first a b on same ends = record {
   on = picks_on pick first b (on_and_on first a b on ends.on);
 }
 
-pub picks_none : (pick : PickAt) (first a b : RowsAt) → GoesOn first a → given_numbered pick first.ahead ≡ given_numbered pick a.ahead → FindsNone a b →
-    FindsNone (picked_of pick first) (picked_of pick b)
-picks_none pick first a b on same none = record {
+pub picks_none : (pick : PickAt) (first a b : RowsAt) → GoesOn first a → given_numbered pick first.ahead ≡ given_numbered pick a.ahead → a.unseen ≤ first.unseen →
+    FindsNone a b → FindsNone (picked_of pick first) (picked_of pick b)
+picks_none pick first a b on same seen none = record {
   same = same ∙ ap (given_numbered pick) none.same;
+  looked = omega (arith, seen, none.looked);
   on = picks_on pick first b (on_and_on first a b on none.on);
 }
 
@@ -278,7 +297,7 @@ batch_goes first left joiner number batch after gives on is =
 -- a joined batch of which a row is given, or none is
 module _ (pick : PickAt) (first left : RowsAt) (joiner : JoinerAt) (number : ℕ) (batch : BatchAt) (after : JoinerAt) (gives : GivesJoined joiner batch after)
     (on : GoesOn first (joined_at left joiner number)) (same : given_numbered pick first.ahead ≡ given_numbered pick (joined_at left joiner number).ahead)
-    (is : IsJoined left joiner number) (part : Part) (of : part.batch.now ≡ batch) (from : part.from ≡ 0) (to : part.to ≡ batch.rows) where
+    (seen : (joined_at left joiner number).unseen ≤ first.unseen) (is : IsJoined left joiner number) (part : Part) (of : part.batch.now ≡ batch) (from : part.from ≡ 0) (to : part.to ≡ batch.rows) where
   part_is : given_of_part pick part ≡ given pick (rows_of batch)
   part_is = rw (of, from, to) (ap (given pick) (whole_part batch))
 
@@ -290,6 +309,7 @@ module _ (pick : PickAt) (first left : RowsAt) (joiner : JoinerAt) (number : ℕ
   pub batch_none : given_of_part pick part ≡ [] → FindsNone (picked_of pick first) (picked_of pick (joined_at left after number))
   batch_none none = record {
     same = batch_over none;
+    looked = omega (arith, seen, batch_looked left joiner number batch after gives);
     on = picks_on pick first (joined_at left after number) (batch_goes first left joiner number batch after gives on is);
   }
 
@@ -307,6 +327,7 @@ module _ (pick : PickAt) (first left : RowsAt) (joiner : JoinerAt) (number : ℕ
         few = omega (arith, long, size, fewer, ap length (done.rows ∙ part_is), gives.few);
         typed = subst (λ (types : List DataType). AreOf (map (type_at types) pick.shown) picked.columns) on.types
             (done.typed (joined_types joiner) (subst (λ (b : BatchAt). AreOf (joined_types joiner) b.columns) (sym of) gives.typed));
+        looked = omega (arith, seen, batch_looked left joiner number batch after gives);
         on = picks_on pick first (joined_at left after number) (batch_goes first left joiner number batch after gives on is);
       }
 
@@ -316,9 +337,10 @@ all_given pick rows none = ap (map (cells_at pick.shown)) (rw none (filter-all r
 
 pub shown_found : (pick : PickAt) (first left : RowsAt) (joiner : JoinerAt) (number : ℕ) (batch : BatchAt) (after : JoinerAt) →
     GivesShown joiner pick.shown batch after → GoesOn first (joined_at left joiner number) →
-    given_numbered pick first.ahead ≡ given_numbered pick (joined_at left joiner number).ahead → IsJoined left joiner number → pick.filters ≡ [] →
+    given_numbered pick first.ahead ≡ given_numbered pick (joined_at left joiner number).ahead → (joined_at left joiner number).unseen ≤ first.unseen →
+    IsJoined left joiner number → pick.filters ≡ [] →
     FindsPiece (picked_of pick first) (record { batch = batch; number = number }) (picked_of pick (joined_at left after number))
-shown_found pick first left joiner number batch after gives on same is none =
+shown_found pick first left joiner number batch after gives on same seen is none =
     let takes = takes_shown joiner pick.shown batch after gives in
     record {
       next = same ∙ next_is pick (joined_at left joiner number).ahead (joined_at left after number).ahead number gives.rows batch
@@ -327,6 +349,7 @@ shown_found pick first left joiner number batch after gives on same is none =
       some = gives.some;
       few = gives.few;
       typed = subst (λ (types : List DataType). AreOf (map (type_at types) pick.shown) batch.columns) on.types gives.typed;
+      looked = let fewer = rows_looked left joiner number gives.rows after takes in omega (arith, seen, fewer);
       on = picks_on pick first (joined_at left after number)
           (on_and_on first (joined_at left joiner number) (joined_at left after number) on (rows_on left joiner number gives.rows after takes is.front));
     }

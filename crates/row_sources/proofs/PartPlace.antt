@@ -184,9 +184,9 @@ module _ (table : TableAt) (cursor : Cursor) (is : IsPlaced table cursor) (i : �
           (omega (arith, next, length-rows_of batch)))
 
       pub part_place : (after : Cursor) → Begins (begin_in table cursor i) (end_in table cursor i) after →
-          place_of one after ≡ part_of i (place_of table cursor)
+          place_of one after ≡ part_of i (after.to - after.at) (place_of table cursor)
       part_place after begins =
-          let made : List (ℕ × Row) → List ℕ → List ℕ → RowsAt = λ ahead some opened. record (place_of table cursor) { ahead = ahead; batches = some; opened = opened } in
+          let made : List (ℕ × Row) → List ℕ → List ℕ → RowsAt = λ ahead some opened. record (place_of table cursor) { ahead = ahead; batches = some; opened = opened; unseen = after.to - after.at } in
           let a = begin_in table cursor i in
           let b = end_in table cursor i in
           let rows : rows_ahead one after ≡ map (λ (row : ℕ × Row). (0, row.1)) (of_number i (rows_ahead table cursor)) =
@@ -200,8 +200,8 @@ module _ (table : TableAt) (cursor : Cursor) (is : IsPlaced table cursor) (i : �
           let none : batches_in after.from after.at (batch ∷ []) ≡ [] =
           none_in after.from after.at (batch ∷ []) (omega (arith, begins.from_is, begins.at_is)) in
           ap (λ (ahead : List (ℕ × Row)). made ahead (batches_in after.from after.to (batch ∷ [])) (batches_in after.from after.at (batch ∷ []))) rows
-          ∙ ap (λ (some : List ℕ). made (part_of i (place_of table cursor)).ahead some (batches_in after.from after.at (batch ∷ []))) all
-          ∙ ap (λ (opened : List ℕ). made (part_of i (place_of table cursor)).ahead (0 ∷ []) opened) none
+          ∙ ap (λ (some : List ℕ). made (part_of i 0 (place_of table cursor)).ahead some (batches_in after.from after.at (batch ∷ []))) all
+          ∙ ap (λ (opened : List ℕ). made (part_of i 0 (place_of table cursor)).ahead (0 ∷ []) opened) none
 
 -- the rows of a place come batch by batch
 pub place_in_order : (table : TableAt) (cursor : Cursor) → IsPlaced table cursor → ComeInOrder (place_of table cursor)
@@ -243,7 +243,7 @@ module _ (table : TableAt) (cursor : Cursor) (is : IsPlaced table cursor) (i : �
         (ap (λ (n : ℕ). batches_in n to (found_batch.0 ∷ [])) from_is ∙ ap (λ (n : ℕ). batches_in (begin_in table cursor i) n (found_batch.0 ∷ [])) to_is
         ∙ one_in table cursor is i part_there found_batch.0 found_batch.1)
 
-    pub part_made : batches_in cursor.from cursor.at table.batches ≡ [] → (after : Cursor) → Begins from to after → place_of made after ≡ part_of i (place_of table cursor)
+    pub part_made : batches_in cursor.from cursor.at table.batches ≡ [] → (after : Cursor) → Begins from to after → place_of made after ≡ part_of i (after.to - after.at) (place_of table cursor)
     part_made unopened after begins =
         let start = subst (λ (n : ℕ). Begins (begin_in table cursor i) n after) to_is (subst (λ (n : ℕ). Begins n to after) from_is begins) in
         ap (λ (t : TableAt). place_of t after) whole

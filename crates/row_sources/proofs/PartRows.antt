@@ -27,11 +27,11 @@ given_each pick (row ∷ rows) = by (cases_Bool (holds pick row.1)) (given_each 
     by (inr off) rest = rw (off, rest) refl
 
 -- the part of what is picked is picked of the part
-pub part_picked : (pick : PickAt) (number : ℕ) (source : RowsAt) → picked_of pick (part_of number source) ≡ part_of number (picked_of pick source)
-part_picked pick number source =
+pub part_picked : (pick : PickAt) (number unseen : ℕ) (source : RowsAt) → picked_of pick (part_of number unseen source) ≡ part_of number unseen (picked_of pick source)
+part_picked pick number unseen source =
     let renamed = map (λ (row : ℕ × Row). (0, row.1)) in
     let rows = of_number number source.ahead in
-    ap (λ (ahead : List (ℕ × Row)). record (picked_of pick (part_of number source)) { ahead = ahead })
+    ap (λ (ahead : List (ℕ × Row)). record (picked_of pick (part_of number unseen source)) { ahead = ahead })
     (given_each pick (renamed rows) ∙ sym (each_renamed (given_one pick) 0 rows)
     ∙ ap renamed (sym (each_number (given_one pick) number source.ahead) ∙ ap (of_number number) (sym (given_each pick source.ahead))))
 
@@ -40,6 +40,10 @@ picked_in_order pick source order none =
     let all = each_order (given_one pick) source.ahead source.batches (order none) in
     given_each pick source.ahead ∙ all
     ∙ ap (λ (rows : List (ℕ × Row)). flat_map (λ number. of_number number rows) source.batches) (sym (given_each pick source.ahead))
+
+-- a part has so many rows to be looked at as it has
+pub own_unseen : (part whole : RowsAt) (number unseen : ℕ) → part ≡ part_of number unseen whole → part ≡ part_of number part.unseen whole
+own_unseen part whole number unseen e = e ∙ ap (λ (n : ℕ). part_of number n whole) (sym (ap (λ (rows : RowsAt). rows.unseen) e))
 
 -- ---- joins
 
@@ -55,15 +59,16 @@ module _ (left : RowsAt) (joiner : JoinerAt) (at : ℕ) (is : IsJoined left join
   ahead_is : (joined_at left joiner at).ahead ≡ numbered_joined joiner left.ahead
   ahead_is = ap (λ (rows : List Row). map (λ row. (at, row)) rows ++ numbered_joined joiner left.ahead) (none_joined left joiner at is none)
 
-  pub part_joined : (number : ℕ) → joined_at (part_of number left) (record joiner { ahead = [] }) 0 ≡ part_of number (joined_at left joiner at)
-  part_joined number =
+  pub part_joined : (number unseen : ℕ) →
+      let part = joined_at (part_of number unseen left) (record joiner { ahead = [] }) 0 in part ≡ part_of number part.unseen (joined_at left joiner at)
+  part_joined number unseen =
       let renamed = map (λ (row : ℕ × Row). (0, row.1)) in
-      ap (λ (ahead : List (ℕ × Row)). record (joined_at (part_of number left) (record joiner { ahead = [] }) 0) { ahead = ahead })
+      ap (λ (ahead : List (ℕ × Row)). record (joined_at (part_of number unseen left) (record joiner { ahead = [] }) 0) { ahead = ahead })
       (sym (each_renamed (joined_with joiner) 0 (of_number number left.ahead))
       ∙ ap renamed (sym (each_number (joined_with joiner) number left.ahead) ∙ ap (of_number number) (sym ahead_is)))
 
-  pub still_joined : (number : ℕ) → IsJoined (part_of number left) (record joiner { ahead = [] }) 0
-  still_joined number = record { typed = is.typed; front = refl; latest = inl refl }
+  pub still_joined : (number unseen : ℕ) → IsJoined (part_of number unseen left) (record joiner { ahead = [] }) 0
+  still_joined number unseen = record { typed = is.typed; front = refl; latest = inl refl }
 
 pub joined_in_order : (left : RowsAt) (joiner : JoinerAt) (at : ℕ) → IsJoined left joiner at → ComeInOrder left → ComeInOrder (joined_at left joiner at)
 joined_in_order left joiner at is order none =

@@ -1,5 +1,5 @@
 -- Pieces of what is still to be given.
-use Rattle.std.proofs.Common.{◌≡◌, ◌≤◌, ℕ, suc, Bool, true, false, cond, List, [], ◌∷◌, ◌++◌, length, map, take, refl, sym, ap, ◌∙◌, subst, arith}
+use Rattle.std.proofs.Common.{◌≡◌, ◌≤◌, ◌<◌, ◌-◌, ℕ, suc, Bool, true, false, cond, List, [], ◌∷◌, ◌++◌, length, map, take, refl, sym, ap, ◌∙◌, subst, arith}
 use Rattle.std.specs.List.{filter}
 use Rattle.std.proofs.lemmas.List.{map-append, length-map}
 use Rattle.std.proofs.lemmas.List.Elements.{filter-append}
@@ -86,7 +86,7 @@ module _ (pick : PickAt) (table : TableAt) where
   pub none_yet : (first mid : Cursor) → mid.from ≡ first.from → mid.to ≡ first.to → first.at ≤ mid.at →
       given_numbered pick (rows_ahead table first) ≡ given_numbered pick (rows_ahead table mid) → IsPlaced table mid →
       FindsNone (picked_of pick (place_of table first)) (picked_of pick (place_of table mid))
-  none_yet first mid from to forth so_far placed = record { same = so_far; on = on_is first mid from to forth placed }
+  none_yet first mid from to forth so_far placed = record { same = so_far; looked = omega (arith, to, forth); on = on_is first mid from to forth placed }
 
 module _ (pick : PickAt) (table : TableAt) (first mid after : Cursor) (part : Part) (from : mid.from ≡ first.from) (to : mid.to ≡ first.to)
     (forth : first.at ≤ mid.at) (so_far : given_numbered pick (rows_ahead table first) ≡ given_numbered pick (rows_ahead table mid))
@@ -97,11 +97,15 @@ module _ (pick : PickAt) (table : TableAt) (first mid after : Cursor) (part : Pa
   pub goes : GoesOn (picked_of pick (place_of table first)) (picked_of pick (place_of table after))
   goes = on_is pick table first after (opens.from ∙ from) (opens.to ∙ to) (omega (arith, forth, opens.forth)) placed
 
+  -- rows were looked at
+  pub looked : after.to - after.at < first.to - first.at
+  looked = omega (arith, to, opens.to, forth, opens.forth, placed.ordered)
+
   pub over : given_of_part pick part ≡ [] → given_numbered pick (rows_ahead table first) ≡ given_numbered pick (rows_ahead table after)
   over none = so_far ∙ passed pick (rows_ahead table mid) (rows_ahead table after) mid.batch part_rows opens.rows none
 
   pub over_is : given_of_part pick part ≡ [] → FindsNone (picked_of pick (place_of table first)) (picked_of pick (place_of table after))
-  over_is none = record { same = over none; on = goes }
+  over_is none = record { same = over none; looked = omega (arith, looked); on = goes }
 
   pub found : (batch : BatchAt) → IsPicked pick part batch →
       FindsPiece (picked_of pick (place_of table first)) (record { batch = batch; number = mid.batch }) (picked_of pick (place_of table after))
@@ -115,6 +119,7 @@ module _ (pick : PickAt) (table : TableAt) (first mid after : Cursor) (part : Pa
         some = is.some;
         few = omega (arith, long, size, fewer, ap length is.rows, of.short);
         typed = is.typed (types_of table.schema.fields) of.typed;
+        looked = looked;
         on = goes;
       }
 

@@ -1,15 +1,14 @@
 -- Inside: joined rows, and what holds of what gives them.
-use Rattle.std.specs.Prelude.{◌≡◌, ◌≢◌, ◌<◌, ◌⊎◌, ℕ, ◌+◌, List, [], ◌++◌, length, map, take, Some, None, Result, Ok, Err}
+use Rattle.std.specs.Prelude.{◌≡◌, ◌<◌, ◌⊎◌, ℕ, ◌+◌, List, [], ◌++◌, length, map, take, Some, None, Result, Ok, Err}
 use Rattle.std.specs.List.{flat_map, last_or}
 use Rattle.join_batches.specs.Joiner.{JoinerAt, joined_with, joined_types}
 use Rattle.table_versions.specs.Table.{Row}
 use Rattle.row_sources.specs.declared.rows.Source.{Source}
 use Rattle.row_sources.specs.declared.rows.Source.TheVariants.{Place, Joined}
 use Rattle.row_sources.specs.Placed.{IsPlaced}
-use Rattle.row_sources.specs.Running.{RowsAt, GoesOn, FindsNone, Ends}
+use Rattle.row_sources.specs.Running.{RowsAt, GoesOn, FindsNone, Ends, LooksOn}
 use Rattle.row_sources.specs.Sources.{place_at}
 use Rattle.row_sources.specs.declared.turn.Patience.{Patience}
-use Rattle.row_sources.specs.declared.turn.Patience.TheVariants.{Endless}
 use Rattle.row_sources.specs.declared.turn.Turn.{Turn}
 use Rattle.row_sources.specs.declared.turn.Turn.TheVariants.{Given, Working, End}
 use Rattle.std.specs.declared.alloc.AllocError.{AllocError}
@@ -26,6 +25,7 @@ joined_at left joiner number = record {
   batches = left.batches;
   opened = left.opened;
   depth = left.depth + 1;
+  unseen = left.unseen + length (map (λ row. (number, row)) joiner.ahead ++ numbered_joined joiner left.ahead);
 }
 
 -- the rows of a source that are still to be given
@@ -48,7 +48,7 @@ IsSource (Joined left joining) = IsJoined left.value joining.joiner joining.numb
 -- What a turn to the next left batch does: the same joined rows are to come, whether there is one, or none yet.
 abbrev pub FeedsNext : Patience → RowsAt → Result (Turn (Unit {0})) AllocError → RowsAt → Type 0
 FeedsNext patience before (Ok (Given _)) after = FindsNone before after
-FeedsNext patience before (Ok Working) after = FindsNone before after × (patience ≢ Endless)
+FeedsNext patience before (Ok Working) after = FindsNone before after × LooksOn patience before.unseen after.unseen
 FeedsNext patience before (Ok End) after = Ends before after
 FeedsNext patience before (Err _) after = GoesOn before after
 

@@ -16,11 +16,6 @@ use Rattle.row_sources.specs.Picking.{PickAt, cells_at, holds}
 abbrev pub given : PickAt → List Row → List Row
 given pick rows = map (cells_at pick.shown) (filter (holds pick) rows)
 
--- the row and the columns of these numbers are there
-pub record IsInBatch (columns : List ColumnAt) (read : List ℕ) (row : ℕ) : Type 0 where
-  pub there : IsTrue (are_within (length columns) read)
-  pub within : All (λ column. row < column.len) columns
-
 -- a column has the slots of another at these places, and its types
 pub record HasSlotsAt (places : List ℕ) (column made : ColumnAt) : Type 0 where
   pub values : values_of made ≡ map (slot_of column) places

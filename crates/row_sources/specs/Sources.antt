@@ -1,4 +1,5 @@
 -- Inside: the sources of rows.
+use Rattle.std.specs.Prelude.{◌-◌}
 use Rattle.typed_plan.specs.Typed.{types_of}
 use Rattle.row_sources.specs.declared.place.PlaceRows.{PlaceRows}
 use Rattle.opened_batches.specs.Opened.{batches_in}
@@ -13,4 +14,5 @@ place_at place = record {
   batches = batches_in place.cursor.from place.cursor.to place.table.batches;
   opened = batches_in place.cursor.from place.cursor.at place.table.batches;
   depth = 0;
+  unseen = place.cursor.to - place.cursor.at;
 }

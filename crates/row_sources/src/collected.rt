@@ -5,7 +5,7 @@ ghost use Rattle.row_sources.specs.Collected.{AreCollected};
 ghost use Rattle.row_sources.specs.Running.{GoesOn};
 
 use crate::rows::Rows;
-use crate::turn::{Looking, Turn, patience_of};
+use crate::turn::{Looking, Turn, watched_patience};
 use arrays::Batch;
 use std::alloc::{AllocError, Global};
 use work_watch::{Watches, tell};
@@ -28,9 +28,8 @@ pub fn collect_watched<W: Watches>(
     ensures watched { W.watched watch.old watch.new }
 {
     let mut batches = Vec::new(alloc);
-    let mut turns = u64::MAX;
     loop {
-        let patience = patience_of(turns);
+        let patience = watched_patience();
         let mut looking = Looking { alloc, patience };
         match rows.turn(&mut looking)? {
             Turn::Given(piece) => {
@@ -38,7 +37,6 @@ pub fn collect_watched<W: Watches>(
                 tell(watch, looking.looked())?;
             }
             Turn::Working => {
-                turns -= 1;
                 tell(watch, looking.looked())?;
             }
             Turn::End => return Ok(batches),

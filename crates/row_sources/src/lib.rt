@@ -23,6 +23,6 @@ pub use crate::opened_table::{OpenedTable, opened_tables};
 pub use crate::part::Part;
 pub use crate::picker::Picker;
 pub use crate::piece::Piece;
-pub use crate::row_source::{Reading, RowSource, UnfilteredRows};
+pub use crate::row_source::{Reading, RowSource, UnfilteredRows, WholePlan};
 pub use crate::rows::Rows;
 pub use crate::turn::{Looking, Patience, Turn};

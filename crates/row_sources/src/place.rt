@@ -6,7 +6,7 @@ ghost use Rattle.row_sources.specs.Choices.{IsChoice};
 ghost use Rattle.row_sources.specs.Placed.{begin_in, end_in, IsPlaced};
 ghost use Rattle.row_sources.specs.Parting.{part_of};
 ghost use Rattle.row_sources.specs.Picking.{IsPick, pick_of};
-ghost use Rattle.row_sources.specs.Running.{FindsTurn, picked_of};
+ghost use Rattle.row_sources.specs.Running.{EndsAtChoice, FindsTurn, picked_of};
 ghost use Rattle.row_sources.specs.Sources.{place_at};
 ghost use Rattle.row_sources.specs.declared.turn.Patience.TheVariants.{Endless};
 
@@ -49,6 +49,7 @@ impl PlaceRows {
         ensures choice { IsChoice self.new.table self.new.cursor (pick_of picker.now) choice.new }
         ensures table { self.new.table ≡ self.old.table }
         ensures endless { looking.old.patience ≡ Endless → looking.new.patience ≡ Endless }
+        ensures choice_kept { EndsAtChoice looking.new.patience → EndsAtChoice looking.old.patience }
         ensures found { FindsTurn looking.old.patience (picked_of (pick_of picker.now) (place_at self.old)) result
             (picked_of (pick_of picker.now) (place_at self.new)) }
     {
@@ -119,7 +120,7 @@ impl PlaceRows {
         requires unopened { (place_at self.now).opened ≡ [] }
         requires there { number < length (place_at self.now).batches }
         ensures placed { IfOk result (λ part. IsPlaced part.table part.cursor) }
-        ensures part { IfOk result (λ part. place_at part ≡ part_of number (place_at self.now)) }
+        ensures part { IfOk result (λ part. place_at part ≡ part_of number (place_at part).unseen (place_at self.now)) }
     {
         let (from, to) = (self.begin_in(number), self.end_in(number));
         let table = self.table.only(alloc, number)?;

@@ -3,6 +3,10 @@
 ghost use Rattle.std.specs.Prelude.{◌≡◌, ◌≤◌, true, IfOk, IsTrue, length, map, OnOk};
 ghost use Rattle.std.specs.List.{flat_map, range_with_len};
 ghost use Rattle.arrays.specs.Batch.{rows_of};
+ghost use Rattle.arrow_schema.specs.declared.schema.Schema.{Schema};
+ghost use Rattle.rewrite.specs.Folded.{is_folded_tree};
+ghost use Rattle.rewrite.specs.Pruned.{IsPruned};
+ghost use Rattle.rewrite.specs.Pushed.{is_pushed};
 ghost use Rattle.table_versions.specs.Stored.{TableAt};
 ghost use Rattle.typed_plan.specs.Held.{tree_schemas};
 ghost use Rattle.typed_plan.specs.Typed.{IsTypedTree, has_columns, is_place};
@@ -22,8 +26,17 @@ use arrow_schema::DataType;
 use hash_seed::HashSeed;
 use std::alloc::{AllocError, Global};
 use std::marker::Model;
-use typed_plan::{Columns, Plan};
-use work_watch::{Unwatched, Watches};
+use typed_plan::{Columns, Output, Plan};
+use work_watch::Watches;
+
+/// A plan: the tree that gives its rows, and what its result takes of them.
+#[derive(Drop)]
+pub struct WholePlan<'o> {
+    /// The tree.
+    pub tree: Plan,
+    /// The result. The code does not read it: contracts say by it which columns something names.
+    pub output: &'o Output,
+}
 
 /// Which rows of the first place are read, and what the hashes of keys begin with.
 #[derive(Clone, Copy, Drop)]
@@ -72,56 +85,37 @@ pub struct UnfilteredRows {
 }
 
 impl RowSource {
-    /// What gives the rows of a tree over a range of its first place, which begins in the first batch that is read, and of
-    /// which each such batch has a row. The tables are those of its places, in order. The further places are read here.
-    ///
-    /// # Errors
-    ///
-    /// `AllocError` where memory is refused.
-    pub fn new(
-        alloc: Global,
-        plan: Plan,
-        tables: Vec<OpenedTable>,
-        reading: Reading,
-    ) -> Result<RowSource, AllocError>
-        requires typed { IsTypedTree (tree_of plan) }
-        requires schemas { tree_schemas (tree_of plan) ≡ map (λ (table : TableAt). table.schema) tables.items }
-        requires first { BeginsInFirst reading.from (first_batches tables.items) }
-        requires each { batches_in reading.from reading.to (first_batches tables.items)
-            ≡ range_with_len 0 (length (first_batches tables.items)) }
-        ensures begun { IfOk result (λ source. IsBegun (tree_of plan) tables.items reading.from reading.to source.rows) }
-        ensures few { IfOk result (λ source. is_place (tree_of plan) ≡ true →
-            source.count ≤ length (flat_map rows_of (first_batches tables.items))) }
-    {
-        RowSource::watched(alloc, plan, tables, reading, &mut Unwatched)
-    }
-
-    /// The same, watched: who watches may end it behind each batch of a further place that is read, and while the rows of one are
-    /// hashed.
+    /// What gives the rows of a rewritten plan's tree over a range of its first place, which begins in the first batch that is read,
+    /// and of which each such batch has a row. The tables are those of its places, in order. The further places are read here. Who
+    /// watches may end it behind each batch of one that is read, and while its rows are hashed.
     ///
     /// # Errors
     ///
     /// `AllocError` where memory is refused, or who watches ends it.
     pub fn watched<W: Watches>(
         alloc: Global,
-        plan: Plan,
+        plan: WholePlan<'_>,
         tables: Vec<OpenedTable>,
         reading: Reading,
         watch: &mut W,
     ) -> Result<RowSource, AllocError>
-        requires typed { IsTypedTree (tree_of plan) }
-        requires schemas { tree_schemas (tree_of plan) ≡ map (λ (table : TableAt). table.schema) tables.items }
+        requires folded { is_folded_tree (tree_of plan.tree) ≡ true }
+        requires below { is_pushed (tree_of plan.tree) ≡ true }
+        requires pruned { (schema : Schema) → IsPruned (record { tree = tree_of plan.tree; output = plan.output.now; schema = schema }) }
+        requires typed { IsTypedTree (tree_of plan.tree) }
+        requires schemas { tree_schemas (tree_of plan.tree) ≡ map (λ (table : TableAt). table.schema) tables.items }
         requires first { BeginsInFirst reading.from (first_batches tables.items) }
         requires each { batches_in reading.from reading.to (first_batches tables.items)
             ≡ range_with_len 0 (length (first_batches tables.items)) }
         requires ready { W.ready watch.old }
-        ensures begun { IfOk result (λ source. IsBegun (tree_of plan) tables.items reading.from reading.to source.rows) }
-        ensures few { IfOk result (λ source. is_place (tree_of plan) ≡ true →
+        ensures begun { IfOk result (λ source. IsBegun (tree_of plan.entry.tree) tables.items reading.from reading.to source.rows) }
+        ensures few { IfOk result (λ source. is_place (tree_of plan.entry.tree) ≡ true →
             source.count ≤ length (flat_map rows_of (first_batches tables.items))) }
         ensures ready { OnOk result (W.ready watch.new) }
         ensures watched { W.watched watch.old watch.new }
     {
-        let sourced = build(alloc, plan, tables, reading, watch)?;
+        let WholePlan { tree, output: _ } = plan;
+        let sourced = build(alloc, tree, tables, reading, watch)?;
         Ok(RowSource { sourced })
     }
 

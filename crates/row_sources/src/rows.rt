@@ -1,13 +1,13 @@
 //! Rows, piece by piece: those of a place, or joined ones.
 
-ghost use Rattle.std.specs.Prelude.{◌≡◌, ◌≢◌, ◌≤◌, ◌<◌, [], IfOk, length};
+ghost use Rattle.std.specs.Prelude.{◌≡◌, ◌≤◌, ◌<◌, [], IfOk, length};
 ghost use Rattle.std.specs.Arc.{arc_value};
 ghost use Rattle.array_select.specs.Room.{most_batch_rows};
 ghost use Rattle.join_batches.specs.Joiner.{joined_types};
 ghost use Rattle.row_sources.specs.Joined.{FeedsNext, IsJoined, IsSource, TakesLeft, joined_at, source_at};
 ghost use Rattle.row_sources.specs.Parting.{ComeInOrder, part_of};
 ghost use Rattle.row_sources.specs.Picking.{IsPick, PickAt, pick_of};
-ghost use Rattle.row_sources.specs.Running.{FindsNext, FindsTurn, picked_of};
+ghost use Rattle.row_sources.specs.Running.{EndsAtChoice, FindsTurn, picked_of};
 ghost use Rattle.row_sources.specs.declared.turn.Patience.TheVariants.{Endless};
 
 use crate::choice::Choice;
@@ -84,6 +84,7 @@ impl Rows {
     #[cycle(turn)]
     pub fn turn(&mut self, looking: &mut Looking) -> Result<Turn<Piece>, AllocError>
         ensures endless { looking.old.patience ≡ Endless → looking.new.patience ≡ Endless }
+        ensures choice { EndsAtChoice looking.new.patience → EndsAtChoice looking.old.patience }
         ensures found { FindsTurn looking.old.patience self.old result self.new }
     {
         match &mut self.source {
@@ -97,27 +98,6 @@ impl Rows {
                     joining.turn(left, &self.picker, &mut self.choice.selection, looking)
                 }
             }
-        }
-    }
-}
-
-impl Rows {
-    /// The next rows, one or more, of one batch of the first place: at most 65,536. `None` where no row is left.
-    ///
-    /// # Errors
-    ///
-    /// `AllocError` where memory is refused. Then nothing is said of the rows that come next.
-    pub fn next(&mut self, alloc: Global) -> Result<Option<Piece>, AllocError>
-        ensures { FindsNext self.old result self.new }
-    {
-        let mut looking = Looking {
-            alloc,
-            patience: Patience::Endless,
-        };
-        match self.turn(&mut looking)? {
-            Turn::Given(piece) => Ok(Some(piece)),
-            Turn::Working => Ok(None),
-            Turn::End => Ok(None),
         }
     }
 }
@@ -174,7 +154,7 @@ impl Rows {
     pub fn part(&self, alloc: Global, number: usize) -> Result<Rows, AllocError>
         requires unopened { self.now.opened ≡ [] }
         requires there { number < length self.now.batches }
-        ensures { IfOk result (λ part. part ≡ part_of number self.now) }
+        ensures { IfOk result (λ part. part ≡ part_of number part.unseen self.now) }
     {
         match &self.source {
             Source::Place(place) => {
@@ -207,6 +187,7 @@ impl Joining {
         ensures types { joined_types self.new.joiner ≡ joined_types self.old.joiner }
         ensures depth { left.new.depth ≡ left.old.depth }
         ensures endless { looking.old.patience ≡ Endless → looking.new.patience ≡ Endless }
+        ensures choice { EndsAtChoice looking.new.patience → EndsAtChoice looking.old.patience }
         ensures found { FindsTurn looking.old.patience (picked_of (pick_of picker.now) (joined_at left.old self.old.joiner self.old.number))
             result (picked_of (pick_of picker.now) (joined_at left.new self.new.joiner self.new.number)) }
     {
@@ -251,6 +232,7 @@ impl Joining {
         ensures types { joined_types self.new.joiner ≡ joined_types self.old.joiner }
         ensures depth { left.new.depth ≡ left.old.depth }
         ensures endless { looking.old.patience ≡ Endless → looking.new.patience ≡ Endless }
+        ensures choice { EndsAtChoice looking.new.patience → EndsAtChoice looking.old.patience }
         ensures found { FindsTurn looking.old.patience (picked_of (pick_of picker.now) (joined_at left.old self.old.joiner self.old.number)) result
             (picked_of (pick_of picker.now) (joined_at left.new self.new.joiner self.new.number)) }
     {
@@ -273,7 +255,7 @@ impl Joining {
     #[cycle(turn)]
     fn choose(&mut self, left: &mut Rows, looking: &Looking) -> Result<Turn<Piece>, AllocError>
         requires joined { IsJoined left.old self.old.joiner self.old.number }
-        requires ends { looking.now.patience ≢ Endless }
+        requires choice { EndsAtChoice looking.now.patience }
         ensures joined { IsJoined left.new self.new.joiner self.new.number }
         ensures types { joined_types self.new.joiner ≡ joined_types self.old.joiner }
         ensures depth { left.new.depth ≡ left.old.depth }
@@ -302,6 +284,7 @@ impl Joining {
         ensures types { joined_types self.new.joiner ≡ joined_types self.old.joiner }
         ensures depth { left.new.depth ≡ left.old.depth }
         ensures endless { looking.old.patience ≡ Endless → looking.new.patience ≡ Endless }
+        ensures choice { EndsAtChoice looking.new.patience → EndsAtChoice looking.old.patience }
         ensures feeds { FeedsNext looking.old.patience (joined_at left.old self.old.joiner self.old.number) result
             (joined_at left.new self.new.joiner self.new.number) }
         ensures fewer { TakesLeft result (length left.old.ahead) (length left.new.ahead) }

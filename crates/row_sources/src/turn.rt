@@ -1,7 +1,7 @@
 //! Turns: rows are looked for a while, and then control is given back.
 
-ghost use Rattle.std.specs.Prelude.{◌≡◌, false};
-ghost use Rattle.row_sources.specs.declared.turn.Patience.TheVariants.{Endless};
+ghost use Rattle.std.specs.Prelude.{◌≡◌, ◌≢◌, false, true};
+ghost use Rattle.row_sources.specs.declared.turn.Patience.TheVariants.{Endless, Choice};
 
 use crate::picker::Picker;
 use std::alloc::Global;
@@ -48,6 +48,7 @@ impl Looking {
     // So many rows are looked at together. One counts as often as the filters of a picker compare in it, and fewer than 64 as 64.
     pub(crate) fn spend(&mut self, rows: usize, picker: &Picker)
         ensures endless { self.old.patience ≡ Endless → self.new.patience ≡ Endless }
+        ensures choice { self.new.patience ≡ Choice → self.old.patience ≡ Choice }
     {
         let spent = rows.max(LEAST_ROWS).saturating_mul(picker.weight());
         if let Patience::Rows(left) = &mut self.patience {
@@ -65,6 +66,7 @@ impl Looking {
     // Whether the turn ends once the next rows are chosen.
     pub(crate) fn ends_at_choice(&self) -> bool
         ensures endless { self.now.patience ≡ Endless → result ≡ false }
+        ensures choice { result ≡ true → self.now.patience ≡ Choice }
     {
         matches!(self.patience, Patience::Choice)
     }
@@ -79,12 +81,9 @@ impl Looking {
     }
 }
 
-// The patience of a turn of watched work, behind which there may be so many more.
-pub(crate) fn patience_of(turns: u64) -> Patience
-    ensures { turns ≡ 0 → result ≡ Endless }
+// The patience of a turn of watched work.
+pub(crate) fn watched_patience() -> Patience
+    ensures { result ≢ Choice }
 {
-    if turns == 0 {
-        return Patience::Endless;
-    }
     Patience::Rows(WATCHED_ROWS)
 }

@@ -56,7 +56,7 @@ module _ (source : SourceAt) (made : UnfilteredRows) (is : IsUnfiltered source m
   pub gives_groups : of_groups made.rows wanted Waiting ≡ answer_for (Groups keys items) source.rows
   gives_groups =
       let giving : List DataType → List Row → List ℕ → List ℕ → GivingAt = λ types some batches opened.
-      record { types = types; ahead = map (λ (row : Row). (None, row)) some; batches = batches; opened = opened } in
+      record { types = types; ahead = map (λ (row : Row). (None, row)) some; batches = batches; opened = opened; unseen = 0 } in
       let groups = groups_by keys (plain_rows source.rows.ahead) in
       let shown : List DataType = map copied_type (map (item_type keys source.rows.types) items) in
       let types : wanted_types wanted ≡ shown = rw (k, types_are, i) refl in
@@ -66,5 +66,5 @@ module _ (source : SourceAt) (made : UnfilteredRows) (is : IsUnfiltered source m
       ∙ ap (λ (some : List Row). giving shown some made.rows.batches made.rows.opened) answers
       ∙ ap (λ (some : List ℕ). giving shown (map (λ group. map (answered group) items) groups) some made.rows.opened) is.batches
       ∙ ap (λ (some : List ℕ). giving shown (map (λ group. map (answered group) items) groups) source.rows.batches some) is.opened
-      ∙ ap (λ (some : List (Option ℕ × Row)). record { types = shown; ahead = some; batches = source.rows.batches; opened = source.rows.opened })
+      ∙ ap (λ (some : List (Option ℕ × Row)). record { types = shown; ahead = some; batches = source.rows.batches; opened = source.rows.opened; unseen = 0 })
       (map-map (λ (row : Row). (None, row)) (λ group. map (answered group) items) groups)

@@ -245,7 +245,7 @@ pub keyed_same : (rows : RowsAt) (keys columns places : List ℕ) (items : List 
     answer_for (Groups columns (map (item_by places) items)) rows ≡ answer_for (Groups keys items) rows
 keyed_same rows keys columns places items keyed has =
     let giving : List DataType → List (Option ℕ × Row) → GivingAt = λ types ahead.
-    record { types = types; ahead = ahead; batches = rows.batches; opened = rows.opened } in
+    record { types = types; ahead = ahead; batches = rows.batches; opened = rows.opened; unseen = 0 } in
     let some = map (λ (row : ℕ × Row). row.1) rows.ahead in
     let found = groups_are keys columns places keyed some in
     let new = map (item_by places) items in

@@ -126,16 +126,16 @@ module _ (schema : Schema) (rows : RowsAt) (batches : List (ℕ × ℕ)) (furthe
       }
 
   -- a morsel as a scan
-  pub morsel_is : (number : ℕ) → number < length firsts → (part : RowsAt) → part ≡ part_of number rows →
+  pub morsel_is : (number : ℕ) → number < length firsts → (part : RowsAt) → part ≡ part_of number part.unseen rows →
       (pairs : List (ℕ × ℕ)) → pairs ≡ (0, name number) ∷ [] → (own : Schema) → own ≡ schema →
-      scan_at own (of_rows part) pairs 0 0 None ≡ morsel_of scan number
+      scan_at own (of_rows part) pairs 0 0 None ≡ record (morsel_of scan number) { unseen = part.unseen }
   morsel_is number there part p pairs q own s =
-      let made : List (ℕ × ℕ) → List (Option ℕ × Row) → ScanAt = λ some ahead. record scan { ahead = ahead; batches = some; opened = []; given = 0; refused = None } in
+      let made : List (ℕ × ℕ) → List (Option ℕ × Row) → ScanAt = λ some ahead. record scan { ahead = ahead; batches = some; opened = []; given = 0; refused = None; unseen = part.unseen } in
       let renamed : ℕ × Row → ℕ × Row = λ row. (0, row.1) in
       let one : List (ℕ × ℕ) = (0, name number) ∷ [] in
       ap (λ (r : RowsAt). scan_at own (of_rows r) pairs 0 0 None) p
-      ∙ ap (λ (some : List (ℕ × ℕ)). scan_at own (of_rows (part_of number rows)) some 0 0 None) q
-      ∙ ap (λ (x : Schema). scan_at x (of_rows (part_of number rows)) one 0 0 None) s
+      ∙ ap (λ (some : List (ℕ × ℕ)). scan_at own (of_rows (part_of number part.unseen rows)) some 0 0 None) q
+      ∙ ap (λ (x : Schema). scan_at x (of_rows (part_of number part.unseen rows)) one 0 0 None) s
       ∙ ap (made one)
       (map-map (renumbered one) (λ (row : ℕ × Row). (Some row.0, row.1)) (map renamed (of_number number rows.ahead))
       ∙ map-map (λ (row : ℕ × Row). (Some (number_in one row.0), row.1)) renamed (of_number number rows.ahead)
@@ -143,10 +143,10 @@ module _ (schema : Schema) (rows : RowsAt) (batches : List (ℕ × ℕ)) (furthe
       ∙ ap (λ (batch : ℕ). made ((0, batch) ∷ []) (morsel_of scan number).ahead) (sym (batch_is number))
 
 -- what holds of a morsel
-pub morsel_scan : (part rows : RowsAt) (number batch : ℕ) (pairs : List (ℕ × ℕ)) → part ≡ part_of number rows → pairs ≡ (0, batch) ∷ [] → IsScan (of_rows part) pairs 0 0
+pub morsel_scan : (part rows : RowsAt) (number batch : ℕ) (pairs : List (ℕ × ℕ)) → part ≡ part_of number part.unseen rows → pairs ≡ (0, batch) ∷ [] → IsScan (of_rows part) pairs 0 0
 morsel_scan part rows number batch pairs p q =
     subst (λ (r : RowsAt). IsScan (of_rows r) pairs 0 0) (sym p)
-    (subst (λ (some : List (ℕ × ℕ)). IsScan (of_rows (part_of number rows)) some 0 0) (sym q) (record {
+    (subst (λ (some : List (ℕ × ℕ)). IsScan (of_rows (part_of number part.unseen rows)) some 0 0) (sym q) (record {
       there = omega arith;
       first = refl;
       places = refl;

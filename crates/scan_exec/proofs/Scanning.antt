@@ -16,7 +16,7 @@ use Rattle.table_versions.proofs.Rowing.{length-rows_of}
 use Rattle.row_sources.specs.declared.piece.Piece.{Piece}
 use Rattle.scan_exec.specs.Giving.{GivingAt, GivingOn, IsOfLast, GivesBatch, GivesNone, GivesNoneYet, of_rows}
 use Rattle.scan_exec.specs.Answering.{CountsNext, CountsTurn, IsScan, number_in, renumbered, scan_at}
-use Rattle.row_sources.specs.Running.{RowsAt, FindsPiece, FindsNone, Ends}
+use Rattle.row_sources.specs.Running.{RowsAt, FindsPiece, FindsNone, Ends, LooksOn}
 use Rattle.row_sources.specs.declared.turn.Patience.{Patience}
 use Rattle.row_sources.specs.declared.turn.Turn.{Turn}
 use Rattle.row_sources.specs.declared.turn.Turn.TheVariants.{Given, Working, End}
@@ -178,10 +178,10 @@ module _ (schema : Schema) (batches : List (ℕ × ℕ)) (further : ℕ) (before
       }
 
   ends_is : GivesNone before after → now ≡ given →
-      scan_at schema after batches further now None ≡ record (scan_at schema before batches further given None) { opened = batches }
+      scan_at schema after batches further now None ≡ record (scan_at schema before batches further given None) { opened = batches; unseen = after.unseen }
   ends_is ends same =
       let made : List DataType → List (Option ℕ × Row) → List (ℕ × ℕ) → ℕ → ScanAt = λ types ahead opened given.
-      record { schema = schema; types = types; ahead = map (renumbered firsts) ahead; batches = batches; opened = opened; given = given; refused = None } in
+      record { schema = schema; types = types; ahead = map (renumbered firsts) ahead; batches = batches; opened = opened; given = given; refused = None; unseen = after.unseen } in
       let size : length after.opened ≡ count = ap length (ends.all ∙ is.first) ∙ length-range_with_len 0 count in
       let whole : take (further + length after.opened) batches ≡ batches = take_all (further + length after.opened) batches (omega (arith, size)) in
       ap (λ (types : List DataType). made types after.ahead (take (further + length after.opened) batches) now) ends.on.types
@@ -223,7 +223,7 @@ module _ (schema : Schema) (batches : List (ℕ × ℕ)) (further : ℕ) (before
   turned patience view refused (Given batch) v n counts = gave view refused (Some batch) v n counts
   turned patience view refused Working v n counts =
       let yet = gave_none_yet view refused v n counts.0 counts.1 in
-      (yet.0, yet.1, counts.2)
+      (yet.0, yet.1, subst (λ (s : ScanAt). LooksOn patience s.unseen after.unseen) v counts.2)
   turned patience view refused End v n counts = gave view refused None v n counts
 
   pub refuses : (view : ScanAt) (refused : Option Fault) (fault : Fault) → scan_at schema before batches further given refused ≡ view → refused ≡ None →

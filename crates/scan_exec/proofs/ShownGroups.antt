@@ -177,7 +177,7 @@ module _ (rows : RowsAt) (keys : List ℕ) (items some : List Aggregate) (places
   pub answers_same : with_cells places (answer_for (Groups keys some) rows) ≡ answer_for (Groups keys items) rows
   answers_same =
       let giving : List DataType → List (Option ℕ × Row) → GivingAt = λ types ahead.
-      record { types = types; ahead = ahead; batches = rows.batches; opened = rows.opened } in
+      record { types = types; ahead = ahead; batches = rows.batches; opened = rows.opened; unseen = 0 } in
       let groups = groups_by keys (map (λ (row : ℕ × Row). row.1) rows.ahead) in
       ap (λ (types : List DataType). giving types (map (show places) (map (λ group. (None, map (answered group) some)) groups))) types_same
       ∙ ap (giving (map copied_type (map (item_type keys rows.types) items))) (group_same groups)

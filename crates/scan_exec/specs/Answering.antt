@@ -1,5 +1,5 @@
 -- Inside: what a scan still has to give, of rows or of groups.
-use Rattle.std.specs.Prelude.{◌≡◌, ◌≢◌, ◌≤◌, ◌<◌, ◌⊎◌, ℕ, ◌+◌, ◌-◌, IsTrue, ◌==◌, List, [], ◌∷◌, length, map, take, drop, get_or, Option, Some, None, option_map, Result, Ok, Err}
+use Rattle.std.specs.Prelude.{◌≡◌, ◌≤◌, ◌<◌, ◌⊎◌, ℕ, ◌+◌, ◌-◌, IsTrue, ◌==◌, List, [], ◌∷◌, length, map, take, drop, get_or, Option, Some, None, option_map, Result, Ok, Err}
 use Rattle.std.specs.List.{list_all, range_with_len}
 use Rattle.arrays.specs.Batch.{BatchAt}
 use Rattle.arrow_schema.specs.Answer.{copied_type}
@@ -8,10 +8,9 @@ use Rattle.typed_plan.specs.declared.plan.Output.TheVariants.{Project, Groups}
 use Rattle.typed_plan.specs.Plan.{answered, groups_by}
 use Rattle.typed_plan.specs.Typed.{item_type}
 use Rattle.table_versions.specs.Table.{Row}
-use Rattle.row_sources.specs.Running.{RowsAt}
+use Rattle.row_sources.specs.Running.{RowsAt, LooksOn}
 use Rattle.row_sources.specs.Showing.{shown_of}
 use Rattle.row_sources.specs.declared.turn.Patience.{Patience}
-use Rattle.row_sources.specs.declared.turn.Patience.TheVariants.{Endless}
 use Rattle.row_sources.specs.declared.turn.Turn.{Turn}
 use Rattle.row_sources.specs.declared.turn.Turn.TheVariants.{Given, Working, End}
 use Rattle.arrow_schema.specs.declared.schema.Schema.{Schema}
@@ -44,7 +43,7 @@ CountsNext before given (Err fault) after now = GivingOn before after × (now �
 -- what a turn to the next batch gives, where so many rows were given
 abbrev pub CountsTurn : Patience → GivingAt → ℕ → Result (Turn BatchAt) Fault → GivingAt → ℕ → Type 0
 CountsTurn patience before given (Ok (Given batch)) after now = CountsNext before given (Ok (Some batch)) after now
-CountsTurn patience before given (Ok Working) after now = GivesNoneYet before after × (now ≡ given) × (patience ≢ Endless)
+CountsTurn patience before given (Ok Working) after now = GivesNoneYet before after × (now ≡ given) × LooksOn patience before.unseen after.unseen
 CountsTurn patience before given (Ok End) after now = CountsNext before given (Ok None) after now
 CountsTurn patience before given (Err fault) after now = CountsNext before given (Err fault) after now
 
@@ -66,6 +65,7 @@ scan_at schema giving batches further given refused = record {
   opened = take (further + length giving.opened) batches;
   given = given;
   refused = refused;
+  unseen = giving.unseen;
 }
 
 -- numbers rise, from this one on
@@ -92,4 +92,5 @@ answer_for (Groups keys items) rows = record {
   ahead = map (λ group. (None, map (answered group) items)) (groups_by keys (map (λ (row : ℕ × Row). row.1) rows.ahead));
   batches = rows.batches;
   opened = rows.opened;
+  unseen = 0;
 }

@@ -1,25 +1,26 @@
 -- Inside: what is still to be given, batch by batch.
-use Rattle.std.specs.Prelude.{◌≡◌, ◌≢◌, ◌≤◌, ◌<◌, ℕ, List, [], ◌++◌, length, map, take, Option, Some, None, Result, Ok, Err}
+use Rattle.std.specs.Prelude.{◌≡◌, ◌≤◌, ◌<◌, ℕ, List, [], ◌++◌, length, map, take, Option, Some, None, Result, Ok, Err}
 use Rattle.std.specs.List.{last_or}
 use Rattle.std.specs.declared.alloc.AllocError.{AllocError}
 use Rattle.arrow_schema.specs.declared.data_type.DataType.{DataType}
 use Rattle.arrays.specs.Batch.{BatchAt, rows_of}
 use Rattle.arrays.specs.Typed.{AreOf}
 use Rattle.table_versions.specs.Table.{Row}
-use Rattle.row_sources.specs.Running.{RowsAt}
+use Rattle.row_sources.specs.Running.{RowsAt, LooksOn}
 use Rattle.row_sources.specs.declared.turn.Patience.{Patience}
-use Rattle.row_sources.specs.declared.turn.Patience.TheVariants.{Endless}
 use Rattle.row_sources.specs.declared.turn.Turn.{Turn}
 use Rattle.row_sources.specs.declared.turn.Turn.TheVariants.{Given, Working, End}
 use Rattle.array_select.specs.Room.{most_batch_rows}
 
 -- The types of the columns; the rows that are still to be given, each with the number of the batch of the first place of
--- which it comes, if it is one; and the numbers of the batches of that place that are to be opened, and of those that were.
+-- which it comes, if it is one; the numbers of the batches of that place that are to be opened, and of those that were; and how
+-- many rows turns have still to look at. Groups are made in one turn, which looks at all.
 pub record GivingAt : Type 0 where
   pub types : List DataType
   pub ahead : List (Option ℕ × Row)
   pub batches : List ℕ
   pub opened : List ℕ
+  pub unseen : ℕ
 
 -- rows of one batch, each with its number
 abbrev pub of_rows : RowsAt → GivingAt
@@ -28,6 +29,7 @@ of_rows rows = record {
   ahead = map (λ (row : ℕ × Row). (Some row.0, row.1)) rows.ahead;
   batches = rows.batches;
   opened = rows.opened;
+  unseen = rows.unseen;
 }
 
 -- it goes on over the same batches
@@ -78,6 +80,6 @@ MakesReady before (Err _) after = GivingOn before after
 -- What a turn gives: the next batch, or none where no row is left. One whose patience has an end may give none yet.
 abbrev pub GivesTurn : Patience → GivingAt → Result (Turn BatchAt) AllocError → GivingAt → Type 0
 GivesTurn patience before (Ok (Given batch)) after = GivesBatch before batch after
-GivesTurn patience before (Ok Working) after = GivesNoneYet before after × (patience ≢ Endless)
+GivesTurn patience before (Ok Working) after = GivesNoneYet before after × LooksOn patience before.unseen after.unseen
 GivesTurn patience before (Ok End) after = GivesNone before after
 GivesTurn patience before (Err _) after = GivingOn before after

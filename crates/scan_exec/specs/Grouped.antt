@@ -42,6 +42,7 @@ of_groups rows wanted stage = record {
   ahead = map (λ (row : Row). (None, row)) (rows_left rows wanted stage);
   batches = rows.batches;
   opened = rows.opened;
+  unseen = 0;
 }
 
 -- what is wanted names columns that are there

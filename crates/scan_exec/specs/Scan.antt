@@ -1,5 +1,5 @@
 -- What a scan gives, and what it opens.
-use Rattle.std.specs.Prelude.{◌≡◌, ◌≢◌, ◌≤◌, ◌<◌, ◌⊎◌, ℕ, ◌+◌, List, [], ◌++◌, length, map, take, Option, Some, None, Result, Ok, Err}
+use Rattle.std.specs.Prelude.{◌≡◌, ◌≤◌, ◌<◌, ◌⊎◌, ℕ, ◌+◌, List, [], ◌++◌, length, map, take, Option, Some, None, Result, Ok, Err}
 use Rattle.std.specs.List.{last_or}
 use Rattle.arrays.specs.Batch.{BatchAt, rows_of}
 use Rattle.arrays.specs.Typed.{AreOf}
@@ -12,7 +12,7 @@ use Rattle.scan_base.specs.declared.fault.Fault.{Fault}
 use Rattle.scan_base.specs.declared.fault.Fault.TheVariants.{OutOfMemory, ResultTooLarge}
 use Rattle.table_versions.specs.Table.{Row}
 use Rattle.row_sources.specs.declared.turn.Patience.{Patience}
-use Rattle.row_sources.specs.declared.turn.Patience.TheVariants.{Endless}
+use Rattle.row_sources.specs.Running.{LooksOn}
 use Rattle.row_sources.specs.declared.turn.Turn.{Turn}
 use Rattle.row_sources.specs.declared.turn.Turn.TheVariants.{Given, Working, End}
 use Rattle.typed_plan.specs.View.{BoundAt}
@@ -21,7 +21,8 @@ use Rattle.opened_batches.specs.Opened.{further_opened, first_opened}
 
 -- The columns of the result; the types of the columns of its batches; the rows that are still to be given, each with the
 -- number of the batch of the first place of which it comes, if it is one; the batches that are to be opened, each by its
--- place and its number there, in that order, and those that were; how many rows were given; and what refused the scan.
+-- place and its number there, in that order, and those that were; how many rows were given; what refused the scan; and how many rows
+-- turns have still to look at.
 pub record ScanAt : Type 0 where
   pub schema : Schema
   pub types : List DataType
@@ -30,6 +31,7 @@ pub record ScanAt : Type 0 where
   pub opened : List (ℕ × ℕ)
   pub given : ℕ
   pub refused : Option Fault
+  pub unseen : ℕ
 
 -- the rows that are still to be given
 abbrev pub left : ScanAt → List Row
@@ -80,7 +82,7 @@ Gives before result after = going before.refused result
     going : Option Fault → Result (Option BatchAt) Fault → Type 0
     going (Some fault) result = (result ≡ Err fault) × (after ≡ before)
     going None (Ok (Some batch)) = GivesRows before batch after
-    going None (Ok None) = (before.ahead ≡ []) × (after ≡ record before { opened = before.batches })
+    going None (Ok None) = (before.ahead ≡ []) × (after ≡ record before { opened = before.batches; unseen = after.unseen })
     going None (Err fault) = MayRefuse before fault × (after.refused ≡ Some fault) × Continues before after
 
 -- none is given of the rows that were looked at
@@ -90,10 +92,11 @@ pub record GivesNoneYet (before after : ScanAt) : Type 0 where
   pub on : Continues before after
   pub refused : after.refused ≡ None
 
--- What a turn gives: what a call gives, or nothing yet, of a scan that was not refused, where its patience has an end.
+-- What a turn gives: what a call gives, or nothing yet, of a scan that was not refused, where its patience has an end. Then it looked
+-- at rows (`LooksOn`).
 abbrev pub GivesTurn : Patience → ScanAt → Result (Turn BatchAt) Fault → ScanAt → Type 0
 GivesTurn patience before (Ok (Given batch)) after = Gives before (Ok (Some batch)) after
-GivesTurn patience before (Ok Working) after = (before.refused ≡ None) × GivesNoneYet before after × (patience ≢ Endless)
+GivesTurn patience before (Ok Working) after = (before.refused ≡ None) × GivesNoneYet before after × LooksOn patience before.unseen after.unseen
 GivesTurn patience before (Ok End) after = Gives before (Ok None) after
 GivesTurn patience before (Err fault) after = Gives before (Err fault) after
 

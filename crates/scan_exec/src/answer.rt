@@ -10,7 +10,6 @@ use crate::different::Different;
 use crate::different_keys::DifferentKeys;
 use crate::group_work::GroupsBatches;
 use crate::grouped::{GroupedRows, Stage, Wanted};
-use crate::making::Making;
 use crate::shown_groups::ShownGroups;
 use arrays::Batch;
 use hash_seed::HashSeed;
@@ -57,18 +56,18 @@ impl Answer {
     }
 
     // A turn to the next batch.
-    pub(crate) fn turn<G: GroupsBatches>(
+    pub(crate) fn turn(
         &mut self,
         alloc: Global,
-        making: Making<'_, G>,
+        patience: Patience,
     ) -> Result<Turn<Batch>, AllocError>
         requires { IsGiving self.old }
         ensures giving { IsGiving self.new }
-        ensures gives { GivesTurn making.entry.patience (giving_at self.old) result (giving_at self.new) }
+        ensures gives { GivesTurn patience (giving_at self.old) result (giving_at self.new) }
     {
         match self {
-            Answer::Rows(rows) => turn_of_rows(alloc, rows, making.patience),
-            Answer::Groups(groups) => match groups.next(alloc, making.by)? {
+            Answer::Rows(rows) => turn_of_rows(alloc, rows, patience),
+            Answer::Groups(groups) => match groups.next(alloc)? {
                 Some(batch) => Ok(Turn::Given(batch)),
                 None => Ok(Turn::End),
             },

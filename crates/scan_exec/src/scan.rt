@@ -13,15 +13,14 @@ ghost use Rattle.scan_exec.specs.Morsels.{HasMorsels, morsel_of, of_first};
 ghost use Rattle.scan_exec.specs.Scan.{Gives, GivesTurn, IsBeginning, IsReadied, left};
 
 use crate::answer::{Answer, answer_of};
-use crate::group_work::{GroupsBatches, InOneWalk};
-use crate::making::Making;
+use crate::group_work::GroupsBatches;
 use crate::opened::{further_batches, push_numbers};
 use arrays::Batch;
 use arrow_schema::Schema;
 use hash_seed::HashSeed;
 use opened_batches::opened_lists;
 use rewrite::laws::skipping_keeps_rows;
-use row_sources::{Patience, Reading, RowSource, Turn, opened_tables};
+use row_sources::{Patience, Reading, RowSource, Turn, WholePlan, opened_tables};
 use scan_base::Fault;
 use std::alloc::{AllocError, Global};
 use std::marker::Model;
@@ -128,10 +127,12 @@ impl Scan {
         let first = &lists[0];
         push_numbers(&mut batches, 0, first.numbers.as_slice())?;
         let (from, to) = (first.from, first.to);
-        let (tables, plan, output, schema) = rewrite::rewrite(alloc, plan)?.into_parts();
+        let plan = rewrite::rewrite(alloc, plan)?;
+        let (tables, tree, output, schema) = plan.into_parts();
         let tables = opened_tables(alloc, tables.as_slice(), lists)?;
         let seed = reading.seed;
         let opened = Reading { seed, from, to };
+        let plan = WholePlan { tree, output: &output };
         let source = RowSource::watched(alloc, plan, tables, opened, watch)?;
         Ok(Scan {
             schema: Arc::new(alloc, schema)?,
@@ -197,23 +198,7 @@ impl Scan {
     pub fn next(&mut self, alloc: Global) -> Result<Option<Batch>, Fault>
         ensures { Gives self.old result self.new }
     {
-        self.next_by(alloc, &InOneWalk)
-    }
-
-    /// The same, where the groups of a grouped query are made by the one that is handed in, at the first call.
-    ///
-    /// # Errors
-    ///
-    /// Those of `next`.
-    pub fn next_by<G: GroupsBatches>(
-        &mut self,
-        alloc: Global,
-        by: &G,
-    ) -> Result<Option<Batch>, Fault>
-        ensures { Gives self.old result self.new }
-    {
-        let patience = Patience::Endless;
-        match self.turn_by(alloc, Making { by, patience })? {
+        match self.turn(alloc, Patience::Endless)? {
             Turn::Given(batch) => Ok(Some(batch)),
             Turn::Working => Ok(None),
             Turn::End => Ok(None),
@@ -221,22 +206,18 @@ impl Scan {
     }
 
     /// A turn to the next batch. `Turn::Working` where none of the rows is given that the turn looked at: the next turn goes
-    /// on behind them.
+    /// on behind them. Groups that were not made before are made in one turn.
     ///
     /// # Errors
     ///
     /// Those of `next`.
-    pub fn turn_by<G: GroupsBatches>(
-        &mut self,
-        alloc: Global,
-        making: Making<'_, G>,
-    ) -> Result<Turn<Batch>, Fault>
-        ensures { GivesTurn making.entry.patience self.old result self.new }
+    pub fn turn(&mut self, alloc: Global, patience: Patience) -> Result<Turn<Batch>, Fault>
+        ensures { GivesTurn patience self.old result self.new }
     {
         if let Some(fault) = self.refused {
             return Err(fault);
         }
-        match turn_counted(alloc, making, &mut self.answer, &mut self.given) {
+        match turn_counted(alloc, patience, &mut self.answer, &mut self.given) {
             Ok(found) => Ok(found),
             Err(fault) => {
                 self.refused = Some(fault);
@@ -284,7 +265,7 @@ impl Scan {
     pub fn morsel(&self, alloc: Global, number: usize) -> Result<Scan, AllocError>
         requires unopened { of_first self.now.opened ≡ [] }
         requires there { number < length (of_first self.now.batches) }
-        ensures { IfOk result (λ morsel. morsel ≡ morsel_of self.now number) }
+        ensures { IfOk result (λ morsel. morsel ≡ record (morsel_of self.now number) { unseen = morsel.unseen }) }
     {
         let Answer::Rows(rows) = &self.answer else {
             return Err(AllocError);
@@ -305,18 +286,18 @@ impl Scan {
 }
 
 // A turn to the next batch, where so many rows were given.
-fn turn_counted<G: GroupsBatches>(
+fn turn_counted(
     alloc: Global,
-    making: Making<'_, G>,
+    patience: Patience,
     answer: &mut Answer,
     given: &mut usize,
 ) -> Result<Turn<Batch>, Fault>
     requires giving { IsGiving answer.old }
     requires few { given.old ≤ most_answer_rows }
     ensures giving { IsGiving answer.new }
-    ensures counts { CountsTurn making.entry.patience (giving_at answer.old) given.old result (giving_at answer.new) given.new }
+    ensures counts { CountsTurn patience (giving_at answer.old) given.old result (giving_at answer.new) given.new }
 {
-    match answer.turn(alloc, making)? {
+    match answer.turn(alloc, patience)? {
         Turn::Given(batch) => {
             if batch.rows() > MAX_ANSWER_ROWS - *given {
                 return Err(Fault::ResultTooLarge);

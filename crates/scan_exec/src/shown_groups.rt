@@ -71,14 +71,10 @@ impl ShownGroups {
     }
 
     // The next batch of the answer. A column that is given more than once lies in the same buffers.
-    pub(crate) fn next<G: GroupsBatches>(
-        &mut self,
-        alloc: Global,
-        by: &G,
-    ) -> Result<Option<Batch>, AllocError>
+    pub(crate) fn next(&mut self, alloc: Global) -> Result<Option<Batch>, AllocError>
         ensures { GivesNext self.old result self.new }
     {
-        let Some(batch) = self.groups.next(alloc, by)? else {
+        let Some(batch) = self.groups.next(alloc)? else {
             return Ok(None);
         };
         let whole = Part {

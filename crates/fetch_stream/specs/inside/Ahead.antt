@@ -42,6 +42,11 @@ abbrev pub left_behind : Source → List Row
 left_behind (Scanned scan) = left scan
 left_behind (Listed schema) = []
 
+-- how many rows its turns have still to look at
+abbrev pub unseen_behind : Source → ℕ
+unseen_behind (Scanned scan) = scan.unseen
+unseen_behind (Listed schema) = 0
+
 -- what refused it
 abbrev pub refused_behind : Source → Option Fault
 refused_behind (Scanned scan) = scan.refused

@@ -1,17 +1,17 @@
 -- Inside: what a source gives.
-use Rattle.std.specs.Prelude.{◌≡◌, ◌≢◌, ◌≤◌, ◌<◌, ◌⊎◌, ◌+◌, false, length, [], ◌++◌, Option, Some, None, Result, Ok, Err}
+use Rattle.std.specs.Prelude.{◌≡◌, ◌≤◌, ◌<◌, ◌⊎◌, ◌+◌, false, length, [], ◌++◌, Option, Some, None, Result, Ok, Err}
 use Rattle.std.specs.List.{list_any}
 use Rattle.arrays.specs.Batch.{BatchAt, rows_of}
 use Rattle.scan_base.specs.declared.fault.Fault.{Fault}
 use Rattle.scan_base.specs.declared.fault.Fault.TheVariants.{OutOfMemory, ResultTooLarge}
 use Rattle.scan_base.specs.Limits.{most_answer_rows}
 use Rattle.row_sources.specs.declared.turn.Patience.{Patience}
-use Rattle.row_sources.specs.declared.turn.Patience.TheVariants.{Endless}
+use Rattle.row_sources.specs.Running.{LooksOn}
 use Rattle.row_sources.specs.declared.turn.Turn.{Turn}
 use Rattle.row_sources.specs.declared.turn.Turn.TheVariants.{Given, Working, End}
 use Rattle.table_versions.specs.Table.{is_long_text}
 use Rattle.fetch_stream.specs.declared.source.Source.{Source}
-use Rattle.fetch_stream.specs.inside.Ahead.{IsSource, AnsweredAs, schema_behind, left_behind, rows_taken}
+use Rattle.fetch_stream.specs.inside.Ahead.{IsSource, AnsweredAs, schema_behind, left_behind, rows_taken, unseen_behind}
 
 -- a source goes on, with its schema
 pub record GoesOn (before after : Source) : Type 0 where
@@ -49,6 +49,6 @@ pub record GivesNoneYet (before after : Source) : Type 0 where
 -- what a turn of a source gives
 abbrev pub TurnsBatch : Patience → Source → Result (Turn BatchAt) Fault → Source → Type 0
 TurnsBatch patience before (Ok (Given batch)) after = GivesBatch before (Ok (Some batch)) after
-TurnsBatch patience before (Ok Working) after = GivesNoneYet before after × (patience ≢ Endless)
+TurnsBatch patience before (Ok Working) after = GivesNoneYet before after × LooksOn patience (unseen_behind before) (unseen_behind after)
 TurnsBatch patience before (Ok End) after = GivesBatch before (Ok None) after
 TurnsBatch patience before (Err fault) after = GivesBatch before (Err fault) after

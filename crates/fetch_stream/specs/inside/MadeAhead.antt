@@ -10,7 +10,7 @@ use Rattle.row_sources.specs.declared.turn.Turn.TheVariants.{Given, Working, End
 use Rattle.table_versions.specs.Table.{Row}
 use Rattle.scan_exec.specs.Scan.{ScanAt}
 use Rattle.scan_exec.specs.Morsels.{HasMorsels, morsel_rows}
-use Rattle.fetch_stream.specs.Streams.{StreamAt, Gives, GivesParcel, MayRefuse}
+use Rattle.fetch_stream.specs.Streams.{StreamAt, RunningAt, Gives, GivesParcel, MayRefuse}
 use Rattle.fetch_stream.specs.Morsels.{MorselsAt}
 use Rattle.fetch_stream.specs.declared.made.Made.{Made}
 use Rattle.fetch_stream.specs.declared.source.Source.TheVariants.{Scanned}
@@ -31,13 +31,13 @@ abbrev pub behind : Schema → List Row → ℕ → StreamAt
 behind schema rows given = record { schema = schema; begun = true; left = drop given rows; given = given; refused = None }
 
 -- where the rest of a stream stands, if there is memory for one: at its next row, or it was refused there
-abbrev pub Stands : StreamAt → Option StreamAt → Type 0
+abbrev pub Stands : StreamAt → Option RunningAt → Type 0
 Stands stream None = Unit {0}
-Stands stream (Some rest) = (rest ≡ stream) ⊎ ((fault : Fault) × (rest.refused ≡ Some fault) × MayRefuse stream fault)
+Stands stream (Some rest) = (rest.stream ≡ stream) ⊎ ((fault : Fault) × (rest.stream.refused ≡ Some fault) × MayRefuse stream fault)
 
 -- Parcels that were made of these rows behind the first ones, each behind the other, and the rest. With each stands how many
 -- rows are given with it, and how many were taken of the scan.
-abbrev pub AreAhead : Schema → List Row → ℕ → List Made → Option StreamAt → Type 0
+abbrev pub AreAhead : Schema → List Row → ℕ → List Made → Option RunningAt → Type 0
 AreAhead schema rows given [] rest = Stands (behind schema rows given) rest
 AreAhead schema rows given (made ∷ more) rest =
     GivesParcel (behind schema rows given) made.parcel (behind schema rows made.given)
@@ -53,7 +53,7 @@ MakesNext patience before (Ok End) after = Gives before (Ok None) after
 MakesNext patience before (Err fault) after = Gives before (Err fault) after
 
 -- what parcels that are ahead give in a turn, and the rest behind them
-abbrev pub GivesMade : Patience → Schema → List Row → ℕ → Result (Turn Made) Fault → List Made → Option StreamAt → Type 0
+abbrev pub GivesMade : Patience → Schema → List Row → ℕ → Result (Turn Made) Fault → List Made → Option RunningAt → Type 0
 GivesMade patience schema rows given (Ok (Given made)) more rest =
     GivesParcel (behind schema rows given) made.parcel (behind schema rows made.given)
     × (made.given ≤ made.taken) × (made.taken ≤ length rows)

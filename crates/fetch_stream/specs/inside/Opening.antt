@@ -16,9 +16,9 @@ rows_meant scan = map (λ (given : Option ℕ × Row). given.1) (given_of scan.p
 -- the stream of what is meant
 abbrev pub stream_meant : Meaning → StreamAt
 stream_meant (Planned scan) = before_schema scan.plan.schema (rows_meant scan)
-stream_meant (Listed stream) = stream
+stream_meant (Listed stream) = stream.stream
 
 -- a plan has a schema, and nothing was given of the list of tables
 abbrev pub IsMeaning : Meaning → Type 0
 IsMeaning (Planned scan) = IsSchema scan.plan.schema
-IsMeaning (Listed stream) = (stream.begun ≡ false) × (stream.given ≡ 0) × (stream.refused ≡ None)
+IsMeaning (Listed stream) = (stream.stream.begun ≡ false) × (stream.stream.given ≡ 0) × (stream.stream.refused ≡ None)

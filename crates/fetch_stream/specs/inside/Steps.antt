@@ -1,11 +1,11 @@
 -- Inside: how a stream goes on that was not refused.
-use Rattle.std.specs.Prelude.{◌≡◌, ◌≢◌, ◌≤◌, ◌<◌, ◌⊎◌, ◌+◌, List, [], ◌∷◌, ◌++◌, length, Result, Ok, Err}
+use Rattle.std.specs.Prelude.{◌≡◌, ◌≤◌, ◌<◌, ◌⊎◌, ◌+◌, List, [], ◌∷◌, ◌++◌, length, Result, Ok, Err}
 use Rattle.scan_base.specs.declared.fault.Fault.{Fault}
 use Rattle.scan_base.specs.declared.fault.Fault.TheVariants.{OutOfMemory, ResultTooLarge}
 use Rattle.scan_base.specs.Limits.{most_answer_rows, most_message_bytes}
 use Rattle.arrow_schema.specs.declared.schema.Schema.{Schema}
 use Rattle.row_sources.specs.declared.turn.Patience.{Patience}
-use Rattle.row_sources.specs.declared.turn.Patience.TheVariants.{Endless}
+use Rattle.row_sources.specs.Running.{LooksOn}
 use Rattle.row_sources.specs.declared.turn.Turn.{Turn}
 use Rattle.row_sources.specs.declared.turn.Turn.TheVariants.{Given, Working, End}
 use Rattle.table_versions.specs.Table.{Row}
@@ -13,7 +13,7 @@ use Rattle.flight_info.specs.Payloads.{Payload, FitMessages}
 use Rattle.fetch_stream.specs.Streams.{Parcel, most_message_rows}
 use Rattle.fetch_stream.specs.declared.cutter.Cutter.{Cutter}
 use Rattle.fetch_stream.specs.declared.source.Source.{Source}
-use Rattle.fetch_stream.specs.inside.Ahead.{IsGoing, uncut, schema_behind, left_behind, rows_cut}
+use Rattle.fetch_stream.specs.inside.Ahead.{IsGoing, uncut, schema_behind, left_behind, rows_cut, unseen_behind}
 use Rattle.fetch_stream.specs.inside.Written.{SaysRows, SaysSchema}
 
 -- a parcel is the payload of the schema alone
@@ -66,7 +66,7 @@ pub record Waits (cutter : Cutter) (source : Source) (new_cutter : Cutter) (new 
 -- a turn to the next batch where the last one was given whole: it is there, or not yet, or none is left
 abbrev pub Refills : Patience → Cutter → Source → Result (Turn (Unit {0})) Fault → Cutter → Source → Type 0
 Refills patience cutter source (Ok (Given _)) new_cutter new = HasNext cutter source new_cutter new
-Refills patience cutter source (Ok Working) new_cutter new = Waits cutter source new_cutter new × (patience ≢ Endless)
+Refills patience cutter source (Ok Working) new_cutter new = Waits cutter source new_cutter new × LooksOn patience (unseen_behind source) (unseen_behind new)
 Refills patience cutter source (Ok End) new_cutter new = Ends cutter source new_cutter new
 Refills patience cutter source (Err fault) new_cutter new = Fails cutter source fault
 
@@ -84,6 +84,6 @@ pub record SaysNext (cutter : Cutter) (source : Source) (parcel : Parcel) (new_c
 -- a turn to the parcel of the next rows
 abbrev pub GivesRows : Patience → Cutter → Source → Result (Turn Parcel) Fault → Cutter → Source → Type 0
 GivesRows patience cutter source (Ok (Given parcel)) new_cutter new = SaysNext cutter source parcel new_cutter new
-GivesRows patience cutter source (Ok Working) new_cutter new = Waits cutter source new_cutter new × (patience ≢ Endless)
+GivesRows patience cutter source (Ok Working) new_cutter new = Waits cutter source new_cutter new × LooksOn patience (unseen_behind source) (unseen_behind new)
 GivesRows patience cutter source (Ok End) new_cutter new = Ends cutter source new_cutter new
 GivesRows patience cutter source (Err fault) new_cutter new = Fails cutter source fault

@@ -14,7 +14,7 @@ loop-left-preserved-in-Ok-Given c = λ schema rows given all.
     let after = c.make_next.new.stream in
     let next = c.in-Ok-Given.next in
     let is : c.make_next.result ≡ Ok (Given next) = cc in
-    let makes : MakesNext patience before (Ok (Given next)) after = subst (λ (r : Result (Turn Made) Fault). MakesNext patience before r after) is c.make_next.ensures in
+    let makes : MakesNext patience before.stream (Ok (Given next)) after.stream = subst (λ (r : Result (Turn Made) Fault). MakesNext patience before.stream r after.stream) is c.make_next.ensures in
     rw c.push_back_reserved.ensures.items (more_ahead patience schema rows given c.loop-left.made.items before after next (c.loop-left.invariant schema rows given all) makes)
 
 pub returns-in-Err : goal.returns-in-Err
@@ -22,5 +22,5 @@ returns-in-Err c = λ schema rows given all.
     let patience = c.args.turns.now.patience in
     let before = c.loop-left.rest in
     let after = c.make_next.new.stream in
-    let makes : MakesNext patience before (Err c.in-Err.field-0) after = subst (λ (r : Result (Turn Made) Fault). MakesNext patience before r after) c.in-Err.is c.make_next.ensures in
+    let makes : MakesNext patience before.stream (Err c.in-Err.field-0) after.stream = subst (λ (r : Result (Turn Made) Fault). MakesNext patience before.stream r after.stream) c.in-Err.is c.make_next.ensures in
     refused_ahead schema rows given c.loop-left.made.items before after c.in-Err.field-0 (c.loop-left.invariant schema rows given all) makes

@@ -1,20 +1,17 @@
 use Rattle.std.proofs.Common.{◌++◌, List, length, ap, sym, ◌∙◌, arith}
 use Rattle.std.specs.List.{flat_map}
 use Rattle.arrays.specs.Batch.{rows_of}
-use Rattle.std.specs.Prelude.{◌≢◌}
 use Rattle.table_versions.specs.Table.{Row}
 use Rattle.row_sources.specs.Collected.{plain_rows}
-use Rattle.row_sources.specs.Running.{FindsPiece, FindsNone}
-use Rattle.row_sources.specs.declared.turn.Patience.TheVariants.{Endless}
-use Rattle.row_sources.proofs.AllRows.{fewer_ahead, one_more, one_typed}
+use Rattle.row_sources.specs.Running.{FindsPiece, FindsNone, LooksOn}
+use Rattle.row_sources.proofs.AllRows.{one_more, one_typed}
 use Rattle.row_sources.proofs.JoinSteps.{on_and_on}
-use Rattle.row_sources.proofs.Turns.{turns_left}
 use Rattle.row_sources.proofs.collected.collect_watched.Goals as goal
 
 pub loop-batches-smaller-in-Continue-branch-4 : goal.loop-batches-smaller-in-Continue-branch-4
 loop-batches-smaller-in-Continue-branch-4 g c =
     let finds : FindsPiece c.loop-batches.rows c.in-Given.piece c.turn.new.self = rw (c.in_ok-piece.was, c.in-Given.is) at c.turn.ensures.found in
-    omega (arith, fewer_ahead c.loop-batches.rows c.turn.new.self c.in-Given.piece finds)
+    finds.looked
 
 pub loop-batches-preserved-in-Continue-branch-4 : goal.loop-batches-preserved-in-Continue-branch-4
 loop-batches-preserved-in-Continue-branch-4 g c =
@@ -31,16 +28,15 @@ loop-batches-preserved-in-Continue-branch-4 g c =
       watched = g.met.W.Watches.again _ _ _ is.watched c.in_ok-tell-in-Given.ensures.watched;
     }
 
--- where none is given, one turn fewer is left
+-- where none is given, fewer rows are left to be looked at
 pub loop-batches-smaller : goal.loop-batches-smaller
 loop-batches-smaller g c =
-    let none : FindsNone c.loop-batches.rows c.turn.new.self × (c.patience_of-patience.result ≢ Endless) = rw (c.in_ok-piece.was, c.in-Working.is) at c.turn.ensures.found in
-    let left = turns_left c.loop-batches.turns c.patience_of-patience.result c.patience_of-patience.ensures none.1 in
-    omega (arith, left, ap length none.0.same)
+    let none : FindsNone c.loop-batches.rows c.turn.new.self × LooksOn c.watched_patience-patience.result c.loop-batches.rows.unseen c.turn.new.self.unseen = rw (c.in_ok-piece.was, c.in-Working.is) at c.turn.ensures.found in
+    none.1.1 c.watched_patience-patience.ensures
 
 pub loop-batches-preserved : goal.loop-batches-preserved
 loop-batches-preserved g c =
-    let none : FindsNone c.loop-batches.rows c.turn.new.self × (c.patience_of-patience.result ≢ Endless) = rw (c.in_ok-piece.was, c.in-Working.is) at c.turn.ensures.found in
+    let none : FindsNone c.loop-batches.rows c.turn.new.self × LooksOn c.watched_patience-patience.result c.loop-batches.rows.unseen c.turn.new.self.unseen = rw (c.in_ok-piece.was, c.in-Working.is) at c.turn.ensures.found in
     let is = c.loop-batches.invariant in
     record {
       rows = ap (λ (rest : List Row). flat_map rows_of c.loop-batches.batches.items ++ rest) (ap plain_rows (sym none.0.same)) ∙ is.rows;

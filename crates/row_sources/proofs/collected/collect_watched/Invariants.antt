@@ -16,4 +16,4 @@ invariant-loop-batches g l = record {
 }
 
 abbrev pub decreases-loop-batches : goal.decreases-loop-batches
-decreases-loop-batches g l = length l.rows.ahead + l.turns
+decreases-loop-batches g l = l.rows.unseen

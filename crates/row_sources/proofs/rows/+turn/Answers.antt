@@ -12,7 +12,7 @@ use Rattle.row_sources.specs.Running.{RowsAt, FindsTurn, FindsPiece, picked_of}
 use Rattle.row_sources.specs.declared.picker.Picker.{Picker}
 use Rattle.row_sources.specs.declared.rows.Source.{Source}
 use Rattle.row_sources.specs.Sources.{place_at}
-use Rattle.row_sources.proofs.JoinSteps.{as_many, still_joined, batch_goes, batch_none, batch_over, batch_found, batch_fewer, fed_fewer, fed_none, left_none, on_and_on, picks_end, picks_none, shown_found, shown_joined}
+use Rattle.row_sources.proofs.JoinSteps.{as_many, still_joined, batch_goes, batch_none, batch_over, batch_found, batch_fewer, batch_looked, fed_fewer, fed_looked, fed_none, left_looked, left_none, on_and_on, picks_end, picks_none, shown_found, shown_joined}
 use Rattle.row_sources.proofs.Turns.{has_end}
 use Rattle.row_sources.proofs.rows.+turn.Goals as goal
 
@@ -31,7 +31,7 @@ Joining::turn-returns-in-Some-2-clause-found t c =
     let gives : GivesJoined joiner c.in-Some.batch c.next.new.self = rw (c.in_ok-batch.was, c.in-Some.is) at c.next.ensures in
     let picked = rw (c.in_ok-batch-2.was, c.in-Some-2.is) at c.pick.ensures in
     batch_found (pick_of c.args.picker.now) (joined_at c.args.left.now c.args.self.now.joiner c.args.self.now.number) c.loop-batch.left joiner
-    c.loop-batch.self.number c.in-Some.batch c.next.new.self gives is.goes is.rows is.is _ refl refl c.rows-to.ensures c.in-Some-2.batch picked
+    c.loop-batch.self.number c.in-Some.batch c.next.new.self gives is.goes is.rows is.seen is.is _ refl refl c.rows-to.ensures c.in-Some-2.batch picked
 
 pub Joining::turn-returns-in-Some-2-clause-joined :
     goal.Joining::turn-returns-in-Some-2-clause-joined
@@ -48,9 +48,10 @@ Joining::turn-returns-then-is_over-clause-found t c =
     let first = joined_at c.args.left.now c.args.self.now.joiner c.args.self.now.number in
     let gives : GivesJoined joiner c.in-Some.batch c.next.new.self = rw (c.in_ok-batch.was, c.in-Some.is) at c.next.ensures in
     let none = rw (c.in_ok-batch-2.was, c.in_default-2.is) at c.pick.ensures in (
-      batch_none pick first c.loop-batch.left joiner c.loop-batch.self.number c.in-Some.batch c.next.new.self gives is.goes is.rows is.is
+      batch_none pick first c.loop-batch.left joiner c.loop-batch.self.number c.in-Some.batch c.next.new.self gives is.goes is.rows is.seen is.is
           (record { batch = record { ref_ptr = c.args.picker.ref_ptr; now = c.in-Some.batch }; from = 0; to = c.rows-to.result }) refl refl c.rows-to.ensures none,
       has_end c.args.looking.now.patience c.spend.new.self.patience c.is_over.result (λ e. c.spend.ensures.endless (is.endless e)) c.is_over.ensures.endless c.if-is_over.true,
+      λ _. let fewer = batch_looked c.loop-batch.left joiner c.loop-batch.self.number c.in-Some.batch c.next.new.self gives in omega (arith, is.seen, fewer),
     )
 
 pub Joining::turn-loop-batch-smaller-in-Some : goal.Joining::turn-loop-batch-smaller-in-Some
@@ -71,9 +72,11 @@ Joining::turn-loop-batch-preserved-in-Some t c =
     record {
       is = still_joined c.loop-batch.left joiner c.loop-batch.self.number c.in-Some.batch c.next.new.self gives is.is;
       goes = batch_goes first c.loop-batch.left joiner c.loop-batch.self.number c.in-Some.batch c.next.new.self gives is.goes is.is;
-      rows = batch_over pick first c.loop-batch.left joiner c.loop-batch.self.number c.in-Some.batch c.next.new.self gives is.goes is.rows is.is
+      rows = batch_over pick first c.loop-batch.left joiner c.loop-batch.self.number c.in-Some.batch c.next.new.self gives is.goes is.rows is.seen is.is
           (record { batch = record { ref_ptr = c.args.picker.ref_ptr; now = c.in-Some.batch }; from = 0; to = c.rows-to.result }) refl refl c.rows-to.ensures none;
+      seen = let fewer = batch_looked c.loop-batch.left joiner c.loop-batch.self.number c.in-Some.batch c.next.new.self gives in omega (arith, is.seen, fewer);
       endless = λ e. c.spend.ensures.endless (is.endless e);
+      choice = λ e. is.choice (c.spend.ensures.choice e);
     }
 
 -- ---- the next left batch
@@ -104,7 +107,9 @@ Joining::turn-loop-batch-preserved t c =
       is = c.feed_next.ensures.joined;
       goes = on_and_on first before after is.goes found.on;
       rows = is.rows ∙ ap (given_numbered (pick_of c.args.picker.now)) found.same;
+      seen = omega (arith, is.seen, found.looked);
       endless = λ e. c.feed_next.ensures.endless (is.endless e);
+      choice = λ e. is.choice (c.feed_next.ensures.choice e);
     }
 
 pub Joining::turn-returns-in-Working-clause-found : goal.Joining::turn-returns-in-Working-clause-found
@@ -116,7 +121,7 @@ Joining::turn-returns-in-Working-clause-found t c =
     let before = joined_at c.loop-batch.left joiner c.loop-batch.self.number in
     let after = joined_at c.feed_next.new.left c.feed_next.new.self.joiner c.feed_next.new.self.number in
     let found = rw (none.1, c.in_ok-feed_next.was, c.in-Working.is) at c.feed_next.ensures.feeds in
-    (picks_none (pick_of c.args.picker.now) first before after is.goes is.rows found.0, λ e. found.1 (is.endless e))
+    (picks_none (pick_of c.args.picker.now) first before after is.goes is.rows is.seen found.0, (λ e. found.1.0 (is.endless e)), λ no. let fewer = found.1.1 (λ e. no (is.choice e)) in omega (arith, is.seen, fewer))
 
 pub Joining::turn-returns-in-End-clause-found : goal.Joining::turn-returns-in-End-clause-found
 Joining::turn-returns-in-End-clause-found t c =
@@ -151,7 +156,7 @@ Joining::turn_shown-returns-in-Some-clause-found t c =
     let gives : GivesShown joiner pick.shown c.in-Some.batch c.next_shown.new.self =
     rw (c.in_ok-batch.was, c.in-Some.is, c.as_slice-shown.ensures.value) at c.next_shown.ensures in
     shown_found pick (joined_at c.args.left.now c.args.self.now.joiner c.args.self.now.number) c.loop-batch.left joiner
-    c.loop-batch.self.number c.in-Some.batch c.next_shown.new.self gives is.goes is.rows is.is c.requires.bare
+    c.loop-batch.self.number c.in-Some.batch c.next_shown.new.self gives is.goes is.rows is.seen is.is c.requires.bare
 
 pub Joining::turn_shown-loop-batch-smaller : goal.Joining::turn_shown-loop-batch-smaller
 Joining::turn_shown-loop-batch-smaller t c =
@@ -179,7 +184,9 @@ Joining::turn_shown-loop-batch-preserved t c =
       is = c.feed_next.ensures.joined;
       goes = on_and_on first before after is.goes found.on;
       rows = is.rows ∙ ap (given_numbered (pick_of c.args.picker.now)) found.same;
+      seen = omega (arith, is.seen, found.looked);
       endless = λ e. c.feed_next.ensures.endless (is.endless e);
+      choice = λ e. is.choice (c.feed_next.ensures.choice e);
     }
 
 pub Joining::turn_shown-returns-in-Working-clause-found : goal.Joining::turn_shown-returns-in-Working-clause-found
@@ -191,7 +198,7 @@ Joining::turn_shown-returns-in-Working-clause-found t c =
     let before = joined_at c.loop-batch.left joiner c.loop-batch.self.number in
     let after = joined_at c.feed_next.new.left c.feed_next.new.self.joiner c.feed_next.new.self.number in
     let found = rw (none.1, c.in_ok-feed_next.was, c.in-Working.is) at c.feed_next.ensures.feeds in
-    (picks_none (pick_of c.args.picker.now) first before after is.goes is.rows found.0, λ e. found.1 (is.endless e))
+    (picks_none (pick_of c.args.picker.now) first before after is.goes is.rows is.seen found.0, (λ e. found.1.0 (is.endless e)), λ no. let fewer = found.1.1 (λ e. no (is.choice e)) in omega (arith, is.seen, fewer))
 
 pub Joining::turn_shown-returns-in-End-clause-found : goal.Joining::turn_shown-returns-in-End-clause-found
 Joining::turn_shown-returns-in-End-clause-found t c =
@@ -213,6 +220,7 @@ Joining::feed_next-returns-then-is_over-clause-feeds t c =
     let finds : FindsPiece left c.in-Given.piece c.turn.new.self = rw (c.in_ok-piece.was, c.in-Given.is) at c.turn.ensures.found in (
       rw c.feed.ensures (fed_none left self.joiner self.number c.in-Given.piece c.turn.new.self c.requires.none finds),
       has_end c.args.looking.now.patience c.turn.new.looking.patience c.is_over.result c.turn.ensures.endless c.is_over.ensures.endless c.if-is_over.true,
+      λ _. rw c.feed.ensures (fed_looked left self.joiner self.number c.in-Given.piece c.turn.new.self c.requires.none finds),
     )
 
 pub Joining::feed_next-returns-else-is_over-clause-feeds : goal.Joining::feed_next-returns-else-is_over-clause-feeds
@@ -232,7 +240,12 @@ Joining::feed_next-returns-else-is_over-clause-fewer t c =
 pub Joining::feed_next-returns-in-Working-clause-feeds : goal.Joining::feed_next-returns-in-Working-clause-feeds
 Joining::feed_next-returns-in-Working-clause-feeds t c =
     let finds = rw (c.in_ok-piece.was, c.in-Working.is) at c.turn.ensures.found in
-    (left_none c.args.left.now c.args.self.now.joiner c.args.self.now.number c.turn.new.self c.requires.none finds.0, finds.1)
+    let left = c.args.left.now in
+    let self = c.args.self.now in (
+      left_none left self.joiner self.number c.turn.new.self c.requires.none finds.0,
+      finds.1.0,
+      λ no. left_looked left self.joiner self.number c.turn.new.self c.requires.none finds.0.same (finds.1.1 no),
+    )
 
 pub Rows::turn-invariant_of-self : goal.Rows::turn-invariant_of-self
 Rows::turn-invariant_of-self t c =

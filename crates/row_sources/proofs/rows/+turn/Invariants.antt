@@ -1,8 +1,8 @@
-use Rattle.std.proofs.Common.{◌≡◌, ◌+◌, length}
+use Rattle.std.proofs.Common.{◌≡◌, ◌≤◌, ◌+◌, length}
 use Rattle.row_sources.specs.Joined.{joined_at, IsJoined}
 use Rattle.row_sources.specs.Picking.{pick_of, given_numbered}
 use Rattle.row_sources.specs.Running.{GoesOn}
-use Rattle.row_sources.specs.declared.turn.Patience.TheVariants.{Endless}
+use Rattle.row_sources.specs.declared.turn.Patience.TheVariants.{Endless, Choice}
 use Rattle.row_sources.proofs.rows.+turn.Given as goal
 
 -- nothing was passed of which a row is given
@@ -12,7 +12,9 @@ invariant-Joining::turn-loop-batch l = record {
   goes : GoesOn (joined_at l.fn.left l.fn.self.joiner l.fn.self.number) (joined_at l.left l.self.joiner l.self.number);
   rows : given_numbered (pick_of l.picker) (joined_at l.fn.left l.fn.self.joiner l.fn.self.number).ahead
       ≡ given_numbered (pick_of l.picker) (joined_at l.left l.self.joiner l.self.number).ahead;
+  seen : (joined_at l.left l.self.joiner l.self.number).unseen ≤ (joined_at l.fn.left l.fn.self.joiner l.fn.self.number).unseen;
   endless : l.fn.looking.patience ≡ Endless → l.looking.patience ≡ Endless;
+  choice : l.looking.patience ≡ Choice → l.fn.looking.patience ≡ Choice;
 }
 
 abbrev pub decreases-Joining::turn-loop-batch : goal.decreases-Joining::turn-loop-batch
@@ -24,7 +26,9 @@ invariant-Joining::turn_shown-loop-batch l = record {
   goes : GoesOn (joined_at l.fn.left l.fn.self.joiner l.fn.self.number) (joined_at l.left l.self.joiner l.self.number);
   rows : given_numbered (pick_of l.picker) (joined_at l.fn.left l.fn.self.joiner l.fn.self.number).ahead
       ≡ given_numbered (pick_of l.picker) (joined_at l.left l.self.joiner l.self.number).ahead;
+  seen : (joined_at l.left l.self.joiner l.self.number).unseen ≤ (joined_at l.fn.left l.fn.self.joiner l.fn.self.number).unseen;
   endless : l.fn.looking.patience ≡ Endless → l.looking.patience ≡ Endless;
+  choice : l.looking.patience ≡ Choice → l.fn.looking.patience ≡ Choice;
 }
 
 abbrev pub decreases-Joining::turn_shown-loop-batch : goal.decreases-Joining::turn_shown-loop-batch

@@ -1,4 +1,5 @@
-use Rattle.std.proofs.Common.{◌≡◌, ◌≤◌, [], None, sym, ◌∙◌, arith}
+use Rattle.std.proofs.Common.{◌≡◌, ◌≤◌, [], None, ap, sym, ◌∙◌, arith}
+use Rattle.fetch_stream.specs.Streams.{RunningAt}
 use Rattle.fetch_stream.specs.inside.Ahead.{uncut}
 use Rattle.fetch_stream.proofs.Falling.{source_of, whole_of}
 use Rattle.fetch_stream.proofs.Stepping.{all_cut}
@@ -20,4 +21,4 @@ returns c =
     let high : inside.cutter.batch.rows ≤ inside.cutter.at = omega arith in
     let goes = c.self.invariant none in
     let nothing : uncut inside.cutter ≡ [] = all_cut c.batch_slices_keep_rows.ensures inside.cutter goes.placed high in
-    rw c.new.ensures (sym c.self.view_is ∙ whole_of inside.cutter inside.source c.in-Scanned.scan c.in_ok-count.count inside.begun inside.refused c.in-Scanned.is none nothing c.in_ok-count.ensures)
+    rw c.new.ensures (ap (λ (s : RunningAt). s.stream) (sym c.self.view_is) ∙ whole_of inside.cutter inside.source c.in-Scanned.scan c.in_ok-count.count inside.begun inside.refused c.in-Scanned.is none nothing c.in_ok-count.ensures)

@@ -1,4 +1,5 @@
-use Rattle.std.proofs.Common.{◌∙◌}
+use Rattle.std.proofs.Common.{ap, ◌∙◌}
+use Rattle.fetch_stream.specs.Streams.{RunningAt}
 use Rattle.fetch_stream.proofs.Going.{readied_stream}
 use Rattle.fetch_stream.proofs.Stepping.{keeps_still}
 use Rattle.fetch_stream.proofs.stream.FetchStream.readied.Goals as goal
@@ -12,4 +13,4 @@ pub returns-clause-stream : goal.returns-clause-stream
 returns-clause-stream g c =
     let s = c.self.inside in
     let new = c.in_ok-source.source in
-    readied_stream s.cutter s.source new s.begun s.refused (keeps_still s.cutter s.source new (c.self.invariant c.in-None.is) c.in_ok-source.ensures.source) ∙ c.self.view_is
+    readied_stream s.cutter s.source new s.begun s.refused (keeps_still s.cutter s.source new (c.self.invariant c.in-None.is) c.in_ok-source.ensures.source) ∙ ap (λ (s : RunningAt). s.stream) c.self.view_is

@@ -4,7 +4,7 @@ use Rattle.table_versions.specs.Stored.{TableAt}
 use Rattle.row_sources.specs.Picking.{pick_of}
 use Rattle.row_sources.specs.Picked.{given_of_part}
 use Rattle.row_sources.specs.Running.{GoesOn, FindsPiece, FindsNone, Ends, picked_of}
-use Rattle.row_sources.proofs.Piecing.{place_of, none_yet, goes, over, over_is, found, ends_is}
+use Rattle.row_sources.proofs.Piecing.{place_of, none_yet, goes, looked, over, over_is, found, ends_is}
 use Rattle.row_sources.proofs.Turns.{has_end}
 use Rattle.row_sources.proofs.place.PlaceRows.turn.Goals as goal
 
@@ -25,6 +25,7 @@ returns-then-ends_at_choice-clause-found c =
       subst (λ (t : TableAt). FindsNone (picked_of pick (place_of t c.args.self.now.cursor)) (picked_of pick (place_of c.loop-self.self.table c.loop-self.self.cursor))) is.table
           (none_yet pick c.loop-self.self.table c.args.self.now.cursor c.loop-self.self.cursor is.from is.to is.forth is.rows is.placed),
       has_end c.args.looking.now.patience c.loop-self.looking.patience c.ends_at_choice.result is.endless c.ends_at_choice.ensures.endless c.if-ends_at_choice.true,
+      λ no. absurd (no (is.patience (c.ends_at_choice.ensures.choice c.if-ends_at_choice.true))),
     )
 
 pub returns-in_err-batch-clause-found : goal.returns-in_err-batch-clause-found
@@ -62,6 +63,8 @@ returns-then-is_over-clause-found c =
           (over_is pick c.loop-self.self.table cursor c.loop-self.self.cursor after c.open-part.result is.from is.to is.forth is.rows
           c.open-part.ensures.opened c.open-part.ensures.part c.open-part.ensures.placed none),
       has_end c.args.looking.now.patience c.spend.new.self.patience c.is_over.result (λ e. c.spend.ensures.endless (is.endless e)) c.is_over.ensures.endless c.if-is_over.true,
+      λ _. looked pick c.loop-self.self.table cursor c.loop-self.self.cursor after c.open-part.result is.from is.to is.forth is.rows
+          c.open-part.ensures.opened c.open-part.ensures.part c.open-part.ensures.placed,
     )
 
 pub loop-self-preserved : goal.loop-self-preserved
@@ -81,6 +84,7 @@ loop-self-preserved c =
       rows = over pick c.loop-self.self.table cursor c.loop-self.self.cursor c.open-part.new.self c.open-part.result is.from is.to is.forth is.rows
           opens c.open-part.ensures.part c.open-part.ensures.placed none;
       endless = λ e. c.spend.ensures.endless (is.endless e);
+      patience = λ e. is.patience (c.spend.ensures.choice e);
     }
 
 pub returns-clause-found : goal.returns-clause-found

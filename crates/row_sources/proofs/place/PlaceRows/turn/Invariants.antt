@@ -2,7 +2,7 @@ use Rattle.std.proofs.Common.{◌≡◌, ◌≤◌, ◌-◌}
 use Rattle.row_sources.specs.Choices.{IsChoice}
 use Rattle.row_sources.specs.Picking.{pick_of, given_numbered}
 use Rattle.row_sources.specs.Placed.{IsPlaced, rows_ahead}
-use Rattle.row_sources.specs.declared.turn.Patience.TheVariants.{Endless}
+use Rattle.row_sources.specs.declared.turn.Patience.TheVariants.{Endless, Choice}
 use Rattle.row_sources.proofs.place.PlaceRows.turn.Given as goal
 
 -- nothing was passed of which a row is given
@@ -17,6 +17,7 @@ invariant-loop-self l = record {
   rows : given_numbered (pick_of l.picker) (rows_ahead l.self.table l.fn.self.cursor)
       ≡ given_numbered (pick_of l.picker) (rows_ahead l.self.table l.self.cursor);
   endless : l.fn.looking.patience ≡ Endless → l.looking.patience ≡ Endless;
+  patience : l.looking.patience ≡ Choice → l.fn.looking.patience ≡ Choice;
 }
 
 abbrev pub decreases-loop-self : goal.decreases-loop-self

@@ -8,7 +8,7 @@ use Rattle.scan_exec.proofs.Grouping.{gives_made, groups_on, made_ahead, still_a
 use Rattle.scan_exec.proofs.grouped.GroupedRows.next.Goals as goal
 
 pub returns-in-Made : goal.returns-in-Made
-returns-in-Made g c =
+returns-in-Made c =
     let s = c.self.inside in
     let made = c.in-Made.made in
     let after = of_groups s.rows s.wanted (Made c.next.new.self) in
@@ -20,7 +20,7 @@ returns-in-Made g c =
     c.next.ensures.batches c.next.result c.next.ensures.gives))
 
 pub invariant_of-self-in-Ok : goal.invariant_of-self-in-Ok
-invariant_of-self-in-Ok g c =
+invariant_of-self-in-Ok c =
     let made = c.in-Ok.ensures.made in
     record {
       front = c.made.ensures.on.opened;
@@ -31,7 +31,7 @@ invariant_of-self-in-Ok g c =
     }
 
 pub returns-in-Ok : goal.returns-in-Ok
-returns-in-Ok g c =
+returns-in-Ok c =
     let s = c.self.inside in
     let rows = c.made.new.rows in
     let after = of_groups rows s.wanted (Made c.next-first.new.self) in

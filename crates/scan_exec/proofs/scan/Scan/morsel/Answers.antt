@@ -58,4 +58,4 @@ returns c =
     morsel_is (arc_value s.schema) rows s.batches.items s.further s.given s.refused is none c.opened-ordered.ensures.ordered c.args.number
     (first_there rows s.batches.items s.further s.given is c.args.number listed) c.in_ok-rows.rows c.in_ok-rows.ensures c.push.new.self.items pairs
     (arc_value c.in_ok-try_clone.field-0) c.in_ok-try_clone.ensures
-    ∙ ap (λ (scan : ScanAt). morsel_of scan c.args.number) view
+    ∙ ap (λ (scan : ScanAt). record (morsel_of scan c.args.number) { unseen = c.in_ok-rows.rows.unseen }) view

@@ -23,6 +23,7 @@ use Rattle.opened_batches.specs.Listed.{AreLists}
 use Rattle.opened_batches.specs.Narrow.{BeginsInFirst}
 use Rattle.opened_batches.specs.Opened.{batches_in, first_opened, further_opened, opened_numbers, numbered_batches, where_parts}
 use Rattle.row_sources.specs.OpenedTables.{CanAll, narrow_all}
+use Rattle.rewrite.specs.Pruned.{IsPruned}
 use Rattle.rewrite.specs.Same.{StandsFor}
 use Rattle.scan_exec.specs.Scan.{IsBeginning}
 use Rattle.scan_exec.proofs.Beginning.{begins_is, is_scan}
@@ -116,17 +117,24 @@ module _ (old new : BoundAt) (from to : ℕ) (lists : List OpenedList) (list : O
 -- the tables of the new plan are those of the old one
 pub opened_tables-requires : goal.opened_tables-requires
 opened_tables-requires g c =
-    let tables = c.as_slice-3.ensures.value ∙ c.into_parts-tables.ensures.tables ∙ c.in_ok-rewrite.ensures.same.tables in
+    let tables = c.as_slice-3.ensures.value ∙ c.into_parts-tables.ensures.tables ∙ c.in_ok-plan.ensures.same.tables in
     subst (λ (ts : List TableAt). CanAll ts c.in_ok-lists.lists.items) (sym tables)
     (lists_can c.args.reading.from c.args.reading.to c.args.plan.tables c.in_ok-lists.lists.items c.in_ok-lists.ensures.lists)
+
+-- the plan that runs is the rewritten one
+pub watched-requires-clause-pruned : goal.watched-requires-clause-pruned
+watched-requires-clause-pruned g c = λ schema.
+    let parts = c.into_parts-tables.ensures in
+    subst (λ (plan : Plan). IsPruned (record { tree = tree_of plan; output = c.into_parts-tables.result.2; schema = schema })) (sym parts.plan)
+    (subst (λ (output : Output). IsPruned (record { tree = tree_of c.in_ok-plan.plan.plan; output = output; schema = schema })) (sym parts.output) c.in_ok-plan.ensures.pruned)
 
 pub watched-requires-clause-schemas : goal.watched-requires-clause-schemas
 watched-requires-clause-schemas g c =
     let parts = c.into_parts-tables in
     let lists = c.in_ok-lists.lists.items in
     let old = c.args.plan in
-    let new = c.in_ok-rewrite.field-0 in
-    let same = c.in_ok-rewrite.ensures.same in
+    let new = c.in_ok-plan.plan in
+    let same = c.in_ok-plan.ensures.same in
     let tables = c.as_slice-3.ensures.value ∙ parts.ensures.tables ∙ same.tables in
     ap (λ (plan : Plan). tree_schemas (tree_of plan)) parts.ensures.plan ∙ parts.ensures.columns ∙ ap schemas_of same.tables
     ∙ sym (narrow_schemas old.tables lists (lists_can c.args.reading.from c.args.reading.to old.tables lists c.in_ok-lists.ensures.lists))
@@ -134,28 +142,28 @@ watched-requires-clause-schemas g c =
 
 pub watched-requires-clause-first : goal.watched-requires-clause-first
 watched-requires-clause-first g c =
-    let known = all_laws c.args.plan c.in_ok-rewrite.field-0 c.args.reading.from c.args.reading.to c.in_ok-lists.lists.items c.index-first.result.now c.plan-typed.ensures.typed c.tables-columns.ensures.columns c.skipping_keeps_rows.ensures c.in_ok-rewrite.ensures.same c.in_ok-lists.ensures.kept c.in_ok-lists.ensures.numbers c.in_ok-lists.ensures.lists (list_at c.in_ok-lists.lists.items c.index-first.result.now c.index-first.ensures) in
-    let tables = c.in_ok-tables.ensures ∙ ap (narrow_all (numbers_of c.in_ok-lists.lists.items)) (c.as_slice-3.ensures.value ∙ c.into_parts-tables.ensures.tables ∙ c.in_ok-rewrite.ensures.same.tables) in
+    let known = all_laws c.args.plan c.in_ok-plan.plan c.args.reading.from c.args.reading.to c.in_ok-lists.lists.items c.index-first.result.now c.plan-typed.ensures.typed c.tables-columns.ensures.columns c.skipping_keeps_rows.ensures c.in_ok-plan.ensures.same c.in_ok-lists.ensures.kept c.in_ok-lists.ensures.numbers c.in_ok-lists.ensures.lists (list_at c.in_ok-lists.lists.items c.index-first.result.now c.index-first.ensures) in
+    let tables = c.in_ok-tables.ensures ∙ ap (narrow_all (numbers_of c.in_ok-lists.lists.items)) (c.as_slice-3.ensures.value ∙ c.into_parts-tables.ensures.tables ∙ c.in_ok-plan.ensures.same.tables) in
     subst (λ (ts : List TableAt). BeginsInFirst c.index-first.result.now.from (first_batches ts)) (sym tables) known.begins
 
 pub watched-requires-clause-each : goal.watched-requires-clause-each
 watched-requires-clause-each g c =
-    let known = all_laws c.args.plan c.in_ok-rewrite.field-0 c.args.reading.from c.args.reading.to c.in_ok-lists.lists.items c.index-first.result.now c.plan-typed.ensures.typed c.tables-columns.ensures.columns c.skipping_keeps_rows.ensures c.in_ok-rewrite.ensures.same c.in_ok-lists.ensures.kept c.in_ok-lists.ensures.numbers c.in_ok-lists.ensures.lists (list_at c.in_ok-lists.lists.items c.index-first.result.now c.index-first.ensures) in
-    let tables = c.in_ok-tables.ensures ∙ ap (narrow_all (numbers_of c.in_ok-lists.lists.items)) (c.as_slice-3.ensures.value ∙ c.into_parts-tables.ensures.tables ∙ c.in_ok-rewrite.ensures.same.tables) in
+    let known = all_laws c.args.plan c.in_ok-plan.plan c.args.reading.from c.args.reading.to c.in_ok-lists.lists.items c.index-first.result.now c.plan-typed.ensures.typed c.tables-columns.ensures.columns c.skipping_keeps_rows.ensures c.in_ok-plan.ensures.same c.in_ok-lists.ensures.kept c.in_ok-lists.ensures.numbers c.in_ok-lists.ensures.lists (list_at c.in_ok-lists.lists.items c.index-first.result.now c.index-first.ensures) in
+    let tables = c.in_ok-tables.ensures ∙ ap (narrow_all (numbers_of c.in_ok-lists.lists.items)) (c.as_slice-3.ensures.value ∙ c.into_parts-tables.ensures.tables ∙ c.in_ok-plan.ensures.same.tables) in
     subst (λ (ts : List TableAt). batches_in c.index-first.result.now.from c.index-first.result.now.to (first_batches ts) ≡ range_with_len 0 (length (first_batches ts))) (sym tables) known.each
 
 pub answer_of-requires-clause-output : goal.answer_of-requires-clause-output
 answer_of-requires-clause-output g c =
     subst (λ (output : Output). HasOutput output c.in_ok-source.source.rows.types) (sym c.into_parts-tables.ensures.output)
-    (output_is c.args.plan c.in_ok-rewrite.field-0 c.args.reading.from c.args.reading.to c.in_ok-lists.lists.items c.index-first.result.now c.plan-typed.ensures.typed c.tables-columns.ensures.columns c.skipping_keeps_rows.ensures c.in_ok-rewrite.ensures.same c.in_ok-lists.ensures.kept c.in_ok-lists.ensures.numbers c.in_ok-lists.ensures.lists (list_at c.in_ok-lists.lists.items c.index-first.result.now c.index-first.ensures)
-    c.into_parts-tables.ensures.typed c.into_parts-tables.result.1 c.in_ok-tables.tables.items c.in_ok-source.source.rows c.into_parts-tables.ensures.plan (c.in_ok-tables.ensures ∙ ap (narrow_all (numbers_of c.in_ok-lists.lists.items)) (c.as_slice-3.ensures.value ∙ c.into_parts-tables.ensures.tables ∙ c.in_ok-rewrite.ensures.same.tables)) c.in_ok-source.ensures.begun)
+    (output_is c.args.plan c.in_ok-plan.plan c.args.reading.from c.args.reading.to c.in_ok-lists.lists.items c.index-first.result.now c.plan-typed.ensures.typed c.tables-columns.ensures.columns c.skipping_keeps_rows.ensures c.in_ok-plan.ensures.same c.in_ok-lists.ensures.kept c.in_ok-lists.ensures.numbers c.in_ok-lists.ensures.lists (list_at c.in_ok-lists.lists.items c.index-first.result.now c.index-first.ensures)
+    c.into_parts-tables.ensures.typed c.into_parts-tables.result.1 c.in_ok-tables.tables.items c.in_ok-source.source.rows c.into_parts-tables.ensures.plan (c.in_ok-tables.ensures ∙ ap (narrow_all (numbers_of c.in_ok-lists.lists.items)) (c.as_slice-3.ensures.value ∙ c.into_parts-tables.ensures.tables ∙ c.in_ok-plan.ensures.same.tables)) c.in_ok-source.ensures.begun)
 
 pub answer_of-requires-clause-few : goal.answer_of-requires-clause-few
 answer_of-requires-clause-few g c grouped =
-    let known = all_laws c.args.plan c.in_ok-rewrite.field-0 c.args.reading.from c.args.reading.to c.in_ok-lists.lists.items c.index-first.result.now c.plan-typed.ensures.typed c.tables-columns.ensures.columns c.skipping_keeps_rows.ensures c.in_ok-rewrite.ensures.same c.in_ok-lists.ensures.kept c.in_ok-lists.ensures.numbers c.in_ok-lists.ensures.lists (list_at c.in_ok-lists.lists.items c.index-first.result.now c.index-first.ensures) in
-    let new = c.in_ok-rewrite.field-0 in
+    let known = all_laws c.args.plan c.in_ok-plan.plan c.args.reading.from c.args.reading.to c.in_ok-lists.lists.items c.index-first.result.now c.plan-typed.ensures.typed c.tables-columns.ensures.columns c.skipping_keeps_rows.ensures c.in_ok-plan.ensures.same c.in_ok-lists.ensures.kept c.in_ok-lists.ensures.numbers c.in_ok-lists.ensures.lists (list_at c.in_ok-lists.lists.items c.index-first.result.now c.index-first.ensures) in
+    let new = c.in_ok-plan.plan in
     let parts = c.into_parts-tables in
-    let tables = c.in_ok-tables.ensures ∙ ap (narrow_all (numbers_of c.in_ok-lists.lists.items)) (c.as_slice-3.ensures.value ∙ parts.ensures.tables ∙ c.in_ok-rewrite.ensures.same.tables) in
+    let tables = c.in_ok-tables.ensures ∙ ap (narrow_all (numbers_of c.in_ok-lists.lists.items)) (c.as_slice-3.ensures.value ∙ parts.ensures.tables ∙ c.in_ok-plan.ensures.same.tables) in
     let place : is_place (tree_of parts.result.1) ≡ true =
     ap (λ (plan : Plan). is_place (tree_of plan)) parts.ensures.plan ∙ parts.ensures.typed.alone (ap is_grouping (sym parts.ensures.output) ∙ grouped) in
     omega (arith, c.in_ok-source.ensures.few place, ap (λ (ts : List TableAt). length (flat_map rows_of (first_batches ts))) tables, known.few)
@@ -163,15 +171,15 @@ answer_of-requires-clause-few g c grouped =
 pub invariant_of-result : goal.invariant_of-result
 invariant_of-result g c = (
   c.in_ok-answer_of.ensures.giving,
-  scans c.args.plan c.in_ok-rewrite.field-0 c.args.reading.from c.args.reading.to c.in_ok-lists.lists.items c.index-first.result.now c.plan-typed.ensures.typed c.tables-columns.ensures.columns c.skipping_keeps_rows.ensures c.in_ok-rewrite.ensures.same c.in_ok-lists.ensures.kept c.in_ok-lists.ensures.numbers c.in_ok-lists.ensures.lists (list_at c.in_ok-lists.lists.items c.index-first.result.now c.index-first.ensures)
-      c.into_parts-tables.ensures.typed c.into_parts-tables.result.1 c.in_ok-tables.tables.items c.in_ok-source.source.rows c.into_parts-tables.ensures.plan (c.in_ok-tables.ensures ∙ ap (narrow_all (numbers_of c.in_ok-lists.lists.items)) (c.as_slice-3.ensures.value ∙ c.into_parts-tables.ensures.tables ∙ c.in_ok-rewrite.ensures.same.tables)) c.in_ok-source.ensures.begun
+  scans c.args.plan c.in_ok-plan.plan c.args.reading.from c.args.reading.to c.in_ok-lists.lists.items c.index-first.result.now c.plan-typed.ensures.typed c.tables-columns.ensures.columns c.skipping_keeps_rows.ensures c.in_ok-plan.ensures.same c.in_ok-lists.ensures.kept c.in_ok-lists.ensures.numbers c.in_ok-lists.ensures.lists (list_at c.in_ok-lists.lists.items c.index-first.result.now c.index-first.ensures)
+      c.into_parts-tables.ensures.typed c.into_parts-tables.result.1 c.in_ok-tables.tables.items c.in_ok-source.source.rows c.into_parts-tables.ensures.plan (c.in_ok-tables.ensures ∙ ap (narrow_all (numbers_of c.in_ok-lists.lists.items)) (c.as_slice-3.ensures.value ∙ c.into_parts-tables.ensures.tables ∙ c.in_ok-plan.ensures.same.tables)) c.in_ok-source.ensures.begun
       c.into_parts-tables.result.2 (giving_at c.in_ok-answer_of.field-0) c.into_parts-tables.result.3 c.in_ok-batches.batches.items c.push_numbers.new.batches.items c.len-further.result c.into_parts-tables.ensures.output c.into_parts-tables.ensures.schema c.in_ok-answer_of.ensures.answer (c.in_ok-batches.ensures ∙ ap (λ (some : List OpenedList). numbered_batches 1 (drop 1 (numbers_of some))) c.as_slice.ensures.value) (c.in_ok-push_numbers.ensures ∙ ap (λ (ns : List ℕ). c.in_ok-batches.batches.items ++ map (λ number. (0, number)) ns) c.as_slice-2.ensures.value) (search rules),
 )
 
 pub returns-clause-begins : goal.returns-clause-begins
 returns-clause-begins g c =
-    begins c.args.plan c.in_ok-rewrite.field-0 c.args.reading.from c.args.reading.to c.in_ok-lists.lists.items c.index-first.result.now c.plan-typed.ensures.typed c.tables-columns.ensures.columns c.skipping_keeps_rows.ensures c.in_ok-rewrite.ensures.same c.in_ok-lists.ensures.kept c.in_ok-lists.ensures.numbers c.in_ok-lists.ensures.lists (list_at c.in_ok-lists.lists.items c.index-first.result.now c.index-first.ensures)
-    c.into_parts-tables.ensures.typed c.into_parts-tables.result.1 c.in_ok-tables.tables.items c.in_ok-source.source.rows c.into_parts-tables.ensures.plan (c.in_ok-tables.ensures ∙ ap (narrow_all (numbers_of c.in_ok-lists.lists.items)) (c.as_slice-3.ensures.value ∙ c.into_parts-tables.ensures.tables ∙ c.in_ok-rewrite.ensures.same.tables)) c.in_ok-source.ensures.begun
+    begins c.args.plan c.in_ok-plan.plan c.args.reading.from c.args.reading.to c.in_ok-lists.lists.items c.index-first.result.now c.plan-typed.ensures.typed c.tables-columns.ensures.columns c.skipping_keeps_rows.ensures c.in_ok-plan.ensures.same c.in_ok-lists.ensures.kept c.in_ok-lists.ensures.numbers c.in_ok-lists.ensures.lists (list_at c.in_ok-lists.lists.items c.index-first.result.now c.index-first.ensures)
+    c.into_parts-tables.ensures.typed c.into_parts-tables.result.1 c.in_ok-tables.tables.items c.in_ok-source.source.rows c.into_parts-tables.ensures.plan (c.in_ok-tables.ensures ∙ ap (narrow_all (numbers_of c.in_ok-lists.lists.items)) (c.as_slice-3.ensures.value ∙ c.into_parts-tables.ensures.tables ∙ c.in_ok-plan.ensures.same.tables)) c.in_ok-source.ensures.begun
     c.into_parts-tables.result.2 (giving_at c.in_ok-answer_of.field-0) (arc_value c.in_ok-new.field-0) c.in_ok-batches.batches.items c.push_numbers.new.batches.items c.len-further.result c.into_parts-tables.ensures.output (c.in_ok-new.ensures.ok ∙ c.into_parts-tables.ensures.schema) c.in_ok-answer_of.ensures.answer (c.in_ok-batches.ensures ∙ ap (λ (some : List OpenedList). numbered_batches 1 (drop 1 (numbers_of some))) c.as_slice.ensures.value) (c.in_ok-push_numbers.ensures ∙ ap (λ (ns : List ℕ). c.in_ok-batches.batches.items ++ map (λ number. (0, number)) ns) c.as_slice-2.ensures.value) (search rules)
 
 pub returns-clause-rows : goal.returns-clause-rows

@@ -1,8 +1,0 @@
-use Rattle.std.proofs.Common.{refl}
-use Rattle.scan_exec.proofs.scan.Scan.next_by.Goals as goal
-
--- endless patience finds a batch or the end
-pub returns-in-Working : goal.returns-in-Working
-returns-in-Working g c =
-    let found = rw (c.in_ok-batch.was, c.in-Working.is) at c.turn_by.ensures in
-    absurd (found.2 refl)
