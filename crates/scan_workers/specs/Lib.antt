@@ -1,3 +1,4 @@
 pub mod Claims
+pub mod Held
 pub mod Right
 pub mod Turns

@@ -1,4 +1,4 @@
-// What the workers and the reader hand to each other.
+// What the workers and the reader hand to each other. Nothing of it is `Drop`: who has an answer hands it on, and cannot lose it.
 
 ghost use Rattle.std.specs.Prelude.{◌≡◌};
 
@@ -16,7 +16,6 @@ impl<A> Truth<A> for Brand {
 }
 
 // A morsel's number, and its answer. No value of it is made of an answer that is not right.
-#[derive(Drop)]
 pub struct Answered<K: Truth<A>, A> {
     pub number: usize,
     pub answer: A,
@@ -35,34 +34,58 @@ impl<K: Truth<A>, A> Answered<K, A> {
             of: PhantomData,
         }
     }
+
+    // The answer, for who reads it.
+    pub fn into_answer(self) -> A
+        ensures right { ∥ K.right self.number result ∥₁ }
+        ensures same { result ≡ self.answer }
+    {
+        let Answered {
+            number: _,
+            answer,
+            of: _,
+        } = self;
+        answer
+    }
+}
+
+// How far a morsel is.
+#[derive(Clone, Copy, Drop)]
+pub enum Stage {
+    // It was begun.
+    Begun,
+    // A turn of it is over, and there is more to be made.
+    Turned,
+    // Its answer is made.
+    Made,
 }
 
 // What was done of a morsel.
-#[derive(Drop)]
-pub enum Done<K: Truth<A>, A> {
-    Nothing,
-    // It was begun.
-    Begun(Answered<K, A>),
-    // A turn of it is over, and there is more to be made.
-    Turned(Answered<K, A>),
-    // Its answer is made.
-    Made(Answered<K, A>),
+pub struct Done<K: Truth<A>, A> {
+    pub answered: Answered<K, A>,
+    pub stage: Stage,
+}
+
+// Lets go of what was done of a morsel, if anything was. Only who may drop an answer can call it, and the code of the workers may not.
+pub fn let_go<K: Truth<A>, A: Drop>(done: Option<Done<K, A>>) {
+    match done {
+        Some(Done { answered, stage: _ }) => drop(answered.into_answer()),
+        None => {}
+    }
 }
 
 // What is to be done next.
-#[derive(Drop)]
-pub enum Task<K: Truth<A>, A> {
+pub enum Task<T> {
     // To draw a morsel, and to begin it.
     Begin,
     // To make more of this answer.
-    Make(Answered<K, A>),
+    Make(T),
 }
 
 // What the reader does while the answer for which it asks is not there.
-#[derive(Drop)]
-pub enum Meanwhile<K: Truth<A>, A> {
+pub enum Meanwhile<T> {
     // Something that is to be done.
-    Task(Task<K, A>),
+    Task(Task<T>),
     // It gives back control: a turn of that morsel is over, in another thread.
     Turned,
 }

@@ -2,10 +2,10 @@
 
 ghost use Rattle.std.specs.Prelude.{◌≡◌, ◌<◌, ℕ, All, IfOk, OnErr};
 
-use crate::answered::{Done, Truth};
+use crate::answered::{Truth, let_go};
 use crate::claims::{Claimer, Word, open, split};
 use crate::exchange::Exchange;
-use crate::pull::{InTurn, Pull};
+use crate::pull::{Hand, InTurn, Pull};
 use crate::slots::Bounds;
 use crate::window::Window;
 use crate::work::{Gate, Reads, Work};
@@ -32,6 +32,25 @@ fn split_all(
     Ok(claimers)
 }
 
+// The claim word, and who draw from it: the reader, and others.
+#[derive(Drop)]
+struct Crew {
+    word: Word,
+    me: Claimer,
+    others: Vec<Claimer>,
+}
+
+// A word, the reader, and so many others.
+fn crew_of(alloc: Global, others: usize) -> Result<Crew, AllocError>
+    ensures word { IfOk result (λ crew. crew.word.shared.table_id.words ≡ 1) }
+    ensures mine { IfOk result (λ crew. crew.me.table_id ≡ crew.word.shared.table_id) }
+    ensures theirs { IfOk result (λ crew. All (λ claimer. claimer.table_id ≡ crew.word.shared.table_id) crew.others.items) }
+{
+    let (word, mut me) = open(alloc)?;
+    let others = split_all(alloc, &word, &mut me, others)?;
+    Ok(Crew { word, me, others })
+}
+
 // Who works beside others.
 trait Side {
     type Out;
@@ -54,7 +73,7 @@ fn work_beside<K, A, W, G, R, M>(
 ) -> M::Out
 where
     K: Truth<A> + Send + Sync,
-    A: Drop + Send,
+    A: Send,
     W: Work<Answer = A> + Sync,
     G: Gate + Sync,
     R: Threads + Wait + Sync,
@@ -80,7 +99,7 @@ fn work_beside_first<K, A, W, G, R, M>(
 ) -> M::Out
 where
     K: Truth<A> + Send + Sync,
-    A: Drop + Send,
+    A: Send,
     W: Work<Answer = A> + Sync,
     G: Gate + Sync,
     R: Threads + Wait + Sync,
@@ -111,7 +130,7 @@ fn work_behind_decoy<K, A, W, G, R, M>(
 ) -> M::Out
 where
     K: Truth<A> + Send + Sync,
-    A: Drop + Send,
+    A: Send,
     W: Work<Answer = A> + Sync,
     G: Gate + Sync,
     R: Threads + Wait + Sync,
@@ -139,7 +158,6 @@ struct Reading<'a, 'h, 's, K: Truth<A>, A, W: Work<Answer = A>, G, R, S> {
 impl<'a, 'h, 's, K, A, W, G, R, S> Side for Reading<'a, 'h, 's, K, A, W, G, R, S>
 where
     K: Truth<A>,
-    A: Drop,
     W: Work<Answer = A>,
     G: Gate,
     R: Wait,
@@ -185,8 +203,7 @@ where
         exchange,
         me,
         given: 0,
-        drawn: None,
-        done: Done::Nothing,
+        hand: Hand::Empty,
     };
     let draws_first = !exchange.work.chooses_first();
     if draws_first {
@@ -198,9 +215,25 @@ where
     } else {
         work_behind_decoy(exchange, claimers, &mut reading)
     };
-    let Reading { pull: _, reader } = reading;
+    let Reading { pull, reader } = reading;
     take_back(reader);
+    put_down(pull);
     out
+}
+
+// Lets go of what the reader has in hand at its end.
+fn put_down<K: Truth<A>, A: Drop, W: Work<Answer = A>, G, R>(pull: Pull<'_, '_, K, A, W, G, R>) {
+    let Pull {
+        exchange: _,
+        me: _,
+        given: _,
+        hand,
+    } = pull;
+    match hand {
+        Hand::Empty => {}
+        Hand::Drawn(_) => {}
+        Hand::Did(done) => let_go(Some(done)),
+    }
 }
 
 // Does nothing, but that the reader is used behind the work ties what was read to it.
@@ -260,6 +293,19 @@ fn bounds_of<W: Work>(work: &W, workers: usize) -> Bounds {
     }
 }
 
+// Lets go of what lies in the window at the end.
+fn close<K: Truth<A>, A: Drop, W: Work<Answer = A>, G, R>(exchange: Exchange<'_, K, A, W, G, R>) {
+    let Exchange {
+        rt: _,
+        alloc: _,
+        work: _,
+        gate: _,
+        window,
+        word: _,
+    } = exchange;
+    window.discard();
+}
+
 // Reads the answers, which at least two workers make.
 fn read_at_once<K, A, W, G, R, S>(
     rt: &R,
@@ -285,8 +331,18 @@ where
     ensures kept { OnErr result (reader.new ≡ reader.old) }
 {
     let window: Window<K, A> = Window::new(alloc, bounds_of(work, workers))?;
-    let (word, mut me) = open(alloc)?;
-    let mut claimers = split_all(alloc, &word, &mut me, helpers_of(work, workers))?;
+    let crew = match crew_of(alloc, helpers_of(work, workers)) {
+        Ok(crew) => crew,
+        Err(refused) => {
+            window.discard();
+            return Err(refused);
+        }
+    };
+    let Crew {
+        word,
+        me,
+        mut others,
+    } = crew;
     let exchange = Exchange {
         rt,
         alloc,
@@ -295,7 +351,9 @@ where
         window,
         word,
     };
-    Ok(read_beside(&exchange, me, claimers.as_mut_slice(), reader))
+    let out = read_beside(&exchange, me, others.as_mut_slice(), reader);
+    close(exchange);
+    Ok(out)
 }
 
 // As `in_order`, where the right answers have a name.

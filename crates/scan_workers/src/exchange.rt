@@ -2,7 +2,7 @@
 
 ghost use Rattle.std.specs.Prelude.{◌≡◌, ◌<◌, ℕ};
 
-use crate::answered::{Answered, Done, Task, Truth};
+use crate::answered::{Answered, Done, Stage, Task, Truth};
 use crate::claims::{Claimer, Word, draw};
 use crate::window::Window;
 use crate::work::{Gate, Work};
@@ -10,7 +10,6 @@ use std::alloc::Global;
 use std::sync::Wait;
 
 // What the workers share.
-#[derive(Drop)]
 pub struct Exchange<'a, K: Truth<A>, A, W: Work<Answer = A>, G, R> {
     pub rt: &'a R,
     pub alloc: Global,
@@ -23,16 +22,18 @@ pub struct Exchange<'a, K: Truth<A>, A, W: Work<Answer = A>, G, R> {
     pub ghost known: { (n : ℕ) (a : A) → ∥ K.right n a ∥₁ → ∥ W.answers work.now n a ∥₁ },
 }
 
-impl<'a, K: Truth<A>, A: Drop, W: Work<Answer = A>, G: Gate, R: Wait> Exchange<'a, K, A, W, G, R> {
+impl<'a, K: Truth<A>, A, W: Work<Answer = A>, G: Gate, R: Wait> Exchange<'a, K, A, W, G, R> {
     // Begins a morsel, if there is one of this number.
-    pub fn begin(&self, number: usize) -> Done<K, A>
+    pub fn begin(&self, number: usize) -> Option<Done<K, A>>
         requires { W.ready self.now.work.now }
     {
         if number >= self.work.count() {
-            return Done::Nothing;
+            return None;
         }
         self.gate.enter(number);
-        Done::Begun(Answered::new(number, self.work.answer(self.alloc, number)))
+        let answered = Answered::new(number, self.work.answer(self.alloc, number));
+        let stage = Stage::Begun;
+        Some(Done { answered, stage })
     }
 
     // Makes more of an answer, for a while. Whether there is more to be made then.
@@ -46,23 +47,25 @@ impl<'a, K: Truth<A>, A: Drop, W: Work<Answer = A>, G: Gate, R: Wait> Exchange<'
     // The same with an answer that is held.
     fn make(&self, mut answered: Answered<K, A>) -> Done<K, A>
         requires { W.ready self.now.work.now }
+        ensures { result.answered.number ≡ answered.number }
     {
-        if self.go_on(&mut answered) {
-            Done::Turned(answered)
+        let stage = if self.go_on(&mut answered) {
+            Stage::Turned
         } else {
-            Done::Made(answered)
-        }
+            Stage::Made
+        };
+        Done { answered, stage }
     }
 
     // Does what is to be done next.
-    pub fn perform(&self, me: &mut Claimer, task: Task<K, A>) -> Done<K, A>
+    pub fn perform(&self, me: &mut Claimer, task: Task<Answered<K, A>>) -> Option<Done<K, A>>
         requires ready { W.ready self.now.work.now }
         requires mine { me.old.table_id ≡ self.now.word.shared.table_id }
         ensures mine { me.new.table_id ≡ me.old.table_id }
     {
         match task {
             Task::Begin => self.begin(draw(&self.word, me) as usize),
-            Task::Make(answered) => self.make(answered),
+            Task::Make(answered) => Some(self.make(answered)),
         }
     }
 
@@ -71,12 +74,13 @@ impl<'a, K: Truth<A>, A: Drop, W: Work<Answer = A>, G: Gate, R: Wait> Exchange<'
         requires ready { W.ready self.now.work.now }
         requires mine { me.old.table_id ≡ self.now.word.shared.table_id }
     {
-        let mut done = Done::Nothing;
+        let mut done = None;
         for _ in self.rt.forever() {
-            let Some(task) = self.window.hand_in(self.rt, done) else {
-                return;
-            };
-            done = self.perform(me, task);
+            match self.window.hand_in(self.rt, done) {
+                Some(task) => done = self.perform(me, task),
+                None => return,
+            }
         }
+        unreachable!()
     }
 }

@@ -6,6 +6,7 @@ mod beside;
 mod claims;
 mod collect;
 mod exchange;
+mod held;
 mod pull;
 mod slots;
 mod window;

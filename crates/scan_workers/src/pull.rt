@@ -2,7 +2,7 @@
 
 ghost use Rattle.std.specs.Prelude.{◌≡◌, ℕ, IfSome};
 
-use crate::answered::{Answered, Done, Meanwhile, Task, Truth};
+use crate::answered::{Answered, Done, Meanwhile, Stage, Task, Truth};
 use crate::claims::{Claimer, draw};
 use crate::exchange::Exchange;
 use crate::work::{Answers, Gate, NextAnswer, Work};
@@ -10,54 +10,75 @@ use std::alloc::Global;
 use std::marker::PhantomData;
 use std::sync::Wait;
 
+// What the reader has in hand.
+pub enum Hand<T> {
+    Empty,
+    // A morsel that it drew, and has not begun.
+    Drawn(usize),
+    // What it did, and has not handed in.
+    Did(T),
+}
+
 // The answers in the order of the morsels. Where the next one is not there, the reader works as the others.
-#[derive(Drop)]
 pub struct Pull<'a, 'h, K: Truth<A>, A, W: Work<Answer = A>, G, R> {
     pub exchange: &'a Exchange<'h, K, A, W, G, R>,
     pub me: Claimer,
     pub given: usize,
-    // A morsel that the reader drew, and has not begun.
-    pub drawn: Option<usize>,
-    // What the reader did, and has not handed in.
-    pub done: Done<K, A>,
+    pub hand: Hand<Done<K, A>>,
     pub ghost mine: { me.table_id ≡ exchange.now.word.shared.table_id },
 }
 
-impl<'a, 'h, K: Truth<A>, A: Drop, W: Work<Answer = A>, G: Gate, R: Wait> Pull<
-    'a,
-    'h,
-    K,
-    A,
-    W,
-    G,
-    R,
-> {
-    // Draws a morsel, which is for the reader alone.
-    pub fn draw_first(&mut self)
+impl<'a, 'h, K: Truth<A>, A, W: Work<Answer = A>, G: Gate, R: Wait> Pull<'a, 'h, K, A, W, G, R> {
+    // Takes something into its empty hand.
+    fn hold(&mut self, held: Hand<Done<K, A>>)
+        requires empty { self.old.hand ≡ Hand.Empty }
+        ensures held { self.new.hand ≡ held }
         ensures same { (self.new.exchange ≡ self.old.exchange) × (self.new.given ≡ self.old.given) }
     {
-        self.exchange.window.give_out(self.exchange.rt);
-        self.drawn = Some(draw(&self.exchange.word, &mut self.me) as usize);
+        let before = std::mem::replace(&mut self.hand, held);
+        let Hand::Empty = before else {
+            unreachable!();
+        };
+    }
+
+    // Draws a morsel, which is for the reader alone, if one may be begun.
+    pub fn draw_first(&mut self)
+        requires empty { self.old.hand ≡ Hand.Empty }
+        ensures same { (self.new.exchange ≡ self.old.exchange) × (self.new.given ≡ self.old.given) }
+    {
+        if self.exchange.window.give_out(self.exchange.rt) {
+            let number = draw(&self.exchange.word, &mut self.me) as usize;
+            self.hold(Hand::Drawn(number));
+        }
     }
 
     // What the reader hands in: the morsel that it drew is begun first.
-    fn take_done(&mut self) -> Done<K, A>
+    fn take_done(&mut self) -> Option<Done<K, A>>
         requires { W.ready self.old.exchange.now.work.now }
+        ensures empty { self.new.hand ≡ Hand.Empty }
         ensures same { (self.new.exchange ≡ self.old.exchange) × (self.new.given ≡ self.old.given) }
     {
-        match self.drawn.take() {
-            Some(number) => self.exchange.begin(number),
-            None => std::mem::replace(&mut self.done, Done::Nothing),
+        match std::mem::replace(&mut self.hand, Hand::Empty) {
+            Hand::Empty => None,
+            Hand::Drawn(number) => self.exchange.begin(number),
+            Hand::Did(done) => Some(done),
         }
     }
 
     // Does what is to be done next. Whether a turn of a morsel is over.
-    fn perform(&mut self, task: Task<K, A>) -> bool
-        requires { W.ready self.old.exchange.now.work.now }
+    fn perform(&mut self, task: Task<Answered<K, A>>) -> bool
+        requires ready { W.ready self.old.exchange.now.work.now }
+        requires empty { self.old.hand ≡ Hand.Empty }
         ensures same { (self.new.exchange ≡ self.old.exchange) × (self.new.given ≡ self.old.given) }
     {
-        self.done = self.exchange.perform(&mut self.me, task);
-        matches!(self.done, Done::Turned(_))
+        match self.exchange.perform(&mut self.me, task) {
+            Some(done) => {
+                let turned = matches!(done.stage, Stage::Turned);
+                self.hold(Hand::Did(done));
+                turned
+            }
+            None => false,
+        }
     }
 
     // The answer of a morsel, or none where a turn of one is over before it is there. What it does before has an end, since only so many
@@ -89,15 +110,16 @@ impl<'a, 'h, K: Truth<A>, A: Drop, W: Work<Answer = A>, G: Gate, R: Wait> Pull<
         ensures same { (self.new.exchange ≡ self.old.exchange) × (self.new.given ≡ self.old.given) }
     {
         for _ in self.exchange.rt.forever() {
-            if let Some(answered) = self.look(number) {
-                return answered;
+            match self.look(number) {
+                Some(answered) => return answered,
+                None => {}
             }
         }
         unreachable!()
     }
 }
 
-impl<'a, 'h, K: Truth<A>, A: Drop, W: Work<Answer = A>, G: Gate, R: Wait> Answers<A>
+impl<'a, 'h, K: Truth<A>, A, W: Work<Answer = A>, G: Gate, R: Wait> Answers<A>
     for Pull<'a, 'h, K, A, W, G, R> {
     ghost right = { λ n a. ∥ K.right n a ∥₁ };
 
@@ -112,9 +134,9 @@ impl<'a, 'h, K: Truth<A>, A: Drop, W: Work<Answer = A>, G: Gate, R: Wait> Answer
         if number >= self.exchange.work.count() {
             return None;
         }
-        let Answered { answer, .. } = self.find(number);
+        let answered = self.find(number);
         self.given = number + 1;
-        Some(answer)
+        Some(answered.into_answer())
     }
 
     fn turn(&mut self) -> NextAnswer<A> {
@@ -122,11 +144,14 @@ impl<'a, 'h, K: Truth<A>, A: Drop, W: Work<Answer = A>, G: Gate, R: Wait> Answer
         if self.exchange.work.count() <= number {
             return NextAnswer::End;
         }
-        let Some(Answered { answer, .. }) = self.look(number) else {
-            return NextAnswer::Going;
-        };
-        self.given = number + 1;
-        NextAnswer::Given(answer)
+        let found = self.look(number);
+        match found {
+            Some(answered) => {
+                self.given = number + 1;
+                NextAnswer::Given(answered.into_answer())
+            }
+            None => NextAnswer::Going,
+        }
     }
 }
 

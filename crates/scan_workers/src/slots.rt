@@ -1,8 +1,10 @@
-// Where morsels lie that were begun or answered, until a thread makes more of them or reads them.
+// What is to be done of the morsels that were begun, and for which one the reader asks.
 
-ghost use Rattle.std.specs.Prelude.{◌≡◌, IfOk, IfSome};
+ghost use Rattle.std.specs.Prelude.{◌≡◌, true, false, Some, IfErr, IfNone, IfSome, MatchOption, OnOk, option_map};
+ghost use Rattle.scan_workers.specs.Held.{IsInHand, Lies, MayBegin, Seeks, Tasks, asked, begun_one, laid, taken};
 
-use crate::answered::{Answered, Done, Meanwhile, Task, Truth};
+use crate::answered::{Answered, Done, Meanwhile, Stage, Task, Truth};
+use crate::held::Held;
 use std::alloc::{AllocError, Global};
 
 // How many morsels there are, how many may be begun and not read at once, and how many of those may be made or there.
@@ -13,62 +15,47 @@ pub struct Bounds {
     pub made: usize,
 }
 
-// What lies in a slot.
-#[derive(Drop)]
-enum Slot<K: Truth<A>, A> {
-    // Nothing. A thread works on the morsel, or none has drawn it.
-    Empty,
-    // One of which more is to be made.
-    Begun(Answered<K, A>),
-    // An answer that is made.
-    Made(Answered<K, A>),
-}
-
-// The morsels from the one on for which the reader asks, each in the slot of its number modulo the slots.
-#[derive(Drop)]
+// The morsels from the one on for which the reader asks, and how far they are.
 pub struct Slots<K: Truth<A>, A> {
-    slots: Vec<Slot<K, A>>,
-    bounds: Bounds,
-    // The morsel for which the reader asks. It is done with those before it.
-    read: usize,
-    // How many morsels were given out to be begun, and how many are made.
-    begun: usize,
+    held: Held<K, A>,
+    // How many answers may be made or there at once.
+    most_made: usize,
+    // How many answers are made.
     made: usize,
     // How many lie in slots of which more is to be made.
-    lying: usize,
+    unmade: usize,
     // Whether a turn of the reader's morsel is over since it asked.
     turned: bool,
     // Whether no more answers are read.
     closed: bool,
 }
 
-impl<K: Truth<A>, A: Drop> Slots<K, A> {
+impl<K: Truth<A>, A> Slots<K, A> {
     // Slots for as many morsels as may be begun.
     pub fn new(alloc: Global, bounds: Bounds) -> Result<Slots<K, A>, AllocError> {
-        let mut slots = Vec::with_capacity(alloc, bounds.begun)?;
-        for _ in 0..bounds.begun {
-            slots.push(Slot::Empty)?;
-        }
+        let held = Held::new(alloc, bounds.count, bounds.begun)?;
         Ok(Slots {
-            slots,
-            bounds,
-            read: 0,
-            begun: 0,
+            held,
+            most_made: bounds.made,
             made: 0,
-            lying: 0,
+            unmade: 0,
             turned: false,
             closed: false,
         })
     }
 
-    // The reader asks for the answer of a morsel.
-    pub fn ask(&mut self, number: usize) {
-        self.read = number;
+    // The reader asks for its next answer.
+    pub fn ask(&mut self)
+        ensures { self.new.held ≡ asked self.old.held }
+    {
+        self.held.ask();
         self.turned = false;
     }
 
     // No more answers are read.
-    pub fn close(&mut self) {
+    pub fn close(&mut self)
+        ensures { self.new.held ≡ self.old.held }
+    {
         self.closed = true;
     }
 
@@ -77,152 +64,161 @@ impl<K: Truth<A>, A: Drop> Slots<K, A> {
         self.closed
     }
 
-    // Gives out one more morsel to be begun.
-    pub fn give_out(&mut self) {
-        self.begun = self.begun.saturating_add(1);
-    }
-
-    // Lays a morsel into its slot.
-    fn lay(&mut self, number: usize, slot: Slot<K, A>) {
-        let len = self.slots.len();
-        if len != 0 {
-            self.slots[number % len] = slot;
-        }
-    }
-
-    // Lays one into its slot of which more is to be made.
-    fn lay_begun(&mut self, answered: Answered<K, A>) {
-        self.lying = self.lying.saturating_add(1);
-        self.lay(answered.number, Slot::Begun(answered));
-    }
-
-    // Takes in what was done. Whether it tells the reader something of the morsel for which it asks.
-    pub fn take_in(&mut self, done: Done<K, A>) -> bool {
-        match done {
-            Done::Nothing => false,
-            Done::Begun(answered) => {
-                self.lay_begun(answered);
+    // Counts what was done of a morsel, for which the reader asks or not. Whether it tells the reader something of that.
+    fn count(&mut self, stage: Stage, asked: bool) -> bool
+        ensures { self.new.held ≡ self.old.held }
+    {
+        match stage {
+            Stage::Begun => {
+                self.unmade = self.unmade.saturating_add(1);
                 false
             }
-            Done::Turned(answered) => {
-                let asked = answered.number == self.read;
+            Stage::Turned => {
+                self.unmade = self.unmade.saturating_add(1);
                 self.turned = self.turned || asked;
-                self.lay_begun(answered);
                 asked
             }
-            Done::Made(answered) => {
-                let asked = answered.number == self.read;
+            Stage::Made => {
                 self.made = self.made.saturating_add(1);
-                self.lay(answered.number, Slot::Made(answered));
                 asked
             }
         }
     }
 
-    // Takes a morsel out of its slot, of which more is to be made.
-    fn take_begun(&mut self, number: usize) -> Option<Answered<K, A>> {
-        let place = number.checked_rem(self.slots.len())?;
-        let slot = &mut self.slots[place];
-        if !matches!(slot, Slot::Begun(_)) {
-            return None;
+    // Takes in what was done of a morsel, if anything was. Whether it tells the reader something of the morsel for which it asks. Who
+    // has no such morsel in hand keeps what it has.
+    pub fn take_in(&mut self, done: Option<Done<K, A>>) -> Result<bool, Answered<K, A>>
+        ensures laid { OnOk result (MatchOption done (self.new.held ≡ self.old.held) (λ done. IsInHand self.old.held done.answered.number × (self.new.held ≡ laid self.old.held done.answered.number))) }
+        ensures kept { IfErr result (λ answered. (option_map (λ done. done.answered) done ≡ Some answered) × ¬ IsInHand self.old.held answered.number × (self.new.held ≡ self.old.held)) }
+    {
+        match done {
+            Some(done) => self.lay(done),
+            None => Ok(false),
         }
-        match std::mem::replace(slot, Slot::Empty) {
-            Slot::Begun(answered) => Some(answered),
-            _ => None,
+    }
+
+    // The same, where something was done.
+    fn lay(&mut self, done: Done<K, A>) -> Result<bool, Answered<K, A>>
+        ensures laid { OnOk result (IsInHand self.old.held done.answered.number × (self.new.held ≡ laid self.old.held done.answered.number)) }
+        ensures kept { IfErr result (λ answered. (answered ≡ done.answered) × ¬ IsInHand self.old.held answered.number × (self.new.held ≡ self.old.held)) }
+    {
+        let number = done.answered.number;
+        if !self.held.is_in_hand(number) {
+            let Done { answered, stage: _ } = done;
+            return Err(answered);
         }
+        let asked = number == self.held.read();
+        let tells = self.count(done.stage, asked);
+        self.held.lay(done);
+        Ok(tells)
     }
 
     // Takes the first one of which more may be made.
-    fn take_first(&mut self) -> Option<Answered<K, A>> {
-        if self.lying == 0 {
+    fn take_first(&mut self) -> Option<Answered<K, A>>
+        ensures some { IfSome result (λ answered. Lies self.old.held answered.number × (self.new.held ≡ taken self.old.held answered.number)) }
+        ensures none { IfNone result (self.new.held ≡ self.old.held) }
+    {
+        if self.unmade == 0 {
             return None;
         }
-        for number in self.read..self.read.saturating_add(self.bounds.made) {
-            if let Some(answered) = self.take_begun(number) {
-                self.lying = self.lying.saturating_sub(1);
-                return Some(answered);
+        let read = self.held.read();
+        for number in read..read.saturating_add(self.most_made) {
+            match self.held.take_unmade(number) {
+                Some(answered) => {
+                    self.unmade = self.unmade.saturating_sub(1);
+                    return Some(answered);
+                }
+                None => {}
             }
         }
         None
     }
 
-    // Whether one more may be begun.
-    fn may_begin(&self) -> bool {
-        self.begun < self.bounds.count && self.begun.saturating_sub(self.read) < self.bounds.begun
-    }
-
-    // Whether more is to be made of a morsel that lies in its slot.
-    fn is_begun(&self, number: usize) -> bool {
-        match number.checked_rem(self.slots.len()) {
-            Some(place) => matches!(self.slots[place], Slot::Begun(_)),
-            None => false,
-        }
-    }
-
     // Whether more may be made of one.
     fn may_make(&self) -> bool {
-        if self.lying == 0 {
+        if self.unmade == 0 {
             return false;
         }
-        for number in self.read..self.read.saturating_add(self.bounds.made) {
-            if self.is_begun(number) {
+        let read = self.held.read();
+        for number in read..read.saturating_add(self.most_made) {
+            if self.held.has_unmade(number) {
                 return true;
             }
         }
         false
     }
 
-    // What is to be done next: more of the first answer of which more may be made, or else one more is begun.
-    pub fn task(&mut self) -> Option<Task<K, A>> {
-        if let Some(answered) = self.take_first() {
-            return Some(Task::Make(answered));
-        }
-        if !self.may_begin() {
-            return None;
-        }
-        self.give_out();
-        Some(Task::Begin)
-    }
-
-    // Whether there is something to be done.
-    pub fn has_task(&self) -> bool {
-        self.may_begin() || self.may_make()
-    }
-
-    // Whether nothing is left to be done by those who don't read.
-    pub fn is_over(&self) -> bool {
-        self.closed || self.made >= self.bounds.count
-    }
-
-    // The answer of a morsel, if it is there.
-    fn take(&mut self, number: usize) -> Option<Answered<K, A>>
-        ensures { IfSome result (λ answered. answered.number ≡ number) }
+    // Gives out one more to be begun, if one may be.
+    pub fn begin(&mut self) -> bool
+        ensures begun { result ≡ true → MayBegin self.old.held × (self.new.held ≡ begun_one self.old.held) }
+        ensures none { result ≡ false → self.new.held ≡ self.old.held }
     {
-        let place = number.checked_rem(self.slots.len())?;
-        let slot = &mut self.slots[place];
-        if !matches!(slot, Slot::Made(_)) {
-            return None;
+        if !self.held.may_begin() {
+            return false;
         }
-        match std::mem::replace(slot, Slot::Empty) {
-            Slot::Made(answered) if answered.number == number => Some(answered),
-            other => {
-                *slot = other;
-                None
+        self.held.begin();
+        true
+    }
+
+    // What is to be done next: more of the first answer of which more may be made, or else one more is begun.
+    pub fn task(&mut self) -> Option<Task<Answered<K, A>>>
+        ensures { Tasks (λ answered. answered.number) self.old.held result self.new.held }
+    {
+        match self.take_first() {
+            Some(answered) => Some(Task::Make(answered)),
+            None => {
+                if self.begin() {
+                    Some(Task::Begin)
+                } else {
+                    None
+                }
             }
         }
     }
 
-    // The answer of the morsel for which the reader asks, or what it does meanwhile, if there is anything.
-    pub fn seek(&mut self, number: usize) -> Option<Result<Answered<K, A>, Meanwhile<K, A>>>
-        ensures { IfSome result (λ sought. IfOk sought (λ answered. answered.number ≡ number)) }
+    // Whether there is something to be done.
+    pub fn has_task(&self) -> bool {
+        self.held.may_begin() || self.may_make()
+    }
+
+    // Whether nothing is left to be done by those who don't read.
+    pub fn is_over(&self) -> bool {
+        self.closed || self.made >= self.held.count()
+    }
+
+    // The morsel for which the reader asks.
+    pub fn read(&self) -> usize
+        ensures { result ≡ self.now.held.read }
     {
-        if let Some(answered) = self.take(number) {
-            return Some(Ok(answered));
+        self.held.read()
+    }
+
+    // The answer for which the reader asks, or what it does meanwhile, if there is anything.
+    pub fn seek(&mut self) -> Option<Result<Answered<K, A>, Meanwhile<Answered<K, A>>>>
+        ensures { Seeks (λ answered. answered.number) self.old.held result self.new.held }
+    {
+        match self.held.give() {
+            Some(answered) => Some(Ok(answered)),
+            None => match self.task() {
+                Some(task) => Some(Err(Meanwhile::Task(task))),
+                None if self.turned => Some(Err(Meanwhile::Turned)),
+                None => None,
+            },
         }
-        match self.task() {
-            Some(task) => Some(Err(Meanwhile::Task(task))),
-            None if self.turned => Some(Err(Meanwhile::Turned)),
-            None => None,
-        }
+    }
+}
+
+impl<K: Truth<A>, A: Drop> Slots<K, A> {
+    // Lets go of all that no one reads.
+    pub fn discard(self) {
+        let Slots {
+            held,
+            most_made: _,
+            made: _,
+            unmade: _,
+            turned: _,
+            closed: _,
+        } = self;
+        held.discard();
     }
 }

@@ -1,6 +1,7 @@
 // Where the workers and the reader meet.
 
-ghost use Rattle.std.specs.Prelude.{◌≡◌, IfOk};
+ghost use Rattle.std.specs.Prelude.{◌≡◌, IfOk, IfSome};
+ghost use Rattle.scan_workers.specs.Held.{Tasks};
 
 use crate::answered::{Answered, Done, Meanwhile, Task, Truth};
 use crate::slots::{Bounds, Slots};
@@ -25,7 +26,6 @@ fn look_for_another(number: &AtomicUsize, seen: usize) {
 }
 
 // What the threads share, and who of them waits.
-#[derive(Drop)]
 struct Shared<K: Truth<A>, A> {
     slots: Slots<K, A>,
     // How many workers wait for something to do, how many of those sleep, and how many of these were woken and do not go on yet.
@@ -36,6 +36,9 @@ struct Shared<K: Truth<A>, A> {
     sleeps: bool,
 }
 
+// The answer for which the reader asks, or what it does meanwhile.
+type Sought<T> = Result<T, Meanwhile<T>>;
+
 // Who is told that there may be something for it, and who is woken for that.
 #[derive(Clone, Copy, Drop)]
 struct News {
@@ -45,7 +48,7 @@ struct News {
     wakes_reader: bool,
 }
 
-impl<K: Truth<A>, A: Drop> Shared<K, A> {
+impl<K: Truth<A>, A> Shared<K, A> {
     // Whom a thread tells, where there is something of the reader's morsel or not. It wakes a worker only where all that wait sleep, and
     // one of these was not woken yet.
     fn news(&mut self, reader: bool) -> News {
@@ -63,16 +66,27 @@ impl<K: Truth<A>, A: Drop> Shared<K, A> {
     }
 
     // What a worker does next, if there is anything.
-    fn task(&mut self) -> Option<Task<K, A>> {
+    fn task(&mut self) -> Option<Task<Answered<K, A>>>
+        ensures { Tasks (λ answered. answered.number) self.old.slots.held result self.new.slots.held }
+    {
         if self.slots.is_over() {
             return None;
         }
         self.slots.task()
     }
+
+    // The answer of a morsel, or what the reader does meanwhile, if there is anything. It asks for the next one in order.
+    fn seek(&mut self, number: usize) -> Option<Sought<Answered<K, A>>>
+        ensures { IfSome result (λ sought. IfOk sought (λ answered. answered.number ≡ number)) }
+    {
+        if self.slots.read() != number {
+            return None;
+        }
+        self.slots.seek()
+    }
 }
 
 // What the workers and the reader share. They hand in what they did, and get what they do next.
-#[derive(Drop)]
 pub struct Window<K: Truth<A>, A> {
     shared: Mutex<Shared<K, A>>,
     // How often a worker was told that there is something to do, or that nothing is left, and the reader that there is something of its
@@ -83,7 +97,7 @@ pub struct Window<K: Truth<A>, A> {
     answered: Condvar,
 }
 
-impl<K: Truth<A>, A: Drop> Window<K, A> {
+impl<K: Truth<A>, A> Window<K, A> {
     // A window in which nothing was begun.
     pub fn new(alloc: Global, bounds: Bounds) -> Result<Window<K, A>, AllocError> {
         let slots = Slots::new(alloc, bounds)?;
@@ -122,18 +136,25 @@ impl<K: Truth<A>, A: Drop> Window<K, A> {
         }
     }
 
-    // Gives out a morsel to be begun.
-    pub fn give_out(&self, rt: &impl Wait) {
-        self.shared.lock(rt).slots.give_out();
+    // Gives out a morsel to be begun, if one may be.
+    pub fn give_out(&self, rt: &impl Wait) -> bool {
+        self.shared.lock(rt).slots.begin()
     }
 
     // Hands in what a worker did, and gives what it does next. Nothing is given where nothing is left, or no more answers are read.
-    pub fn hand_in(&self, rt: &impl Wait, done: Done<K, A>) -> Option<Task<K, A>> {
+    pub fn hand_in(
+        &self,
+        rt: &impl Wait,
+        done: Option<Done<K, A>>,
+    ) -> Option<Task<Answered<K, A>>> {
         let mut shared = self.shared.lock(rt);
+        let tells = match shared.slots.take_in(done) {
+            Ok(tells) => tells,
+            Err(answered) => return Some(Task::Make(answered)),
+        };
         if shared.slots.is_closed() {
             return None;
         }
-        let tells = shared.slots.take_in(done);
         let task = shared.task();
         let news = shared.news(tells);
         let waits = task.is_none() && !shared.slots.is_over();
@@ -144,14 +165,15 @@ impl<K: Truth<A>, A: Drop> Window<K, A> {
         let seen = self.offers.load(Ordering::Acquire);
         drop(shared);
         self.wake(news);
-        if waits {
-            return self.wait_for_task(rt, seen);
+        match task {
+            Some(task) => Some(task),
+            None if waits => self.wait_for_task(rt, seen),
+            None => None,
         }
-        task
     }
 
     // Waits until there is something to do. It sleeps where nothing was offered while it looked.
-    fn wait_for_task(&self, rt: &impl Wait, offers: usize) -> Option<Task<K, A>> {
+    fn wait_for_task(&self, rt: &impl Wait, offers: usize) -> Option<Task<Answered<K, A>>> {
         let mut seen = offers;
         for _ in rt.forever() {
             look_for_another(&self.offers, seen);
@@ -162,16 +184,17 @@ impl<K: Truth<A>, A: Drop> Window<K, A> {
                 shared.asleep = shared.asleep.saturating_sub(1);
                 shared.woken = shared.woken.saturating_sub(1);
             }
-            let task = shared.task();
-            if task.is_some() || shared.slots.is_over() {
-                shared.waiting = shared.waiting.saturating_sub(1);
-                let news = shared.news(false);
-                self.count(news);
-                drop(shared);
-                self.wake(news);
-                return task;
+            match shared.task() {
+                None if !shared.slots.is_over() => seen = self.offers.load(Ordering::Acquire),
+                task => {
+                    shared.waiting = shared.waiting.saturating_sub(1);
+                    let news = shared.news(false);
+                    self.count(news);
+                    drop(shared);
+                    self.wake(news);
+                    return task;
+                }
             }
-            seen = self.offers.load(Ordering::Acquire);
         }
         unreachable!()
     }
@@ -181,14 +204,16 @@ impl<K: Truth<A>, A: Drop> Window<K, A> {
         &self,
         rt: &impl Wait,
         number: usize,
-        done: Done<K, A>,
-    ) -> Result<Answered<K, A>, Meanwhile<K, A>>
+        done: Option<Done<K, A>>,
+    ) -> Sought<Answered<K, A>>
         ensures { IfOk result (λ answered. answered.number ≡ number) }
     {
         let mut shared = self.shared.lock(rt);
-        shared.slots.take_in(done);
-        shared.slots.ask(number);
-        let sought = shared.slots.seek(number);
+        if let Err(answered) = shared.slots.take_in(done) {
+            return Err(Meanwhile::Task(Task::Make(answered)));
+        }
+        shared.slots.ask();
+        let sought = shared.seek(number);
         let news = shared.news(false);
         self.count(news);
         let seen = self.answers.load(Ordering::Acquire);
@@ -201,18 +226,13 @@ impl<K: Truth<A>, A: Drop> Window<K, A> {
     }
 
     // Waits until the answer of a morsel is there, or there is something that the reader does meanwhile.
-    fn wait_for(
-        &self,
-        rt: &impl Wait,
-        number: usize,
-        seen: usize,
-    ) -> Result<Answered<K, A>, Meanwhile<K, A>>
+    fn wait_for(&self, rt: &impl Wait, number: usize, seen: usize) -> Sought<Answered<K, A>>
         ensures { IfOk result (λ answered. answered.number ≡ number) }
     {
         look_for_another(&self.answers, seen);
         let mut shared = self.shared.lock(rt);
         for _ in rt.forever() {
-            if let Some(sought) = shared.slots.seek(number) {
+            if let Some(sought) = shared.seek(number) {
                 return sought;
             }
             shared.sleeps = true;
@@ -230,5 +250,26 @@ impl<K: Truth<A>, A: Drop> Window<K, A> {
         self.offers.fetch_add(1, Ordering::AcqRel);
         drop(shared);
         self.offered.notify_all();
+    }
+}
+
+impl<K: Truth<A>, A: Drop> Window<K, A> {
+    // Lets go of all that no one reads.
+    pub fn discard(self) {
+        let Window {
+            shared,
+            offers: _,
+            answers: _,
+            offered: _,
+            answered: _,
+        } = self;
+        let Shared {
+            slots,
+            waiting: _,
+            asleep: _,
+            woken: _,
+            sleeps: _,
+        } = shared.into_inner();
+        slots.discard();
     }
 }
