@@ -7,7 +7,7 @@ use hash_seed::HashSeed;
 use scan_base::Fault;
 use std::alloc::Global;
 use std::sync::Wait;
-use version_cell::{Blank, Brand, CellName, Putter, Scanner, open};
+use version_cell::{Blank, Brand, CellName, Opened, Putter, Scanner, open};
 
 // The fault of a put into a table with no name, if it is refused.
 fn fault_of_put<C: CellName, R: Wait + Drop>(
@@ -27,7 +27,7 @@ fn seen<C: CellName>(seat: &mut Scanner<C>) -> Result<(u64, usize), Fault> {
 /// A version of a number that is not there, a put that is refused, the next put with what its seat then sees, and a look
 /// behind the end of the putter: the fault of each, or the numbers.
 pub fn refusals<R: Wait>(rt: &R, alloc: Global, seed: HashSeed) -> Result<String, Fault> {
-    let blank = open(alloc, seed, 1)?;
+    let blank = open(alloc, seed, 1, Opened::new())?;
     refuses::<Brand, R>(rt, alloc, blank)
 }
 
@@ -52,7 +52,7 @@ fn refuses<C: CellName, R: Wait>(rt: &R, alloc: Global, blank: Blank) -> Result<
 /// Behind three puts: expiries of the versions below 2, 5 and 1, and looks at versions 1, 2 and 4. Then an expiry of those below 3, a
 /// look at version 3, and the number of the next put: the floor, the number or the fault of each.
 pub fn expiries<R: Wait>(rt: &R, alloc: Global, seed: HashSeed) -> Result<String, Fault> {
-    let blank = open(alloc, seed, 1)?;
+    let blank = open(alloc, seed, 1, Opened::new())?;
     expires::<Brand, R>(rt, alloc, blank)
 }
 

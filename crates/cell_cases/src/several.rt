@@ -10,7 +10,7 @@ use std::sync::Wait;
 use std::sync::atomic::{AtomicU64, Ordering};
 use std::thread;
 use std::thread::Threads;
-use version_cell::{Blank, Brand, CellName, Putter, Scanner, SharedPutter, Told, open};
+use version_cell::{Blank, Brand, CellName, Opened, Putter, Scanner, SharedPutter, Told, open};
 
 // What is done with a seat, in a thread of its own.
 trait Job<C: CellName> {
@@ -142,7 +142,7 @@ pub fn two_look_while_one_puts<R: Threads + Wait + Sync>(
     alloc: Global,
     seed: HashSeed,
 ) -> Result<String, Fault> {
-    let blank = open(alloc, seed, 2)?;
+    let blank = open(alloc, seed, 2, Opened::new())?;
     looked_at_by_two::<Brand, R>(rt, alloc, blank)
 }
 
@@ -172,7 +172,7 @@ pub fn two_put_by_one_lock<R: Threads + Wait + Sync>(
     alloc: Global,
     seed: HashSeed,
 ) -> Result<String, Fault> {
-    let blank = open(alloc, seed, 2)?;
+    let blank = open(alloc, seed, 2, Opened::new())?;
     put_by_two::<Brand, R>(rt, alloc, blank)
 }
 

@@ -8,7 +8,7 @@ use hash_seed::HashSeed;
 use scan_base::{Fault, Text};
 use std::alloc::Global;
 use std::sync::Wait;
-use version_cell::{Blank, Brand, CellName, Scanner, SharedPutter, open};
+use version_cell::{Blank, Brand, CellName, Opened, Scanner, SharedPutter, open};
 
 // How many puts a seat has seen or was told of.
 fn told_of<C: CellName>(seat: &Scanner<C>) -> u64 {
@@ -28,7 +28,7 @@ pub fn one_seat_tells_another<R: Wait>(
     alloc: Global,
     seed: HashSeed,
 ) -> Result<String, Fault> {
-    let blank = open(alloc, seed, 2)?;
+    let blank = open(alloc, seed, 2, Opened::new())?;
     told_by_another::<Brand, R>(rt, alloc, blank)
 }
 
@@ -41,7 +41,7 @@ fn told_by_another<C: CellName, R: Wait>(
     requires seats { blank.seats ≡ 2 }
 {
     let (putter, mut seats) = blank.named::<C, &R>(alloc, rt)?;
-    let shared = SharedPutter::new(putter);
+    let mut shared = SharedPutter::new(putter);
     let (Some(mut ahead), Some(mut behind)) = (seats.pop(), seats.pop()) else {
         return Ok(String::from_str(alloc, "fewer seats")?);
     };
@@ -49,7 +49,7 @@ fn told_by_another<C: CellName, R: Wait>(
     let (told, before) = (told_of(&ahead), told_of(&behind));
     tell(&ahead, &mut behind);
     let learnt = told_of(&behind);
-    let mut all = shared.gather(rt);
+    let mut all = shared.gather();
     all.take(ahead);
     all.take(behind);
     let whole = shared.whole_log(rt, all).number();
@@ -63,7 +63,7 @@ pub fn one_seat_holds_what_expires<R: Wait>(
     alloc: Global,
     seed: HashSeed,
 ) -> Result<String, Fault> {
-    let blank = open(alloc, seed, 2)?;
+    let blank = open(alloc, seed, 2, Opened::new())?;
     held_beside::<Brand, R>(rt, alloc, blank)
 }
 
@@ -73,7 +73,7 @@ fn held_beside<C: CellName, R: Wait>(rt: &R, alloc: Global, blank: Blank) -> Res
 {
     let table = Text::new(alloc, "t")?;
     let (putter, mut seats) = blank.named::<C, &R>(alloc, rt)?;
-    let shared = SharedPutter::new(putter);
+    let mut shared = SharedPutter::new(putter);
     let (Some(mut writer), Some(mut holder)) = (seats.pop(), seats.pop()) else {
         return Ok(String::from_str(alloc, "fewer seats")?);
     };
@@ -82,7 +82,7 @@ fn held_beside<C: CellName, R: Wait>(rt: &R, alloc: Global, blank: Blank) -> Res
     let held = holder.at(1);
     let floor = shared.expire(rt, alloc, &mut writer, 2);
     let gone = holder.at(1).err();
-    let mut all = shared.gather(rt);
+    let mut all = shared.gather();
     all.take(writer);
     all.take(holder);
     let whole = shared.whole_log(rt, all).number();

@@ -1,5 +1,7 @@
 //! The network, as commands see it: sockets in the program, and ends in memory in tests.
 
+use crate::accept_failure::AcceptFailure;
+use crate::known::Known;
 use crate::printing::Announced;
 use grpc_frame::{Input, Output};
 use std::io;
@@ -38,11 +40,12 @@ pub trait Connect {
         ensures { shares self.old result self.new };
 }
 
-/// Takes connections of clients, one behind the other. The first one is taken when the line of the port was printed. Each
-/// other one is taken when the one before it was served as it is owed, and is closed.
-pub trait Listen {
-    ghost use Rattle.std.specs.Prelude.{◌≡◌, ℕ, Option, Some, None, IfErr, IfOk};
-    ghost use Rattle.command_ends.specs.Network.{Ends, ends_of};
+/// Takes connections of clients, one after the other, for one seat. The first one is taken when the line of the port was printed.
+/// Each other one is taken when the one before it was served as it is owed, and is closed. It is shown the seat at each accept and
+/// at each closing: so what was done for it is one chain, from a seat that had seen nothing, without an end.
+pub trait Listen<K: Known> {
+    ghost use Rattle.std.specs.Prelude.{◌≡◌, ℕ, Option, Some, None, Result, Ok, Err, IfErr, IfOk};
+    ghost use Rattle.command_ends.specs.Network.{Accepting, Ends, ends_of};
 
     /// What comes from a client.
     type Reader: Input + Drop;
@@ -57,8 +60,8 @@ pub trait Listen {
     // What came of asking for another listener to the same port: this one, or none.
     ghost shares: { Self → Option Self → Type 0 };
 
-    // What came of an accept: a connection of these ends, or none.
-    ghost accepts: { Self → Option Ends → Self → Type 0 };
+    // What came of an accept: a connection of these ends, or why there is none.
+    ghost accepts: { Accepting Self };
 
     // What came of closing the connection that is open.
     ghost closes: { Self → Self → Type 0 };
@@ -72,8 +75,15 @@ pub trait Listen {
     // A connection that it gave is open. These were its ends when it was made.
     ghost holds: { Self → Ends → Type 0 };
 
-    // What is owed for a connection before it is closed: from its ends when it was made to those that it left.
-    ghost owed: { Ends → Ends → Type 0 };
+    // Its seat was last shown so. A new seat was not shown yet.
+    ghost rests: { Self → K → Type 0 };
+
+    // It may be shown this seat: it is one of its cell.
+    ghost cell: { Self → K → Type 0 };
+
+    // What is owed for a connection before it is closed: from the seat at its accept, by its ends when it was made and those that
+    // it left, to the seat that it left.
+    ghost owed: { K → Ends → Ends → K → Type 0 };
 
     /// Listens to a port of this machine, 0 for one that is free, and gives the port. A read or a write of a connection fails
     /// where for `idle` seconds no byte comes or goes; 0 stands for no end.
@@ -85,9 +95,11 @@ pub trait Listen {
         ensures heard { IfOk result (λ heard. listens self.old port idle (Some heard) self.new) }
         ensures refused { IfErr result (λ _. listens self.old port idle None self.new) }
         ensures port { IfOk result (λ heard. port_of self.new ≡ heard) }
-        ensures at_rest { IfOk result (λ _. at_rest self.new) };
+        ensures at_rest { IfOk result (λ _. at_rest self.new) }
+        ensures cell { (seat : K) → cell self.old seat → cell self.new seat };
 
-    /// Another listener to the same port: a connection to it is taken by one of the two. It gave none yet.
+    /// Another listener to the same port, for a seat of the same cell that has seen nothing: a connection to the port is taken by
+    /// one of the two. It gave none yet.
     ///
     /// # Errors
     ///
@@ -96,32 +108,45 @@ pub trait Listen {
         ensures made { IfOk result (λ other. shares self.now (Some other)) }
         ensures refused { IfErr result (λ _. shares self.now None) }
         ensures port { IfOk result (λ other. port_of other ≡ port_of self.now) }
-        ensures at_rest { IfOk result (λ other. at_rest other) };
+        ensures at_rest { IfOk result (λ other. at_rest other) }
+        ensures rests { IfOk result (λ other. (seat : K) → K.is_new seat → rests other seat) }
+        ensures cell { IfOk result (λ other. (seat : K) → cell self.now seat → cell other seat) };
 
-    /// Waits for the next connection, where the line of its port was printed and no other is open. No call of its ends has
-    /// failed yet.
+    /// Waits for the next connection, where the line of its port was printed and no other is open. The seat may have learnt what
+    /// others did since it was shown last, and nothing was made through it. No call of the connection's ends has failed yet.
     ///
     /// # Errors
     ///
-    /// The system's. No connection is open then.
-    fn accept(&mut self, announced: &Announced) -> io::Result<(Self::Reader, Self::Writer)>
+    /// Why there is none. No connection is open then.
+    fn accept(
+        &mut self,
+        announced: &Announced,
+        seat: &K,
+    ) -> Result<(Self::Reader, Self::Writer), AcceptFailure>
         requires announced { announced.now ≡ port_of self.old }
         requires at_rest { at_rest self.old }
+        requires cell { cell self.old seat.now }
+        requires learns { (old : K) × rests self.old old × K.learns old seat.now }
         ensures taken { IfOk result (λ ends. accepts self.old
-            (Some (ends_of (Self.Reader.tape ends.0) (Self.Writer.contents ends.1))) self.new) }
-        ensures failed { IfErr result (λ _. accepts self.old None self.new) }
+            (Ok (ends_of (Self.Reader.tape ends.0) (Self.Writer.contents ends.1))) self.new) }
+        ensures failed { IfErr result (λ failure. accepts self.old (Err failure) self.new) }
         ensures reads { IfOk result (λ ends. Self.Reader.failures ends.0 ≡ 0) }
         ensures writes { IfOk result (λ ends. Self.Writer.failures ends.1 ≡ 0) }
         ensures holds { IfOk result (λ ends. holds self.new
             (ends_of (Self.Reader.tape ends.0) (Self.Writer.contents ends.1))) }
         ensures at_rest { IfErr result (λ _. at_rest self.new) }
-        ensures port { port_of self.new ≡ port_of self.old };
+        ensures port { port_of self.new ≡ port_of self.old }
+        ensures rests { rests self.new seat.now }
+        ensures cell { (other : K) → cell self.old other → cell self.new other };
 
-    /// Closes the connection that is open, and was served as it is owed.
-    fn done(&mut self, reader: Self::Reader, writer: Self::Writer)
-        requires served { (made : Ends) × holds self.old made
-            × owed made (ends_of (Self.Reader.tape reader) (Self.Writer.contents writer)) }
+    /// Closes the connection that is open, and was served as it is owed, from the seat that was shown at its accept to this one.
+    fn done(&mut self, reader: Self::Reader, writer: Self::Writer, seat: &K)
+        requires cell { cell self.old seat.now }
+        requires served { (old : K) × (made : Ends) × rests self.old old × holds self.old made
+            × owed old made (ends_of (Self.Reader.tape reader) (Self.Writer.contents writer)) seat.now }
         ensures closed { closes self.old self.new }
         ensures at_rest { at_rest self.new }
-        ensures port { port_of self.new ≡ port_of self.old };
+        ensures port { port_of self.new ≡ port_of self.old }
+        ensures rests { rests self.new seat.now }
+        ensures cell { (other : K) → cell self.old other → cell self.new other };
 }

@@ -12,12 +12,16 @@ use Rattle.flight_core.specs.Headline.{Pairwise}
 use Rattle.version_log.specs.Log.{Log, IsLog, Begins}
 use Rattle.flight_calls.specs.declared.setting.Options.{Options}
 use Rattle.version_cell.specs.Merges.{MergesAll}
+use Rattle.logbook.specs.Pages.{Book}
+use Rattle.version_cell.specs.Rests.{RestAt}
 use Rattle.version_cell.specs.Seats as cell
+use Rattle.flight_core.specs.Seats.{Seat, seat_of}
 use Rattle.shared_calls.specs.Sharing.{onward, seat_at}
 use Rattle.connection_turns.specs.Drawers.{DrawerAt, drawer_at}
 use Rattle.command_line.specs.declared.request.Serving.{Serving}
-use Rattle.command_ends.specs.Network.{Ends}
+use Rattle.command_ends.specs.Network.{Accepting, Ends}
 use Rattle.command_ends.specs.Printing.{Said, listening_line}
+use Rattle.commands.specs.Shown.{IsNewSeat, WasShown}
 use Rattle.commands.specs.Port.{IsFresh, IsServed, ServesPort, most_of, options_of}
 use Rattle.commands.specs.Serve.{DrawsAll, Pays, Work, IsPartOf, ServesSideBySide, both, first_fault, made_by, made_by_each}
 use Rattle.commands.specs.inside.Gathering.{Begun, Gathered, HasDrawn, HasWorked, HiredWorker, IsAtRest, IsNew, IsWithin, MayServe, seat_in, state_of, work_of}
@@ -32,49 +36,69 @@ within_more {L} told history more (hired ∷ all) parts =
 
 -- ---- workers that begin
 
-pub none_begun : {L : Type 0} (shares : L → Option L → Type 0) (at_rest : L → Type 0) (port_of : L → ℕ) (heard : L) (name : TableId) (hub : DrawerAt) (left : List cell.Seat) → All (λ found. found ≡ cell.seat [] [] 0 []) left → hub ≡ drawer_at name (length left + 1) 0 0
-    → Begun shares at_rest port_of heard name hub [] left (length left)
-none_begun {L} shares at_rest port_of heard name hub left seats parts = record {
+pub none_begun : {L : Type 0} (shares : L → Option L → Type 0) (at_rest : L → Type 0) (port_of : L → ℕ) (rests known : L → RestAt → Type 0) (heard : L) (book : Book) (name : TableId) (hub : DrawerAt) (left : List cell.Seat) → All (λ found. found ≡ cell.seat found.number [] [] 0 []) left → hub ≡ drawer_at name (length left + 1) 0 0
+    → Begun shares at_rest port_of rests known heard book name hub [] left (length left)
+none_begun {L} shares at_rest port_of rests known heard book name hub left seats parts = record {
   counted = omega arith;
   fresh = All-nil (λ (hired : HiredWorker L). IsFresh shares heard (state_of hired));
   new = All-nil (IsNew name);
-  may = All-nil (IsAtRest at_rest port_of (port_of heard));
+  may = All-nil (IsAtRest at_rest port_of rests known (port_of heard) book);
   seats = seats;
   parts = parts;
 }
 
 -- a worker for one seat more
-pub one_begins : {L : Type 0} (shares : L → Option L → Type 0) (at_rest : L → Type 0) (port_of : L → ℕ) (heard listener : L) (name : TableId) (hub after other : DrawerAt) (workers more : List (HiredWorker L)) (scanner : cell.Seat) (left rest : List cell.Seat) (count : ℕ)
-    → Begun shares at_rest port_of heard name hub workers left count → left ≡ scanner ∷ rest → shares heard (Some listener) → at_rest listener → port_of listener ≡ port_of heard
+pub one_begins : {L : Type 0} (shares : L → Option L → Type 0) (at_rest : L → Type 0) (port_of : L → ℕ) (rests known : L → RestAt → Type 0) (heard listener : L) (book : Book) (name : TableId) (hub after other : DrawerAt) (workers more : List (HiredWorker L)) (scanner : cell.Seat) (left rest : List cell.Seat) (count : ℕ)
+    → Begun shares at_rest port_of rests known heard book name hub workers left count → left ≡ scanner ∷ rest → shares heard (Some listener) → at_rest listener → port_of listener ≡ port_of heard
+    → ((new : RestAt) → IsNewSeat new → rests listener new) → ((shown : RestAt) → shown.book ≡ book → known listener shown)
     → after ≡ drawer_at hub.name (hub.parts - 1) hub.drawn hub.ended → other ≡ drawer_at hub.name 1 0 0
     → more ≡ workers ++ record { listener = listener; scanner = Some scanner; drawer = other; served = Ok tt } ∷ []
-    → Begun shares at_rest port_of heard name after more rest count
-one_begins {L} shares at_rest port_of heard listener name hub after other workers more scanner left rest count so next shared free same cut part pushed =
+    → Begun shares at_rest port_of rests known heard book name after more rest count
+one_begins {L} shares at_rest port_of rests known heard listener book name hub after other workers more scanner left rest count so next shared free same stands knows cut part pushed =
     let hired : HiredWorker L = record { listener = listener; scanner = Some scanner; drawer = other; served = Ok tt } in
-    let here : All (λ found. found ≡ cell.seat [] [] 0 []) (scanner ∷ rest) = rw next at so.seats in
-    let fresh : scanner ≡ cell.seat [] [] 0 [] = All-head (λ found. found ≡ cell.seat [] [] 0 []) scanner rest here in
+    let here : All (λ found. found ≡ cell.seat found.number [] [] 0 []) (scanner ∷ rest) = rw next at so.seats in
+    let fresh : scanner ≡ cell.seat scanner.number [] [] 0 [] = All-head (λ found. found ≡ cell.seat found.number [] [] 0 []) scanner rest here in
     let longer : length more ≡ length workers + 1 = rw pushed (length-append workers (hired ∷ [])) in
     let counted : length workers + suc (length rest) ≡ count = rw next at so.counted in
     let held : hub ≡ drawer_at name (suc (length rest) + 1) 0 0 = rw next at so.parts in
     let one_less : suc (length rest) + 1 - 1 ≡ length rest + 1 = omega arith in
-    let new : other ≡ drawer_at name 1 0 0 = rw held at part in record {
+    let new : other ≡ drawer_at name 1 0 0 = rw held at part in
+    let may : IsAtRest at_rest port_of rests known (port_of heard) book hired
+    = record { free = free; port = same; rests = stands; knows = knows } in record {
       counted = omega (arith, longer, counted);
       fresh = rw pushed (All-push (λ (worker : HiredWorker L). IsFresh shares heard (state_of worker)) workers hired so.fresh (shared, ap seat_at fresh));
       new = rw pushed (All-push (IsNew name) workers hired so.new (refl, new));
-      may = rw pushed (All-push (IsAtRest at_rest port_of (port_of heard)) workers hired so.may (free, same));
-      seats = All-tail (λ found. found ≡ cell.seat [] [] 0 []) scanner rest here;
+      may = rw pushed (All-push (IsAtRest at_rest port_of rests known (port_of heard) book) workers hired so.may may);
+      seats = All-tail (λ found. found ≡ cell.seat found.number [] [] 0 []) scanner rest here;
       parts = (rw held at cut) ∙ ap (λ (n : ℕ). drawer_at name n 0 0) one_less;
     }
 
 -- workers may serve, when the line of the port was printed
-pub may_serve : {L : Type 0} (at_rest : L → Type 0) (port_of : L → ℕ) (owed : Ends → Ends → Type 0) (options : Options) (at port : ℕ) (name : TableId) (all : List (HiredWorker L))
-    → at ≡ port → Pays onward options owed → All (IsNew name) all → All (IsAtRest at_rest port_of at) all → All (MayServe at_rest port_of owed options port name) all
-may_serve {L} at_rest port_of owed options at port name [] same pays new may = All-nil (MayServe at_rest port_of owed options port name)
-may_serve {L} at_rest port_of owed options at port name (hired ∷ all) same pays new may =
-    let here : IsAtRest at_rest port_of at hired = All-head (IsAtRest at_rest port_of at) hired all may in
-    All-cons (MayServe at_rest port_of owed options port name) hired all
-    (record { new = All-head (IsNew name) hired all new; may = (here.0, here.1 ∙ same); pays = pays })
-    (may_serve at_rest port_of owed options at port name all same pays (All-tail (IsNew name) hired all new) (All-tail (IsAtRest at_rest port_of at) hired all may))
+pub may_serve : {L : Type 0} (shares : L → Option L → Type 0) (at_rest : L → Type 0) (port_of : L → ℕ) (rests known : L → RestAt → Type 0) (owed : RestAt → Ends → Ends → RestAt → Type 0) (options : Options) (heard : L) (at port : ℕ) (book : Book) (name : TableId) (all : List (HiredWorker L))
+    → at ≡ port → Pays onward options owed → All (λ hired. IsFresh shares heard (state_of hired)) all → All (IsNew name) all → All (IsAtRest at_rest port_of rests known at book) all
+    → All (MayServe at_rest port_of rests known owed options port book name) all
+may_serve {L} shares at_rest port_of rests known owed options heard at port book name [] same pays fresh new may = All-nil (MayServe at_rest port_of rests known owed options port book name)
+may_serve {L} shares at_rest port_of rests known owed options heard at port book name (hired ∷ all) same pays fresh new may =
+    let here : IsAtRest at_rest port_of rests known at book hired = All-head (IsAtRest at_rest port_of rests known at book) hired all may in
+    let start : IsFresh shares heard (state_of hired) = All-head (λ (h : HiredWorker L). IsFresh shares heard (state_of h)) hired all fresh in
+    let heard_so : IsAtRest at_rest port_of rests known port book hired
+    = record { free = here.free; port = here.port ∙ same; rests = here.rests; knows = here.knows } in
+    All-cons (MayServe at_rest port_of rests known owed options port book name) hired all
+    (record { new = All-head (IsNew name) hired all new; may = heard_so; fresh = start.1; pays = pays })
+    (may_serve shares at_rest port_of rests known owed options heard at port book name all same pays
+    (All-tail (λ (h : HiredWorker L). IsFresh shares heard (state_of h)) hired all fresh) (All-tail (IsNew name) hired all new)
+    (All-tail (IsAtRest at_rest port_of rests known at book) hired all may))
+
+-- a seat that is new, as it would be shown
+abbrev pub new_rest : Book → ℕ → RestAt
+new_rest book number = record { book = book; seat = number; log = []; made = []; asks = 0 }
+
+-- a listener that was shown none may be shown the seat of its worker
+pub new_shown : (book : Book) (held : Option cell.Seat) (found : cell.Seat) → held ≡ Some found → seat_in held ≡ seat_of [] 0
+    → WasShown (new_rest book found.number) book found.number (seat_at found)
+new_shown book held found is fresh =
+    let here : seat_at found ≡ seat_of [] 0 = rw is at fresh in
+    (refl, refl, (found.log, refl), sym (ap (λ (seat : Seat). seat.made) here))
 
 -- ---- workers that have ended
 
@@ -180,7 +204,7 @@ all_drawn {L} all seats result name hub most gathered few none =
 -- ---- what all did
 
 -- items at the same places, one by one
-served_at : {L : Type 0} (accepts : L → Option Ends → L → Type 0) (options : Options) (name : TableId) (history : Log) (olds news : List (HiredWorker L)) → length news ≡ length olds
+served_at : {L : Type 0} (accepts : Accepting L) (options : Options) (name : TableId) (history : Log) (olds news : List (HiredWorker L)) → length news ≡ length olds
     → ((i : ℕ) (d : HiredWorker L) → i < length olds → HasWorked accepts options name (slice_index_or olds i d) (slice_index_or news i d))
     → All (IsWithin history) news → Pairwise (IsPartOf accepts options history) (map state_of olds) (map work_of news)
 served_at {L} accepts options name history [] [] same each within = tt
@@ -193,7 +217,7 @@ served_at {L} accepts options name history (old ∷ olds) (new ∷ news) same ea
           (All-tail (IsWithin history) new news within),
     )
 
-drawn_at : {L : Type 0} (accepts : L → Option Ends → L → Type 0) (options : Options) (name : TableId) (olds news : List (HiredWorker L)) → length news ≡ length olds
+drawn_at : {L : Type 0} (accepts : Accepting L) (options : Options) (name : TableId) (olds news : List (HiredWorker L)) → length news ≡ length olds
     → ((i : ℕ) (d : HiredWorker L) → i < length olds → HasWorked accepts options name (slice_index_or olds i d) (slice_index_or news i d))
     → All (HasDrawn name) news
 drawn_at {L} accepts options name [] [] same each = All-nil (HasDrawn name)
@@ -215,12 +239,12 @@ written_whole (old ∷ olds) (new ∷ news) same = ap (λ list. new ∷ list) (w
 pub written : {X : Type 0} (olds news : List X) (count : ℕ) → count ≡ length olds → length news ≡ length olds → take count (news ++ drop (length news) olds) ≡ news
 written olds news count all same = rw all (written_whole olds news same)
 
-pub all_have_drawn : {L : Type 0} (accepts : L → Option Ends → L → Type 0) (options : Options) (name : TableId) (olds news items : List (HiredWorker L)) → items ≡ news → length news ≡ length olds
+pub all_have_drawn : {L : Type 0} (accepts : Accepting L) (options : Options) (name : TableId) (olds news items : List (HiredWorker L)) → items ≡ news → length news ≡ length olds
     → ((i : ℕ) (d : HiredWorker L) → i < length olds → HasWorked accepts options name (slice_index_or olds i d) (slice_index_or news i d))
     → All (HasDrawn name) items
 all_have_drawn {L} accepts options name olds news items is same each = rw is (drawn_at accepts options name olds news same each)
 
-pub all_served : {L : Type 0} (accepts : L → Option Ends → L → Type 0) (options : Options) (name : TableId) (most : ℕ) (history : Log) (olds news items : List (HiredWorker L)) (result : Result (Unit {0}) Fault) → items ≡ news → length news ≡ length olds
+pub all_served : {L : Type 0} (accepts : Accepting L) (options : Options) (name : TableId) (most : ℕ) (history : Log) (olds news items : List (HiredWorker L)) (result : Result (Unit {0}) Fault) → items ≡ news → length news ≡ length olds
     → ((i : ℕ) (d : HiredWorker L) → i < length olds → HasWorked accepts options name (slice_index_or olds i d) (slice_index_or news i d))
     → (seen : Log) → All (IsWithin seen) items → Begins seen history → IsLog history → length history ≡ made_by (map work_of items)
     → MergesAll (made_by_each (map work_of items)) history → DrawsAll most (map work_of items) → result ≡ first_fault (map work_of items)
@@ -246,12 +270,12 @@ fresh_workers {L} shares heard (hired ∷ all) fresh =
     (All-head (λ (h : HiredWorker L). IsFresh shares heard (state_of h)) hired all fresh)
     (fresh_workers shares heard all (All-tail (λ (h : HiredWorker L). IsFresh shares heard (state_of h)) hired all fresh))
 
-as_served : {L : Type 0} (accepts : L → Option Ends → L → Type 0) (shares : L → Option L → Type 0) (serving : Serving) (result : Result (Unit {0}) Fault) (heard : L) (out out' : Said)
+as_served : {L : Type 0} (accepts : Accepting L) (shares : L → Option L → Type 0) (serving : Serving) (result : Result (Unit {0}) Fault) (heard : L) (out out' : Said)
     → IsServed accepts shares serving result heard out out' → ServesPort accepts shares serving result heard out out'
 as_served accepts shares serving (Ok done) heard out out' served = served
 as_served accepts shares serving (Err fault) heard out out' served = inl served
 
-pub port_served : {L : Type 0} (accepts : L → Option Ends → L → Type 0) (shares : L → Option L → Type 0) (serving : Serving) (result : Result (Unit {0}) Fault) (heard : L) (out out' : Said) (all : List (HiredWorker L))
+pub port_served : {L : Type 0} (accepts : Accepting L) (shares : L → Option L → Type 0) (serving : Serving) (result : Result (Unit {0}) Fault) (heard : L) (out out' : Said) (all : List (HiredWorker L))
     → Appends out.bytes out'.bytes (listening_line serving.port) → out'.failures ≡ out.failures → length all ≡ serving.seats → All (λ hired. IsFresh shares heard (state_of hired)) all
     → ServesSideBySide accepts (options_of serving) (most_of serving.accept) (map state_of all) result
     → ServesPort accepts shares serving result heard out out'

@@ -19,9 +19,9 @@ use Rattle.flight_core.specs.Seats.{Moves, Seat}
 use Rattle.flight_calls.proofs.Exchanging.{asks_nothing}
 use Rattle.flight_calls.proofs.Making.{puts_made}
 use Rattle.shared_calls.specs.Sharing.{onward}
-use Rattle.command_ends.specs.Network.{Ends}
+use Rattle.command_ends.specs.Network.{Accepting}
 use Rattle.commands.specs.Port.{IsFresh}
-use Rattle.commands.specs.Serve.{Accept, Failed, Took, Work, Worker, IsPartOf, ServesInTurn, ServesSideBySide, made_by_each, worker_of}
+use Rattle.commands.specs.Serve.{Accept, AsksOthers, Broke, Failed, Took, Work, Worker, IsPartOf, ServesInTurn, ServesSideBySide, made_by_each, worker_of}
 use Rattle.commands.specs.Told.{told_in_turn, told_by, told_by_each, unmarked, WorkersMakeWhatIsTold, HistoryIsTold, PutsAreTold}
 
 -- nothing is made where nothing more is served
@@ -32,32 +32,34 @@ nothing_put : {L : Type 0} (old new : Worker L) → new ≡ old → puts_of new.
 nothing_put {L} old new same = ap (λ (worker : Worker L). puts_of worker.seat.made) same ∙ sym (append-nil (puts_of old.seat.made))
 
 -- connections make what their calls tell of
-turns_make : {L : Type 0} (accepts : L → Option Ends → L → Type 0) (moves : Moves) (options : Options) (all : List (Accept L)) (more patience : ℕ) (result : Result (Unit {0}) Fault) (old new : Worker L)
-    (s : ServesInTurn accepts moves options all more patience result old new)
-    → options.keep ≡ 0 → new.seat.made ≡ old.seat.made ++ told_in_turn accepts moves options all more patience result old new s
-turns_make {L} accepts moves options [] zero patience result old new s kept = nothing_more old new s.1
-turns_make {L} accepts moves options [] (suc zero) zero result old new s kept = nothing_more old new s.1
-turns_make {L} accepts moves options [] (suc zero) (suc patience) result old new s kept = absurd s
-turns_make {L} accepts moves options [] (suc (suc more)) zero result old new s kept = absurd s
-turns_make {L} accepts moves options [] (suc (suc more)) (suc patience) result old new s kept = absurd s
-turns_make {L} accepts moves options (Failed listener ∷ all) zero patience result old new s kept = absurd s
-turns_make {L} accepts moves options (Failed listener ∷ all) (suc more) zero result old new s kept = absurd s
-turns_make {L} accepts moves options (Failed listener ∷ all) (suc more) (suc patience) result old new s kept =
-    turns_make accepts moves options all (suc more) patience result (worker_of listener old.seat) new s.1 kept
-turns_make {L} accepts moves options (Took listener ends served last ∷ all) zero patience result old new s kept = absurd s
-turns_make {L} accepts moves options (Took listener ends served last ∷ all) (suc more) zero result old new s kept = absurd s
-turns_make {L} accepts moves options (Took listener ends served last ∷ all) (suc more) (suc patience) result old new s kept =
-    let here : Log = entries_in (exchanges_of options s.1.calls s.1.replies) in
-    let rest : Log = told_in_turn accepts moves options all more 100 result (worker_of listener last.seat) new s.2 in
-    let made = puts_made moves options old.seat last.seat s.1.calls s.1.replies s.1.answers in
-    let same : made.0 ≡ exchanges_of options s.1.calls s.1.replies = asks_nothing options s.1.calls s.1.replies made.0 kept made.1 in
-    let first : last.seat.made ≡ old.seat.made ++ here = made.2 ∙ ap (λ (l : List Exchange). old.seat.made ++ entries_in l) same in
-    turns_make accepts moves options all more 100 result (worker_of listener last.seat) new s.2 kept
+turns_make : {L : Type 0} (accepts : Accepting L) (moves : Moves) (options : Options) (all : List (Accept L)) (more : ℕ) (result : Result (Unit {0}) Fault) (old new : Worker L)
+    (s : ServesInTurn accepts moves options all more result old new)
+    → options.keep ≡ 0 → new.seat.made ≡ old.seat.made ++ told_in_turn accepts moves options all more result old new s
+turns_make {L} accepts moves options [] zero result old new s kept = nothing_more old new s.1
+turns_make {L} accepts moves options [] (suc more) result old new s kept = absurd s
+turns_make {L} accepts moves options (Failed listener ∷ all) zero result old new s kept = absurd s
+turns_make {L} accepts moves options (Failed listener ∷ all) (suc more) result old new s kept =
+    turns_make accepts moves options all (suc more) result (worker_of listener old.seat) new s.1 kept
+turns_make {L} accepts moves options (Broke listener ∷ all) zero result old new s kept = absurd s
+turns_make {L} accepts moves options (Broke listener ∷ all) (suc more) result old new s kept = nothing_more (worker_of listener old.seat) new s.4
+turns_make {L} accepts moves options (Took listener ends served last ∷ all) zero result old new s kept = absurd s
+turns_make {L} accepts moves options (Took listener ends served last ∷ all) (suc more) result old new s kept =
+    let turn = s.2 in
+    let serves = turn.serves in
+    let here : Log = entries_in (exchanges_of options serves.calls serves.replies) in
+    let rest : Log = told_in_turn accepts moves options all more result (worker_of listener s.1) new s.3 in
+    let made = puts_made moves options turn.start last.seat serves.calls serves.replies serves.answers in
+    let same : made.0 ≡ exchanges_of options serves.calls serves.replies = asks_nothing options serves.calls serves.replies made.0 kept made.1 in
+    let served : last.seat.made ≡ turn.start.made ++ here = made.2 ∙ ap (λ (l : List Exchange). turn.start.made ++ entries_in l) same in
+    let first : s.1.made ≡ old.seat.made ++ here = turn.learnt.0.1 ∙ (served ∙ ap (λ (l : Log). l ++ here) turn.asked.0.1) in
+    turns_make accepts moves options all more result (worker_of listener s.1) new s.3 kept
     ∙ ap (λ (l : Log). l ++ rest) first ∙ append_assoc old.seat.made here rest
 
-pub workers_make : {L : Type 0} (accepts : L → Option Ends → L → Type 0) → WorkersMakeWhatIsTold accepts
+pub workers_make : {L : Type 0} (accepts : Accepting L) → WorkersMakeWhatIsTold accepts
 workers_make {L} accepts options history old new part kept =
-    turns_make accepts onward options part.serves.0 new.drawn 100 new.result old new.worker part.serves.1 kept
+    let told : Log = told_by accepts options history old new part in
+    turns_make accepts onward options part.serves.all new.drawn new.result (worker_of old.listener part.serves.first) new.worker part.serves.turns kept
+    ∙ ap (λ (l : Log). l ++ told) part.serves.asked.0.1
 
 -- ---- puts alone, however many versions are kept
 
@@ -96,28 +98,29 @@ puts_told options (call ∷ calls) (reply ∷ replies) all are =
     ∙ sym (puts_of-append first more)
 
 -- connections put what their calls tell of
-turns_put : {L : Type 0} (accepts : L → Option Ends → L → Type 0) (moves : Moves) (options : Options) (all : List (Accept L)) (more patience : ℕ) (result : Result (Unit {0}) Fault) (old new : Worker L)
-    (s : ServesInTurn accepts moves options all more patience result old new)
-    → puts_of new.seat.made ≡ puts_of old.seat.made ++ puts_of (told_in_turn accepts moves options all more patience result old new s)
-turns_put {L} accepts moves options [] zero patience result old new s = nothing_put old new s.1
-turns_put {L} accepts moves options [] (suc zero) zero result old new s = nothing_put old new s.1
-turns_put {L} accepts moves options [] (suc zero) (suc patience) result old new s = absurd s
-turns_put {L} accepts moves options [] (suc (suc more)) zero result old new s = absurd s
-turns_put {L} accepts moves options [] (suc (suc more)) (suc patience) result old new s = absurd s
-turns_put {L} accepts moves options (Failed listener ∷ all) zero patience result old new s = absurd s
-turns_put {L} accepts moves options (Failed listener ∷ all) (suc more) zero result old new s = absurd s
-turns_put {L} accepts moves options (Failed listener ∷ all) (suc more) (suc patience) result old new s =
-    turns_put accepts moves options all (suc more) patience result (worker_of listener old.seat) new s.1
-turns_put {L} accepts moves options (Took listener ends served last ∷ all) zero patience result old new s = absurd s
-turns_put {L} accepts moves options (Took listener ends served last ∷ all) (suc more) zero result old new s = absurd s
-turns_put {L} accepts moves options (Took listener ends served last ∷ all) (suc more) (suc patience) result old new s =
-    let here : Log = entries_in (exchanges_of options s.1.calls s.1.replies) in
-    let rest : Log = told_in_turn accepts moves options all more 100 result (worker_of listener last.seat) new s.2 in
-    let made = puts_made moves options old.seat last.seat s.1.calls s.1.replies s.1.answers in
-    let first : puts_of last.seat.made ≡ puts_of old.seat.made ++ puts_of here
-    = ap puts_of made.2 ∙ puts_of-append old.seat.made (entries_in made.0)
-    ∙ ap (λ (l : List Put). puts_of old.seat.made ++ l) (puts_told options s.1.calls s.1.replies made.0 made.1) in
-    turns_put accepts moves options all more 100 result (worker_of listener last.seat) new s.2
+turns_put : {L : Type 0} (accepts : Accepting L) (moves : Moves) (options : Options) (all : List (Accept L)) (more : ℕ) (result : Result (Unit {0}) Fault) (old new : Worker L)
+    (s : ServesInTurn accepts moves options all more result old new)
+    → puts_of new.seat.made ≡ puts_of old.seat.made ++ puts_of (told_in_turn accepts moves options all more result old new s)
+turns_put {L} accepts moves options [] zero result old new s = nothing_put old new s.1
+turns_put {L} accepts moves options [] (suc more) result old new s = absurd s
+turns_put {L} accepts moves options (Failed listener ∷ all) zero result old new s = absurd s
+turns_put {L} accepts moves options (Failed listener ∷ all) (suc more) result old new s =
+    turns_put accepts moves options all (suc more) result (worker_of listener old.seat) new s.1
+turns_put {L} accepts moves options (Broke listener ∷ all) zero result old new s = absurd s
+turns_put {L} accepts moves options (Broke listener ∷ all) (suc more) result old new s = nothing_put (worker_of listener old.seat) new s.4
+turns_put {L} accepts moves options (Took listener ends served last ∷ all) zero result old new s = absurd s
+turns_put {L} accepts moves options (Took listener ends served last ∷ all) (suc more) result old new s =
+    let turn = s.2 in
+    let serves = turn.serves in
+    let here : Log = entries_in (exchanges_of options serves.calls serves.replies) in
+    let rest : Log = told_in_turn accepts moves options all more result (worker_of listener s.1) new s.3 in
+    let made = puts_made moves options turn.start last.seat serves.calls serves.replies serves.answers in
+    let served : puts_of last.seat.made ≡ puts_of turn.start.made ++ puts_of here
+    = ap puts_of made.2 ∙ puts_of-append turn.start.made (entries_in made.0)
+    ∙ ap (λ (l : List Put). puts_of turn.start.made ++ l) (puts_told options serves.calls serves.replies made.0 made.1) in
+    let first : puts_of s.1.made ≡ puts_of old.seat.made ++ puts_of here
+    = ap puts_of turn.learnt.0.1 ∙ (served ∙ ap (λ (l : Log). puts_of l ++ puts_of here) turn.asked.0.1) in
+    turns_put accepts moves options all more result (worker_of listener s.1) new s.3
     ∙ ap (λ (l : List Put). l ++ puts_of rest) first ∙ append_assoc (puts_of old.seat.made) (puts_of here) (puts_of rest)
     ∙ ap (λ (l : List Put). puts_of old.seat.made ++ l) (sym (puts_of-append here rest))
 
@@ -142,7 +145,7 @@ new_made : {L : Type 0} (shares : L → Option L → Type 0) (heard : L) (old : 
 new_made {L} shares heard old told made start is = is ∙ ap (λ (seat : Seat). seat.made ++ told) start.1
 
 -- so workers that are new made what is told of
-all_made : {L : Type 0} (accepts : L → Option Ends → L → Type 0) (shares : L → Option L → Type 0) (options : Options) (history : Log) (heard : L) (workers : List (Worker L)) (ends : List (Work L))
+all_made : {L : Type 0} (accepts : Accepting L) (shares : L → Option L → Type 0) (options : Options) (history : Log) (heard : L) (workers : List (Worker L)) (ends : List (Work L))
     (parts : Pairwise (IsPartOf accepts options history) workers ends) → All (IsFresh shares heard) workers → options.keep ≡ 0
     → made_by_each ends ≡ told_by_each accepts options history workers ends parts
 all_made {L} accepts shares options history heard [] [] parts fresh kept = refl
@@ -157,12 +160,12 @@ all_made {L} accepts shares options history heard (old ∷ workers) (new ∷ end
     = all_made accepts shares options history heard workers ends parts.1 (All-tail (IsFresh shares heard) old workers fresh) kept in
     ap (λ (l : Log). l ∷ made_by_each ends) here ∙ ap (λ (l : List Log). told ∷ l) rest
 
-pub history_is_told : {L : Type 0} (accepts : L → Option Ends → L → Type 0) (shares : L → Option L → Type 0) → HistoryIsTold accepts shares
+pub history_is_told : {L : Type 0} (accepts : Accepting L) (shares : L → Option L → Type 0) → HistoryIsTold accepts shares
 history_is_told {L} accepts shares options most heard workers result served fresh kept =
     subst (λ (each : List Log). MergesAll each served.history) (all_made accepts shares options served.history heard workers served.ends served.served fresh kept) served.own
 
 -- the same of puts, however many versions are kept
-all_put : {L : Type 0} (accepts : L → Option Ends → L → Type 0) (shares : L → Option L → Type 0) (options : Options) (history : Log) (heard : L) (workers : List (Worker L)) (ends : List (Work L))
+all_put : {L : Type 0} (accepts : Accepting L) (shares : L → Option L → Type 0) (options : Options) (history : Log) (heard : L) (workers : List (Worker L)) (ends : List (Work L))
     (parts : Pairwise (IsPartOf accepts options history) workers ends) → All (IsFresh shares heard) workers
     → map unmarked (made_by_each ends) ≡ map unmarked (told_by_each accepts options history workers ends parts)
 all_put {L} accepts shares options history heard [] [] parts fresh = refl
@@ -172,13 +175,14 @@ all_put {L} accepts shares options history heard (old ∷ workers) (new ∷ ends
     let start : IsFresh shares heard old = All-head (IsFresh shares heard) old workers fresh in
     let told : Log = told_by accepts options history old new parts.0 in
     let here : puts_of new.worker.seat.made ≡ puts_of told
-    = turns_put accepts onward options parts.0.serves.0 new.drawn 100 new.result old new.worker parts.0.serves.1
+    = turns_put accepts onward options parts.0.serves.all new.drawn new.result (worker_of old.listener parts.0.serves.first) new.worker parts.0.serves.turns
+    ∙ ap (λ (l : Log). puts_of l ++ puts_of told) parts.0.serves.asked.0.1
     ∙ ap (λ (seat : Seat). puts_of seat.made ++ puts_of told) start.1 in
     let rest : map unmarked (made_by_each ends) ≡ map unmarked (told_by_each accepts options history workers ends parts.1)
     = all_put accepts shares options history heard workers ends parts.1 (All-tail (IsFresh shares heard) old workers fresh) in
     ap (λ (l : List Put). map added l ∷ map unmarked (made_by_each ends)) here ∙ ap (λ (l : List Log). unmarked told ∷ l) rest
 
-pub puts_are_told : {L : Type 0} (accepts : L → Option Ends → L → Type 0) (shares : L → Option L → Type 0) → PutsAreTold accepts shares
+pub puts_are_told : {L : Type 0} (accepts : Accepting L) (shares : L → Option L → Type 0) → PutsAreTold accepts shares
 puts_are_told {L} accepts shares options most heard workers result served fresh =
     subst (λ (each : List Log). MergesAll each (unmarked served.history)) (all_put accepts shares options served.history heard workers served.ends served.served fresh)
     (all_unmarked (made_by_each served.ends) served.history served.own)

@@ -2,6 +2,7 @@ pub mod New
 pub mod Pipe
 pub mod Port
 pub mod Serve
+pub mod Shown
 pub mod Told
 pub mod Together
 pub mod Words

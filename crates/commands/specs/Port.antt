@@ -7,7 +7,7 @@ use Rattle.grpc_frame.specs.Ends.{AppendsBeginning}
 use Rattle.flight_calls.specs.declared.setting.Options.{Options}
 use Rattle.flight_core.specs.Seats.{seat_of}
 use Rattle.command_line.specs.declared.request.Serving.{Serving}
-use Rattle.command_ends.specs.Network.{Ends}
+use Rattle.command_ends.specs.Network.{Accepting}
 use Rattle.command_ends.specs.Printing.{Said, Prints, cause_lines, fault_line, listening_line}
 use Rattle.command_ends.specs.declared.exit_status.ExitStatus.{ExitStatus}
 use Rattle.command_ends.specs.declared.exit_status.ExitStatus.TheVariants.{Done, FaultAtThisEnd}
@@ -31,7 +31,7 @@ abbrev pub IsFresh : {L : Type 0} → (L → Option L → Type 0) → L → Work
 IsFresh shares heard worker = shares heard (Some worker.listener) × (worker.seat ≡ seat_of [] 0)
 
 -- the line of the port was printed, and as many workers as there are seats served connections to it, of one history
-pub record IsServed {L : Type 0} (accepts : L → Option Ends → L → Type 0) (shares : L → Option L → Type 0)
+pub record IsServed {L : Type 0} (accepts : Accepting L) (shares : L → Option L → Type 0)
     (serving : Serving) (result : Result (Unit {0}) Fault) (heard : L) (out out' : Said) : Type 0 where
   pub printed : Appends out.bytes out'.bytes (listening_line serving.port)
   pub quiet : out'.failures ≡ out.failures
@@ -47,7 +47,7 @@ pub record IsNotPrinted (port : ℕ) (out out' : Said) : Type 0 where
 
 -- Connections were served; or no memory or no listener was there for it, and nothing is printed; or the port was not
 -- printed.
-abbrev pub ServesPort : {L : Type 0} → (L → Option Ends → L → Type 0) → (L → Option L → Type 0) → Serving
+abbrev pub ServesPort : {L : Type 0} → Accepting L → (L → Option L → Type 0) → Serving
     → Result (Unit {0}) Fault → L → Said → Said → Type 0
 ServesPort accepts shares serving (Ok done) heard out out' = IsServed accepts shares serving (Ok done) heard out out'
 ServesPort accepts shares serving (Err fault) heard out out' =
@@ -62,7 +62,7 @@ TellsFault (Ok done) status said said' = (status ≡ Done) × (said' ≡ said)
 TellsFault (Err fault) status said said' = (status ≡ FaultAtThisEnd) × Prints (fault_line fault) said said'
 
 -- the network gave a port, which is served; or it gave none, nothing is printed, and why is said
-abbrev pub Listens : {L : Type 0} → (L → Option Ends → L → Type 0) → (L → Option L → Type 0) → (Option ℕ → L → Type 0)
+abbrev pub Listens : {L : Type 0} → Accepting L → (L → Option L → Type 0) → (Option ℕ → L → Type 0)
     → Serving → ExitStatus → L → Said → Said → Said → Said → Type 0
 Listens accepts shares Hears serving status new out out' said said' =
     ((port : ℕ) × Hears (Some port) new × ((result : Result (Unit {0}) Fault)

@@ -1,5 +1,5 @@
 -- What the calls of a server's connections tell of its history.
-use Rattle.std.specs.Prelude.{◌≡◌, ℕ, zero, suc, All, List, [], ◌∷◌, ◌++◌, map, Option, Result}
+use Rattle.std.specs.Prelude.{◌≡◌, ℕ, zero, suc, All, List, [], ◌∷◌, ◌++◌, map, Result}
 use Rattle.scan_base.specs.declared.fault.Fault.{Fault}
 use Rattle.flight_core.specs.Headline.{Pairwise}
 use Rattle.version_log.specs.Log.{Log, added, puts_of}
@@ -9,29 +9,30 @@ use Rattle.flight_calls.specs.Exchanges.{exchanges_of}
 use Rattle.flight_calls.specs.Laws.{entries_in}
 use Rattle.flight_core.specs.Seats.{Moves}
 use Rattle.shared_calls.specs.Sharing.{onward}
-use Rattle.command_ends.specs.Network.{Ends}
+use Rattle.command_ends.specs.Network.{Accepting, Ends}
 use Rattle.commands.specs.Port.{IsFresh}
 use Rattle.commands.specs.Serve.{Accept, Failed, Took, Work, Worker, IsPartOf, ServesInTurn, ServesSideBySide, worker_of}
 
 -- The entries that the calls of connections tell of, which were served one behind the other: of each call, in order, its put
 -- where the reply accepts it, or its mark where the reply tells of an expiry.
-abbrev pub told_in_turn : {L : Type 0} (accepts : L → Option Ends → L → Type 0) (moves : Moves) (options : Options) (all : List (Accept L)) (more patience : ℕ)
-    (result : Result (Unit {0}) Fault) (old new : Worker L) → ServesInTurn accepts moves options all more patience result old new → Log
-told_in_turn accepts moves options (Failed listener ∷ others) (suc more) (suc patience) result old new serves =
-    told_in_turn accepts moves options others (suc more) patience result (worker_of listener old.seat) new serves.1
-told_in_turn accepts moves options (Took listener ends served last ∷ others) (suc more) (suc patience) result old new serves =
-    entries_in (exchanges_of options serves.1.calls serves.1.replies)
-    ++ told_in_turn accepts moves options others more 100 result (worker_of listener last.seat) new serves.2
-told_in_turn accepts moves options all more patience result old new serves = []
+abbrev pub told_in_turn : {L : Type 0} (accepts : Accepting L) (moves : Moves) (options : Options) (all : List (Accept L)) (more : ℕ)
+    (result : Result (Unit {0}) Fault) (old new : Worker L) → ServesInTurn accepts moves options all more result old new → Log
+told_in_turn accepts moves options (Failed listener ∷ others) (suc more) result old new serves =
+    told_in_turn accepts moves options others (suc more) result (worker_of listener old.seat) new serves.1
+told_in_turn accepts moves options (Took listener ends served last ∷ others) (suc more) result old new serves =
+    entries_in (exchanges_of options serves.2.serves.calls serves.2.serves.replies)
+    ++ told_in_turn accepts moves options others more result (worker_of listener serves.1) new serves.3
+told_in_turn accepts moves options all more result old new serves = []
 
 -- the same of the connections of one worker
-abbrev pub told_by : {L : Type 0} (accepts : L → Option Ends → L → Type 0) (options : Options) (history : Log) (old : Worker L) (new : Work L)
+abbrev pub told_by : {L : Type 0} (accepts : Accepting L) (options : Options) (history : Log) (old : Worker L) (new : Work L)
     → IsPartOf accepts options history old new → Log
 told_by accepts options history old new part =
-    told_in_turn accepts onward options part.serves.0 new.drawn 100 new.result old new.worker part.serves.1
+    told_in_turn accepts onward options part.serves.all new.drawn new.result (worker_of old.listener part.serves.first) new.worker
+    part.serves.turns
 
 -- the same of the connections of each of these workers
-abbrev pub told_by_each : {L : Type 0} (accepts : L → Option Ends → L → Type 0) (options : Options) (history : Log) (workers : List (Worker L)) (ends : List (Work L))
+abbrev pub told_by_each : {L : Type 0} (accepts : Accepting L) (options : Options) (history : Log) (workers : List (Worker L)) (ends : List (Work L))
     → Pairwise (IsPartOf accepts options history) workers ends → List Log
 told_by_each accepts options history (old ∷ workers) (new ∷ ends) parts =
     told_by accepts options history old new parts.0 ∷ told_by_each accepts options history workers ends parts.1
@@ -43,21 +44,21 @@ unmarked log = map added (puts_of log)
 
 -- Where all versions are kept, the seat of a worker made the entries that the calls of its connections tell of, in order, and no
 -- other.
-abbrev pub WorkersMakeWhatIsTold : {L : Type 0} → (L → Option Ends → L → Type 0) → Type 0
+abbrev pub WorkersMakeWhatIsTold : {L : Type 0} → Accepting L → Type 0
 WorkersMakeWhatIsTold {L} accepts =
     (options : Options) (history : Log) (old : Worker L) (new : Work L) (part : IsPartOf accepts options history old new)
     → options.keep ≡ 0 → new.worker.seat.made ≡ old.seat.made ++ told_by accepts options history old new part
 
 -- Where workers that are new serve side by side, and all versions are kept, their history is made up of the entries that the calls of
 -- each worker's connections tell of, in their order, and of no other.
-abbrev pub HistoryIsTold : {L : Type 0} → (L → Option Ends → L → Type 0) → (L → Option L → Type 0) → Type 0
+abbrev pub HistoryIsTold : {L : Type 0} → Accepting L → (L → Option L → Type 0) → Type 0
 HistoryIsTold {L} accepts shares =
     (options : Options) (most : ℕ) (heard : L) (workers : List (Worker L)) (result : Result (Unit {0}) Fault)
     (served : ServesSideBySide accepts options most workers result) → All (IsFresh shares heard) workers → options.keep ≡ 0
     → MergesAll (told_by_each accepts options served.history workers served.ends served.served) served.history
 
 -- However many versions are kept, the puts of the history are made up so of the puts that the calls tell of.
-abbrev pub PutsAreTold : {L : Type 0} → (L → Option Ends → L → Type 0) → (L → Option L → Type 0) → Type 0
+abbrev pub PutsAreTold : {L : Type 0} → Accepting L → (L → Option L → Type 0) → Type 0
 PutsAreTold {L} accepts shares =
     (options : Options) (most : ℕ) (heard : L) (workers : List (Worker L)) (result : Result (Unit {0}) Fault)
     (served : ServesSideBySide accepts options most workers result) → All (IsFresh shares heard) workers

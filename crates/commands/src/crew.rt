@@ -2,24 +2,28 @@
 
 ghost use Rattle.std.specs.Prelude.{◌≡◌, ◌⊎◌, ◌<◌, ◌+◌, [], All, MatchResult, None, ℕ, length, map, slice_index_or, IfOk};
 ghost use Rattle.scan_base.specs.declared.fault.Fault.TheVariants.{OutOfMemory, Transport};
+ghost use Rattle.version_cell.specs.Rests.{RestAt};
 ghost use Rattle.version_cell.specs.Seats.{seat};
 ghost use Rattle.connection_turns.specs.Drawers as drawers;
 ghost use Rattle.commands.specs.Port.{IsFresh};
-ghost use Rattle.commands.specs.Serve.{AcceptsThenCloses, DrawsAll, ServesSideBySide, first_fault, made_by, made_by_each};
+ghost use Rattle.commands.specs.Serve.{AcceptsThenCloses, DrawsAll, Pays, ServesSideBySide, ServesUpTo, first_fault, made_by, made_by_each, worker_of};
+ghost use Rattle.shared_calls.specs.Sharing.{onward, seat_at};
+ghost use Rattle.commands.specs.Shown.{WasShown};
 ghost use Rattle.commands.specs.inside.Gathering.{HasDrawn, HasWorked, IsAtRest, IsNew, IsWithin, MayServe, state_of, work_of};
 
+use crate::shown::ShownSeat;
 use crate::turns::{Service, serve_in_turn};
 use command_ends::Listen;
 use connection_turns::{Drawer, Turns};
 use flight_calls::Executor;
 use scan_base::Fault;
-use shared_calls::Shared;
+use shared_calls::{SeatName, Shared};
 use std::alloc::Global;
 use std::sync::Wait;
 use std::thread;
 use std::thread::Threads;
 use std::time::Clock;
-use version_cell::{CellName, Gathered, Scanner, SharedPutter};
+use version_cell::{Brand, CellName, Gathered, Scanner, SharedPutter};
 
 /// One of those that serve: its listener, its seat of the cell, what it draws by, and what came of its work.
 #[derive(Drop)]
@@ -46,20 +50,21 @@ pub(crate) struct Crew<'a, 'h, C: CellName, T: Wait, X> {
 ///
 /// - `Fault::OutOfMemory` (F21) where memory is refused.
 /// - `Fault::Transport` (F22) where the network gives no further listener.
-pub(crate) fn workers_of<L: Listen + Drop, C: CellName>(
+pub(crate) fn workers_of<L: Listen<ShownSeat> + Drop, C: CellName>(
     alloc: Global,
     turns: &Turns,
     drawer: &mut Drawer,
     network: &L,
     scanners: Vec<Scanner<C>>,
 ) -> Result<Vec<ServingWorker<L, C>>, Fault>
-    requires seats { All (λ scanner. scanner ≡ seat [] [] 0 []) scanners.items }
+    requires seats { All (λ scanner. scanner ≡ seat scanner.number [] [] 0 []) scanners.items }
+    requires cell { (shown : RestAt) → shown.book ≡ C.book → L.cell network.now shown }
     requires drawer { drawer.old ≡ drawers.drawer_at turns.now.name (length scanners.items + 1) 0 0 }
     ensures made { MatchResult result
         (λ workers. (length workers.items ≡ length scanners.items)
         × All (λ hired. IsFresh L.shares network.now (state_of hired)) workers.items
         × All (IsNew turns.now.name) workers.items
-        × All (IsAtRest L.at_rest L.port_of (L.port_of network.now)) workers.items)
+        × All (IsAtRest L.at_rest L.port_of L.rests L.cell (L.port_of network.now) C.book) workers.items)
         (λ fault. (fault ≡ OutOfMemory) ⊎ ((fault ≡ Transport) × L.shares network.now None)) }
     ensures drawer { IfOk result (λ _. drawer.new ≡ drawers.drawer_at turns.now.name 1 0 0) }
 {
@@ -99,7 +104,7 @@ trait Job<L, C: CellName> {
 // A worker serves connections.
 impl<'a, 'h, L, C, T, X> Job<L, C> for Crew<'a, 'h, C, T, X>
 where
-    L: Listen,
+    L: Listen<ShownSeat>,
     C: CellName,
     T: Wait + Clock,
     X: Executor,
@@ -107,23 +112,68 @@ where
     ghost use Rattle.commands.specs.Serve.{AcceptsThenCloses};
     ghost use Rattle.commands.specs.inside.Gathering.{HasWorked, MayServe};
 
-    ghost takes = { λ crew worker. MayServe L.at_rest L.port_of L.owed crew.service.options crew.service.announced.now
-        crew.service.turns.now.name worker };
+    ghost takes = { λ crew worker. MayServe L.at_rest L.port_of L.rests L.cell L.owed crew.service.options
+        crew.service.announced.now C.book crew.service.turns.now.name worker };
 
     ghost leaves = { λ crew old new. HasWorked (AcceptsThenCloses L.accepts L.closes) crew.service.options
         crew.service.turns.now.name old new };
 
     fn work(&self, worker: &mut ServingWorker<L, C>) {
-        let scanner = worker.scanner.take().unwrap();
-        let mut backend = Shared::new(self.service.rt, self.putter, scanner);
-        worker.served = serve_in_turn(
-            &self.service,
-            &mut worker.drawer,
-            &mut worker.listener,
-            &mut backend,
-        );
-        worker.scanner = Some(backend.into_seat());
+        serve_by(self, worker);
     }
+}
+
+// Serves connections by a worker, with its seat.
+fn serve_by<L, C, T, X>(crew: &Crew<'_, '_, C, T, X>, worker: &mut ServingWorker<L, C>)
+where
+    L: Listen<ShownSeat>,
+    C: CellName,
+    T: Wait + Clock,
+    X: Executor,
+    requires { MayServe L.at_rest L.port_of L.rests L.cell L.owed crew.now.service.options
+        crew.now.service.announced.now C.book crew.now.service.turns.now.name worker.old }
+    ensures { HasWorked (AcceptsThenCloses L.accepts L.closes) crew.now.service.options
+        crew.now.service.turns.now.name worker.old worker.new }
+{
+    let scanner = worker.scanner.take().unwrap();
+    let (served, scanner) = serve_seat::<L, C, Brand, T, X>(
+        crew,
+        &mut worker.drawer,
+        &mut worker.listener,
+        scanner,
+    );
+    worker.served = served;
+    worker.scanner = Some(scanner);
+}
+
+// Serves connections through a seat, whose number N is.
+fn serve_seat<L, C, N, T, X>(
+    crew: &Crew<'_, '_, C, T, X>,
+    drawer: &mut Drawer,
+    listener: &mut L,
+    scanner: Scanner<C>,
+) -> (Result<(), Fault>, Scanner<C>)
+where
+    L: Listen<ShownSeat>,
+    C: CellName,
+    N: SeatName,
+    T: Wait + Clock,
+    X: Executor,
+    requires number { scanner.number ≡ N.number }
+    requires drawer { drawer.old ≡ drawers.drawer_at crew.now.service.turns.now.name 1 0 0 }
+    requires at_rest { L.at_rest listener.old }
+    requires announced { crew.now.service.announced.now ≡ L.port_of listener.old }
+    requires cell { (shown : RestAt) → shown.book ≡ C.book → L.cell listener.old shown }
+    requires rests { (shown : RestAt) × L.rests listener.old shown × WasShown shown C.book N.number (seat_at scanner) }
+    requires owed { Pays onward crew.now.service.options L.owed }
+    ensures serves { ServesUpTo (AcceptsThenCloses L.accepts L.closes) onward crew.now.service.options drawer.new.drawn result.0
+        (worker_of listener.old (seat_at scanner)) (worker_of listener.new (seat_at result.1)) }
+    ensures drawer { (drawer.new.name ≡ crew.now.service.turns.now.name) × (drawer.new.parts ≡ 1) }
+    ensures ended { IfOk result.0 (λ _. 0 < drawer.new.ended) }
+{
+    let mut backend = Shared::<C, N, _, _>::new(crew.service.rt, crew.putter, scanner);
+    let served = serve_in_turn(&crew.service, drawer, listener, &mut backend);
+    (served, backend.into_seat())
 }
 
 // Does a job with all workers, with each in a thread of its own where one can be made.
@@ -185,30 +235,37 @@ fn first_of<L: Drop, C: CellName>(
 /// # Errors
 ///
 /// The first fault of a worker.
-pub(crate) fn serve_side_by_side<L, C, T, X>(
-    crew: &Crew<'_, '_, C, T, X>,
+pub(crate) fn serve_side_by_side<'h, L, C, T, X>(
+    service: Service<'_, 'h, T, X>,
+    mut putter: SharedPutter<C, &'h T>,
     drawer: Drawer,
     mut workers: Vec<ServingWorker<L, C>>,
 ) -> Result<(), Fault>
 where
-    L: Listen + Drop + Send,
+    L: Listen<ShownSeat> + Drop + Send,
     L::Reader: Send,
     L::Writer: Send,
     C: CellName + Send + Sync,
     T: Threads + Wait + Clock + Sync,
     X: Executor + Sync,
-    requires parts { crew.now.service.turns.now.parts ≡ length workers.items + 1 }
-    requires drawer { drawer ≡ drawers.drawer_at crew.now.service.turns.now.name 1 0 0 }
-    requires may { All (MayServe L.at_rest L.port_of L.owed crew.now.service.options crew.now.service.announced.now
-        crew.now.service.turns.now.name) workers.items }
+    requires parts { service.turns.now.parts ≡ length workers.items + 1 }
+    requires drawer { drawer ≡ drawers.drawer_at service.turns.now.name 1 0 0 }
+    requires may { All (MayServe L.at_rest L.port_of L.rests L.cell L.owed service.options service.announced.now C.book
+        service.turns.now.name) workers.items }
     requires seats { length workers.items ≡ C.parts }
-    ensures { ServesSideBySide (AcceptsThenCloses L.accepts L.closes) crew.now.service.options crew.now.service.turns.now.most
+    ensures { ServesSideBySide (AcceptsThenCloses L.accepts L.closes) service.options service.turns.now.most
         (map state_of workers.items) result }
 {
-    work_side_by_side(crew.service.rt, crew, workers.as_mut_slice());
-    let none = crew.putter.gather(crew.service.rt);
-    let (first, seats) = first_of(crew.service.turns, drawer, none, workers);
+    let (rt, turns) = (service.rt, service.turns);
+    let crew = Crew {
+        service,
+        putter: &putter,
+    };
+    work_side_by_side(rt, &crew, workers.as_mut_slice());
+    drop(crew);
+    let none = putter.gather();
+    let (first, seats) = first_of(turns, drawer, none, workers);
     // The history of all: contracts alone look at it.
-    crew.putter.whole_log(crew.service.rt, seats);
+    putter.whole_log(rt, seats);
     first
 }

@@ -11,5 +11,6 @@ mod crew;
 pub mod laws;
 pub mod pipe;
 pub mod serve;
+pub mod shown;
 pub mod turns;
 pub mod words;

@@ -3,6 +3,7 @@
 ghost use Rattle.std.specs.Prelude.{◌≡◌, ◌≤◌, ◌<◌, ℕ, List};
 ghost use Rattle.grpc_frame.specs.Ends.{CanFail};
 ghost use Rattle.version_cell.specs.Blanks.{IsNamed, most_seats};
+ghost use Rattle.version_cell.specs.Rests.{RestAt};
 ghost use Rattle.command_ends.specs.Printing.{Prints, cause_lines, said_of};
 ghost use Rattle.command_ends.specs.declared.exit_status.ExitStatus.TheVariants.{FaultAtThisEnd};
 ghost use Rattle.commands.specs.Port as serves;
@@ -10,7 +11,8 @@ ghost use Rattle.commands.specs.Port.{Listens, ServesPort};
 ghost use Rattle.commands.specs.Serve.{AcceptsThenCloses, Pays};
 ghost use Rattle.shared_calls.specs.Sharing.{onward};
 
-use crate::crew::{Crew, serve_side_by_side, workers_of};
+use crate::crew::{serve_side_by_side, workers_of};
+use crate::shown::ShownSeat;
 use crate::turns::Service;
 use command_ends::{ExitStatus, Listen, end_by_cause, end_by_fault, print_listening};
 use command_line::Serving;
@@ -25,7 +27,7 @@ use std::io::Error;
 use std::sync::Wait;
 use std::thread::Threads;
 use std::time::Clock;
-use version_cell::{Blank, Brand, CellName, SharedPutter, open};
+use version_cell::{Blank, Brand, CellName, Opened, SharedPutter, open};
 
 /// What a server has of its machine: threads, a clock, memory, and the seed with which hashes of clients' values begin.
 #[derive(Clone, Copy)]
@@ -39,13 +41,15 @@ pub struct Host<'a, T> {
 /// empty at first. A fault of a connection ends that one alone, and nothing is printed of it. Where `accept` is not 0,
 /// it is done behind so many connections, one fewer for each worker that ended by a fault. A fault of this end is
 /// printed on `faults` in a line, as far as that takes it: F21 where memory for the catalog or the workers is refused,
-/// F22 where a further listener is, the line of the port is not printed, or a hundred accepts of a worker failed one
-/// behind the other; where it does not listen, a second line says so.
+/// F22 where a further listener is, the line of the port is not printed, or the listener of a worker broke; where it does not
+/// listen, a second line says so. An accept that fails by what may pass ends nothing.
 ///
 /// The network asks of each accept that the line of the port was printed, and that no connection is open. A connection is closed
-/// when it was served. So of a server that never ends this holds, too.
+/// when it was served. The network is shown the worker's seat at each accept and each closing: a seat of the cell that was
+/// opened, which goes on from a seat that had seen nothing. So of a server that never ends this holds, too.
 pub fn serve<T, L, W: Output, E: Output>(
     host: Host<'_, T>,
+    opened: Opened,
     network: &mut L,
     output: &mut W,
     faults: &mut E,
@@ -53,9 +57,12 @@ pub fn serve<T, L, W: Output, E: Output>(
 ) -> ExitStatus
 where
     T: Threads + Wait + Clock + Sync,
-    L: Listen + Drop + Send,
+    L: Listen<ShownSeat> + Drop + Send,
     L::Reader: Send,
     L::Writer: Send,
+    // The network is shown seats of the cell that was opened.
+    requires cell { (shown : RestAt) → shown.book ≡ opened → L.cell network.old shown }
+
     // A cell takes so many seats.
     requires seats { (0 < serving.seats) × (serving.seats ≤ most_seats) }
 
@@ -75,7 +82,7 @@ where
         Ok(port) => Serving { port, ..serving },
         Err(error) => return end_unheard(host.alloc, faults, serving.port, &error),
     };
-    match serve_port(host, network, output, serving) {
+    match serve_port(host, opened, network, output, serving) {
         Ok(()) => ExitStatus::Done,
         Err(fault) => end_by_fault(faults, fault),
     }
@@ -97,15 +104,17 @@ fn end_unheard<E: Output>(alloc: Global, faults: &mut E, port: u16, error: &Erro
 // Makes a cell, says which port is listened to, and serves connections.
 fn serve_port<T, L, W: Output>(
     host: Host<'_, T>,
+    opened: Opened,
     network: &L,
     output: &mut W,
     serving: Serving,
 ) -> Result<(), Fault>
 where
     T: Threads + Wait + Clock + Sync,
-    L: Listen + Drop + Send,
+    L: Listen<ShownSeat> + Drop + Send,
     L::Reader: Send,
     L::Writer: Send,
+    requires cell { (shown : RestAt) → shown.book ≡ opened → L.cell network.now shown }
     requires seats { (0 < serving.seats) × (serving.seats ≤ most_seats) }
     requires writes { CanFail (W.failures output.old) }
     requires port { L.port_of network.now ≡ serving.port }
@@ -113,7 +122,7 @@ where
     ensures { ServesPort (AcceptsThenCloses L.accepts L.closes) L.shares serving result network.now
         (said_of W.Output output.old) (said_of W.Output output.new) }
 {
-    let blank = open(host.alloc, host.seed, serving.seats as usize)?;
+    let blank = open(host.alloc, host.seed, serving.seats as usize, opened)?;
     serve_cell::<Brand, T, L, W>(host, blank, network, output, serving)
 }
 
@@ -127,10 +136,11 @@ fn serve_cell<C: CellName + Send + Sync, T, L, W: Output>(
 ) -> Result<(), Fault>
 where
     T: Threads + Wait + Clock + Sync,
-    L: Listen + Drop + Send,
+    L: Listen<ShownSeat> + Drop + Send,
     L::Reader: Send,
     L::Writer: Send,
-    requires cell { IsNamed blank C.book C.name C.parts C.asks C.numbers }
+    requires named { IsNamed blank C.book C.name C.parts C.asks C.numbers }
+    requires cell { (shown : RestAt) → shown.book ≡ C.book → L.cell network.now shown }
     requires seats { blank.seats ≡ serving.seats }
     requires writes { CanFail (W.failures output.old) }
     requires port { L.port_of network.now ≡ serving.port }
@@ -156,11 +166,7 @@ where
         turns: &turns,
         announced: &announced,
     };
-    let crew = Crew {
-        service,
-        putter: &putter,
-    };
-    serve_side_by_side(&crew, drawer, workers)
+    serve_side_by_side(service, putter, drawer, workers)
 }
 
 // How calls are answered.

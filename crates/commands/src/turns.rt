@@ -3,25 +3,27 @@
 ghost use Rattle.std.specs.Prelude.{◌≡◌, ◌<◌, IfErr, IfOk};
 ghost use Rattle.grpc_frame.specs.Ends.{FailsByTransport};
 ghost use Rattle.connection_turns.specs.Drawers as drawers;
+ghost use Rattle.version_cell.specs.Rests.{RestAt};
 ghost use Rattle.command_ends.specs.Network.{ends_of};
-ghost use Rattle.commands.specs.Serve.{AcceptsThenCloses, Pays, ServesUpTo, worker_of};
+ghost use Rattle.commands.specs.Shown.{HasLearnt, IsShownAs, WasShown};
+ghost use Rattle.commands.specs.Serve.{AcceptsThenCloses, AsksOthers, Pays, ServesUpTo, worker_of};
 ghost use Rattle.commands.specs.inside.Accepting.{TakesNext, TakesNone};
 
-use command_ends::{Announced, Listen};
+use crate::shown::ShownSeat;
+use command_ends::{AcceptFailure, Announced, Listen};
 use connection_turns::{Drawer, Turns};
 use flight_calls::{Executor, Options, Setting};
-use flight_core::Backend;
 use scan_base::Fault;
+use shared_calls::Resting;
 use std::alloc::Global;
 use std::sync::Wait;
 use std::thread;
 use std::time::{Clock, Duration};
 
-// So many accepts that fail one behind the other end a worker.
-const MOST_FAILED_ACCEPTS: u32 = 100;
+// A worker waits so long behind an accept that failed by what may pass, and twice as long behind each further one, up to the most.
+const LEAST_PAUSE_MILLISECONDS: u64 = 20;
 
-// It waits so long behind each: what keeps a connection from being accepted may pass.
-const PAUSE_MILLISECONDS: u64 = 20;
+const MOST_PAUSE_MILLISECONDS: u64 = 1_000;
 
 /// How all workers serve, who makes the answers to fetches, how many connections are still to be accepted, and that the line of
 /// the port was printed.
@@ -35,13 +37,16 @@ pub struct Service<'a, 'h, T: Wait, X> {
     pub announced: &'a Announced,
 }
 
-/// Serves connections one behind the other, over one backend: one for each turn that it draws, until none is left. Each is served
-/// to its end and closed before the next one is accepted, also where turns never end: the listener asks for that.
+/// Serves connections one behind the other, for one seat: one for each turn that it draws, until none is left. Each is served to its
+/// end and closed before the next one is accepted, also where turns never end: the listener asks for that.
+///
+/// The seat asks what others have done at first, once a connection is taken, and when it has ended. So each connection begins with
+/// all that was done before it was taken, and what the listener is shown of the seat is exact.
 ///
 /// # Errors
 ///
-/// `Fault::Transport` (F22) where a hundred accepts failed one behind the other.
-pub fn serve_in_turn<L: Listen, B: Backend, T: Wait + Clock, X: Executor>(
+/// `Fault::Transport` (F22) where the listener broke.
+pub fn serve_in_turn<L: Listen<ShownSeat>, B: Resting, T: Wait + Clock, X: Executor>(
     service: &Service<'_, '_, T, X>,
     drawer: &mut Drawer,
     network: &mut L,
@@ -51,6 +56,10 @@ pub fn serve_in_turn<L: Listen, B: Backend, T: Wait + Clock, X: Executor>(
     requires at_rest { L.at_rest network.old }
     requires announced { service.now.announced.now ≡ L.port_of network.old }
 
+    // The listener is shown seats of this cell, and is this seat's.
+    requires cell { (seat : RestAt) → seat.book ≡ B.book → L.cell network.old seat }
+    requires rests { (seat : RestAt) × L.rests network.old seat × WasShown seat B.book B.number (B.seat backend.old) }
+
     // Whatever the network is owed for a connection, serving it is that.
     requires owed { Pays B.moves service.now.options L.owed }
     ensures serves { ServesUpTo (AcceptsThenCloses L.accepts L.closes) B.moves service.now.options drawer.new.drawn result
@@ -58,30 +67,45 @@ pub fn serve_in_turn<L: Listen, B: Backend, T: Wait + Clock, X: Executor>(
     ensures drawer { (drawer.new.name ≡ service.now.turns.now.name) × (drawer.new.parts ≡ 1) }
     ensures ended { IfOk result (λ _. 0 < drawer.new.ended) }
 {
+    let mut shown = shown_of(backend);
     for _ in service.rt.forever() {
         if !service.turns.draw(service.rt, drawer) {
             return Ok(());
         }
-        let (mut reader, mut writer) = accept_next(service.rt, network, service.announced)?;
+        let (mut reader, mut writer) = accept_next(service, network, &shown)?;
+        backend.learn();
         let setting = Setting {
             alloc: service.alloc,
             executor: service.executor,
             options: service.options,
         };
         let _ = flight_calls::serve(&setting, &mut reader, &mut writer, backend);
-        network.done(reader, writer);
+        shown = shown_of(backend);
+        network.done(reader, writer, &shown);
     }
     unreachable!()
 }
 
-// The next connection. Accepts that fail are passed over, each behind a pause.
-fn accept_next<L: Listen>(
-    clock: &impl Clock,
+// The seat as a listener is shown it, behind one ask.
+#[tactic(auto, using(crate::proofs::Serving::told_so))]
+fn shown_of<B: Resting>(backend: &mut B) -> ShownSeat
+    ensures asks { AsksOthers B.moves (B.seat backend.old) (B.seat backend.new) }
+    ensures shown { IsShownAs result B.book B.number (B.seat backend.new) }
+{
+    ShownSeat::new(backend.rest())
+}
+
+// The next connection. Accepts that fail by what may pass are passed over, each behind a pause.
+#[tactic(auto, using(crate::proofs::Serving::fails_more, crate::proofs::Serving::learnt_none))]
+fn accept_next<L: Listen<ShownSeat>, T: Wait + Clock, X>(
+    service: &Service<'_, '_, T, X>,
     network: &mut L,
-    announced: &Announced,
+    seat: &ShownSeat,
 ) -> Result<(L::Reader, L::Writer), Fault>
     requires at_rest { L.at_rest network.old }
-    requires announced { announced.now ≡ L.port_of network.old }
+    requires announced { service.now.announced.now ≡ L.port_of network.old }
+    requires cell { L.cell network.old seat.now }
+    requires rests { (old : RestAt) × L.rests network.old old × HasLearnt old seat.now }
     ensures taken { IfOk result (λ ends. TakesNext L.accepts
         (ends_of (L.Reader.tape ends.0) (L.Writer.contents ends.1)) network.old network.new) }
     ensures none { IfErr result (λ _. TakesNone L.accepts network.old network.new) }
@@ -90,13 +114,20 @@ fn accept_next<L: Listen>(
     ensures holds { IfOk result (λ ends. L.holds network.new
         (ends_of (L.Reader.tape ends.0) (L.Writer.contents ends.1))) }
     ensures port { L.port_of network.new ≡ L.port_of network.old }
+    ensures rests { L.rests network.new seat.now }
+    ensures cell { (other : RestAt) → L.cell network.old other → L.cell network.new other }
     ensures kind { FailsByTransport result }
 {
-    for _ in 0..MOST_FAILED_ACCEPTS {
-        if let Ok(ends) = network.accept(announced) {
-            return Ok(ends);
+    let mut pause = LEAST_PAUSE_MILLISECONDS;
+    for _ in service.rt.forever() {
+        match network.accept(service.announced, seat) {
+            Ok(ends) => return Ok(ends),
+            Err(AcceptFailure::Broken) => return Err(Fault::Transport),
+            Err(AcceptFailure::MayPass) => {
+                thread::sleep(service.rt, Duration::from_millis(pause));
+                pause = pause.saturating_mul(2).min(MOST_PAUSE_MILLISECONDS);
+            }
         }
-        thread::sleep(clock, Duration::from_millis(PAUSE_MILLISECONDS));
     }
-    Err(Fault::Transport)
+    unreachable!()
 }

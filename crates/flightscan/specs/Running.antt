@@ -7,6 +7,7 @@ use Rattle.scan_base.specs.declared.put_options.PutMode.{PutMode}
 use Rattle.grpc_frame.specs.declared.ends.Input.{Ghosts as InputMembers}
 use Rattle.grpc_frame.specs.declared.ends.Output.{Ghosts as OutputMembers}
 use Rattle.csv_input.specs.Input.{form_of}
+use Rattle.version_cell.specs.Rests.{RestAt}
 use Rattle.flight_calls.specs.declared.setting.Options.{Options}
 use Rattle.flight_calls.specs.Owed.{Connection, connection_of}
 use Rattle.flight_core.specs.Seats.{Seat, seat_of}
@@ -17,7 +18,7 @@ use Rattle.command_line.specs.declared.request.PutForm.TheVariants.{Arrow, Csv}
 use Rattle.command_line.specs.declared.request.Serving.{Serving}
 use Rattle.command_line.specs.declared.request.Request.{Request}
 use Rattle.command_line.specs.declared.request.Request.TheVariants.{Pipe, Serve, Put, Query, Tables, Expire}
-use Rattle.command_ends.specs.Network.{Ends}
+use Rattle.command_ends.specs.Network.{Accepting, Ends}
 use Rattle.command_ends.specs.Printing.{Said, Prints, fault_line, said_of}
 use Rattle.command_ends.specs.Whole.{Source, source_of}
 use Rattle.command_ends.specs.declared.exit_status.ExitStatus.{ExitStatus}
@@ -111,7 +112,7 @@ PipesWith (Some seed) options status old new =
 PipesWith None options status old new = LacksSeed status old new
 
 -- with a seed, connections are served, by a listener that hears, accepts and is shared so
-abbrev pub ServesWith : {S L : Type 0} → Option S → Hearing L → (L → Option Ends → L → Type 0) → (L → Option L → Type 0)
+abbrev pub ServesWith : {S L : Type 0} → Option S → Hearing L → Accepting L → (L → Option L → Type 0)
     → Serving → ExitStatus → L → L → Standard → Standard → Type 0
 ServesWith (Some seed) hears accepts shares serving status before behind old new =
     Listens accepts shares (hears before serving.port serving.idle) serving status behind old.out new.out old.faults new.faults
@@ -120,7 +121,7 @@ ServesWith None hears accepts shares serving status before behind old new = Lack
 
 -- What a server does for a request, with the seed of its hashes, if there is one. A request of a client leaves the listener as it
 -- was.
-abbrev pub ServesClients : {S L : Type 0} → Option S → Hearing L → (L → Option Ends → L → Type 0) → (L → Option L → Type 0)
+abbrev pub ServesClients : {S L : Type 0} → Option S → Hearing L → Accepting L → (L → Option L → Type 0)
     → Request → ExitStatus → L → L → Standard → Standard → Type 0
 ServesClients seed hears accepts shares (Serve serving) status before behind old new =
     ServesWith seed hears accepts shares serving status before behind old new
@@ -132,5 +133,5 @@ ServesClients seed hears accepts shares (Tables port) status before behind old n
 ServesClients seed hears accepts shares (Expire port version) status before behind old new = behind ≡ before
 
 -- whatever a network is owed for a connection, serving it is that, however calls are answered
-abbrev pub AlwaysPays : (Ends → Ends → Type 0) → Type 0
+abbrev pub AlwaysPays : (RestAt → Ends → Ends → RestAt → Type 0) → Type 0
 AlwaysPays owed = (options : Options) → Pays onward options owed

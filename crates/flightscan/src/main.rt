@@ -20,6 +20,7 @@ use std::alloc::Global;
 use std::fs::{File, Files};
 use std::io::ErrorKind;
 use std::process::ExitCode;
+use version_cell::Opened;
 
 // Whether a command tells how far it has come. Only those of a client do.
 fn tells_progress(request: &Request<'_>) -> bool {
@@ -97,5 +98,6 @@ fn main(rt: HostRuntime) -> ExitCode {
         connector: Watched::new(Loopback::new(&rt), alloc, meter.as_ref()),
         listener: Port::new(&rt),
     };
-    ExitCode::from(run(machine, &mut network, &mut streams, request).number())
+    let status = run(machine, Opened::new(), &mut network, &mut streams, request);
+    ExitCode::from(status.number())
 }

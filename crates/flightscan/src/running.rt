@@ -2,6 +2,7 @@
 
 ghost use Rattle.std.specs.Prelude.{◌≡◌};
 ghost use Rattle.grpc_frame.specs.Ends.{CanFail};
+ghost use Rattle.version_cell.specs.Rests.{RestAt};
 ghost use Rattle.commands.specs.Serve.{AcceptsThenCloses};
 ghost use Rattle.commands.specs.Words.{HasSeats};
 ghost use Rattle.flightscan.specs.Running.{AlwaysPays, CallsServer, PipesWith, PutsForm, QueriesWith, ServesClients, ServesWith, piped_by, standard_of};
@@ -15,6 +16,7 @@ use command_ends::{Connect, ExitStatus, Listen, end_by_fault};
 use command_line::{Format, PutForm, Request, Serving};
 use commands::pipe::pipe;
 use commands::serve::{Host, serve};
+use commands::shown::ShownSeat;
 use fetch_workers::Workers;
 use flight_calls::{Options, Setting};
 use grpc_frame::{Input, Output};
@@ -24,6 +26,7 @@ use std::alloc::Global;
 use std::sync::Wait;
 use std::thread::Threads;
 use std::time::Clock;
+use version_cell::Opened;
 
 /// What the program has of its machine: threads, a clock and memory; and the seed with which hashes of clients' values begin,
 /// where the system gave random bytes for one.
@@ -77,15 +80,17 @@ fn run_put<C: Connect, I: Input, W: Output, E: Output>(
 // Serves connections to a port.
 fn run_serve<T, L, I: Input, W: Output, E: Output>(
     machine: Machine<'_, T>,
+    opened: Opened,
     listener: &mut L,
     streams: &mut Streams<I, W, E>,
     serving: Serving,
 ) -> ExitStatus
 where
     T: Threads + Wait + Clock + Sync,
-    L: Listen + Drop + Send,
+    L: Listen<ShownSeat> + Drop + Send,
     L::Reader: Send,
     L::Writer: Send,
+    requires cell { (shown : RestAt) → shown.book ≡ opened → L.cell listener.old shown }
     requires seats { HasSeats (Request.Serve serving) }
     requires writes { CanFail (W.failures streams.old.output) }
     requires prints { CanFail (E.failures streams.old.faults) }
@@ -104,6 +109,7 @@ where
     };
     serve(
         host,
+        opened,
         listener,
         &mut streams.output,
         &mut streams.faults,
@@ -192,9 +198,11 @@ where
     )
 }
 
-/// Does what a request asks for. Where there is no seed, a server and a query print F22.
+/// Does what a request asks for: a server keeps its tables in the cell that was opened. Where there is no seed, a server and a query
+/// print F22.
 pub fn run<T, C, L, I: Input, W: Output, E: Output>(
     machine: Machine<'_, T>,
+    opened: Opened,
     network: &mut Network<C, L>,
     streams: &mut Streams<I, W, E>,
     request: Request<'_>,
@@ -204,10 +212,13 @@ where
     C: Connect + Drop + Send,
     C::Reader: Send,
     C::Writer: Send,
-    L: Listen + Drop + Send,
+    L: Listen<ShownSeat> + Drop + Send,
     L::Reader: Send,
     L::Writer: Send,
     requires seats { HasSeats request }
+
+    // The listener is shown seats of the cell that was opened.
+    requires cell { (shown : RestAt) → shown.book ≡ opened → L.cell network.old.listener shown }
 
     // Each stream can count one failure more.
     requires reads { CanFail (I.failures streams.old.input) }
@@ -261,7 +272,7 @@ where
             let version = u64::from(version);
             expire(machine.alloc, connector, output, faults, port, version)
         }
-        Request::Serve(serving) => run_serve(machine, listener, streams, serving),
+        Request::Serve(serving) => run_serve(machine, opened, listener, streams, serving),
         Request::Pipe { parts, workers } => run_pipe(machine, streams, parts, workers),
     }
 }

@@ -4,7 +4,7 @@
 ghost use Rattle.std.specs.Prelude.{◌≡◌, ◌-◌, ◌<◌, ◌↔◌, [], IfOk, IsTrue, Some};
 ghost use Rattle.std.specs.Time.{instant_nanos};
 
-use command_ends::{Announced, Connect, Listen};
+use command_ends::{AcceptFailure, Announced, Connect, Known, Listen};
 use grpc_frame::{Counted, Output};
 use scan_base::Fault;
 use std::io;
@@ -180,8 +180,52 @@ fn patience_of(idle: u16) -> Option<Duration> {
     }
 }
 
-impl<'a, R: Net<Listener = TcpListener, Stream = TcpStream> + Clock> Listen for Port<'a, R> {
-    ghost use Rattle.std.specs.Prelude.{IfSome};
+// Errors of accept(2) that may pass, by their numbers on Linux: no descriptor or no memory is free, the client is gone, a signal
+// came, or an error of the network was pending.
+const EINTR: i32 = 4;
+
+const ENOMEM: i32 = 12;
+
+const ENFILE: i32 = 23;
+
+const EMFILE: i32 = 24;
+
+const ENONET: i32 = 64;
+
+const EPROTO: i32 = 71;
+
+const ENOPROTOOPT: i32 = 92;
+
+const EOPNOTSUPP: i32 = 95;
+
+const ENETDOWN: i32 = 100;
+
+const ENETUNREACH: i32 = 101;
+
+const ECONNABORTED: i32 = 103;
+
+const ENOBUFS: i32 = 105;
+
+const EHOSTDOWN: i32 = 112;
+
+const EHOSTUNREACH: i32 = 113;
+
+// What an error of an accept says of the listener.
+fn failure_of(error: &io::Error) -> AcceptFailure {
+    match error.raw_os_error() {
+        Some(EINTR | ENOMEM | ENFILE | EMFILE | ENOBUFS) => AcceptFailure::MayPass,
+        Some(ECONNABORTED | EPROTO | ENOPROTOOPT | EOPNOTSUPP) => AcceptFailure::MayPass,
+        Some(ENONET | ENETDOWN | ENETUNREACH | EHOSTDOWN | EHOSTUNREACH) => AcceptFailure::MayPass,
+        _ => AcceptFailure::Broken,
+    }
+}
+
+impl<'a, K, R> Listen<K> for Port<'a, R>
+where
+    K: Known,
+    R: Net<Listener = TcpListener, Stream = TcpStream> + Clock,
+{
+    ghost use Rattle.std.specs.Prelude.{IfOk};
     ghost use Rattle.command_ends.specs.Network.{AreNew};
 
     type Reader = Counted<TcpStream>;
@@ -193,7 +237,7 @@ impl<'a, R: Net<Listener = TcpListener, Stream = TcpStream> + Clock> Listen for 
     ghost shares = { λ _ _. Unit {0} };
 
     // Nothing was read or written yet.
-    ghost accepts = { λ _ made _. IfSome made (λ ends. AreNew ends) };
+    ghost accepts = { λ _ made _. IfOk made (λ ends. AreNew ends) };
 
     ghost closes = { λ _ _. Unit {0} };
 
@@ -203,7 +247,11 @@ impl<'a, R: Net<Listener = TcpListener, Stream = TcpStream> + Clock> Listen for 
 
     ghost holds = { λ _ _. Unit {0} };
 
-    ghost owed = { λ _ _. Unit {0} };
+    ghost rests = { λ _ _. Unit {0} };
+
+    ghost cell = { λ _ _. Unit {0} };
+
+    ghost owed = { λ _ _ _ _. Unit {0} };
 
     fn listen(&mut self, port: u16, idle: u16) -> io::Result<u16> {
         let listener = TcpListener::bind(self.rt, (Ipv4Addr::LOCALHOST, port))?;
@@ -230,22 +278,41 @@ impl<'a, R: Net<Listener = TcpListener, Stream = TcpStream> + Clock> Listen for 
         })
     }
 
+    // Where the stream cannot be set up, the listener can still take others.
     fn accept(
         &mut self,
         _announced: &Announced,
-    ) -> io::Result<(Counted<TcpStream>, SocketWriter<'a, R>)> {
+        _seat: &K,
+    ) -> Result<(Counted<TcpStream>, SocketWriter<'a, R>), AcceptFailure> {
         let Some(listener) = &self.listener else {
-            return Err(io::Error::from(ErrorKind::NotConnected));
+            return Err(AcceptFailure::Broken);
         };
-        let (stream, _) = listener.accept()?;
-        stream.set_read_timeout(self.patience)?;
-        stream.set_write_timeout(self.patience)?;
-        let (reader, counted) = ends_of(stream)?;
-        Ok((reader, SocketWriter::new(counted, self.rt)))
+        match listener.accept() {
+            Ok((stream, _)) => match set_up(stream, self.patience) {
+                Ok((reader, counted)) => Ok((reader, SocketWriter::new(counted, self.rt))),
+                Err(_) => Err(AcceptFailure::MayPass),
+            },
+            Err(error) => Err(failure_of(&error)),
+        }
     }
 
     // Both ends have the stream, and are dropped.
-    fn done(&mut self, _reader: Counted<TcpStream>, _writer: SocketWriter<'a, R>) {}
+    fn done(&mut self, _reader: Counted<TcpStream>, _writer: SocketWriter<'a, R>, _seat: &K) {}
+}
+
+// The ends of a stream, of which a read or a write fails after so long without a byte.
+fn set_up(
+    stream: TcpStream,
+    patience: Option<Duration>,
+) -> io::Result<(Counted<TcpStream>, Counted<TcpStream>)>
+    ensures reads { IfOk result (λ ends. ends.0.failures ≡ 0) }
+    ensures writes { IfOk result (λ ends. ends.1.failures ≡ 0) }
+    ensures unread { IfOk result (λ ends. ends.0.given.bytes ≡ []) }
+    ensures unwritten { IfOk result (λ ends. ends.1.taken.bytes ≡ []) }
+{
+    stream.set_read_timeout(patience)?;
+    stream.set_write_timeout(patience)?;
+    ends_of(stream)
 }
 
 // The ends of a stream. What is written goes out at once.

@@ -9,9 +9,10 @@ use crate::expiring::{expire_old, put_beyond_kept};
 use crate::formats::{run_formats, stream_in_turn};
 use crate::texts::push_text;
 use client_calls::Failure;
-use command_ends::{Announced, Listen};
+use command_ends::{AcceptFailure, Announced, Listen};
 use command_line::Serving;
 use commands::serve::{Host, serve};
+use commands::shown::ShownSeat;
 use grpc_frame::{Counted, MemoryOutput};
 use hash_seed::HashSeed;
 use loopback::{Port, SocketWriter};
@@ -23,6 +24,7 @@ use std::sync::Wait;
 use std::thread::Threads;
 use std::time::Clock;
 use std::{io, thread};
+use version_cell::Opened;
 
 // What calls a server.
 #[derive(Clone, Copy)]
@@ -62,7 +64,7 @@ impl Client {
 }
 
 // Has a client call the server at this port, and adds what comes of it.
-fn call<R>(rt: &R, client: Client, port: u16, told: &mut String) -> Result<(), Failure>
+pub(crate) fn call<R>(rt: &R, client: Client, port: u16, told: &mut String) -> Result<(), Failure>
 where
     R: Net<Listener = TcpListener, Stream = TcpStream> + RandomSource + AllocGlobal,
     R: Threads + Clock + Sync,
@@ -80,13 +82,28 @@ where
 
 // A port that is listened to already.
 #[derive(Drop)]
-struct Bound<'a, R> {
+pub(crate) struct Bound<'a, R> {
     port: Port<'a, R>,
-    number: u16,
+    pub(crate) number: u16,
     ghost same: { port.number ≡ number },
 }
 
-impl<'a, R: Net<Listener = TcpListener, Stream = TcpStream> + Clock> Listen for Bound<'a, R> {
+impl<'a, R: Net<Listener = TcpListener, Stream = TcpStream> + Clock> Bound<'a, R> {
+    // A port that is free.
+    pub(crate) fn new(rt: &'a R) -> io::Result<Bound<'a, R>> {
+        let mut port = Port::new(rt);
+        let number = Listen::<ShownSeat>::listen(&mut port, 0, 0)?;
+        Ok(Bound { port, number })
+    }
+}
+
+impl<'a, R> Listen<ShownSeat> for Bound<'a, R>
+where
+    R: Net<Listener = TcpListener, Stream = TcpStream> + Clock,
+{
+    ghost use Rattle.std.specs.Prelude.{IfOk};
+    ghost use Rattle.command_ends.specs.Network.{AreNew};
+
     type Reader = Counted<TcpStream>;
 
     type Writer = SocketWriter<'a, R>;
@@ -95,7 +112,8 @@ impl<'a, R: Net<Listener = TcpListener, Stream = TcpStream> + Clock> Listen for 
 
     ghost shares = { λ _ _. Unit {0} };
 
-    ghost accepts = { λ _ _ _. Unit {0} };
+    // Nothing was read or written yet.
+    ghost accepts = { λ _ made _. IfOk made (λ ends. AreNew ends) };
 
     ghost closes = { λ _ _. Unit {0} };
 
@@ -105,7 +123,11 @@ impl<'a, R: Net<Listener = TcpListener, Stream = TcpStream> + Clock> Listen for 
 
     ghost holds = { λ _ _. Unit {0} };
 
-    ghost owed = { λ _ _. Unit {0} };
+    ghost rests = { λ _ _. Unit {0} };
+
+    ghost cell = { λ _ _. Unit {0} };
+
+    ghost owed = { λ _ _ _ _. Unit {0} };
 
     fn listen(&mut self, _port: u16, _idle: u16) -> io::Result<u16> {
         Ok(self.number)
@@ -113,7 +135,7 @@ impl<'a, R: Net<Listener = TcpListener, Stream = TcpStream> + Clock> Listen for 
 
     fn share(&self) -> io::Result<Self> {
         Ok(Bound {
-            port: self.port.share()?,
+            port: Listen::<ShownSeat>::share(&self.port)?,
             number: self.number,
         })
     }
@@ -121,17 +143,18 @@ impl<'a, R: Net<Listener = TcpListener, Stream = TcpStream> + Clock> Listen for 
     fn accept(
         &mut self,
         announced: &Announced,
-    ) -> io::Result<(Counted<TcpStream>, SocketWriter<'a, R>)> {
-        self.port.accept(announced)
+        seat: &ShownSeat,
+    ) -> Result<(Counted<TcpStream>, SocketWriter<'a, R>), AcceptFailure> {
+        self.port.accept(announced, seat)
     }
 
-    fn done(&mut self, reader: Counted<TcpStream>, writer: SocketWriter<'a, R>) {
-        self.port.done(reader, writer);
+    fn done(&mut self, reader: Counted<TcpStream>, writer: SocketWriter<'a, R>, seat: &ShownSeat) {
+        self.port.done(reader, writer, seat);
     }
 }
 
 // Whether a server has printed the line of its port, and nothing else.
-fn names_port(alloc: Global, output: &MemoryOutput, port: u16) -> bool {
+pub(crate) fn names_port(alloc: Global, output: &MemoryOutput, port: u16) -> bool {
     match format!(in alloc; "listening 127.0.0.1:{port}\n") {
         Ok(line) => output.as_slice() == line.as_bytes(),
         Err(_) => false,
@@ -163,7 +186,8 @@ where
         parts: client.parts(),
         workers: 1,
     };
-    let status = serve(host, &mut bound, &mut output, &mut faults, serving).number();
+    let opened = Opened::new();
+    let status = serve(host, opened, &mut bound, &mut output, &mut faults, serving).number();
     let names_port = names_port(alloc, &output, bound.number);
     Served {
         status,
@@ -173,7 +197,7 @@ where
 }
 
 // The fault of a failure, wherever it was found.
-fn fault_of(failure: Failure) -> Fault {
+pub(crate) fn fault_of(failure: Failure) -> Fault {
     match failure {
         Failure::Answered(fault) | Failure::Found(fault) => fault,
     }
@@ -204,9 +228,8 @@ where
 {
     let (alloc, seed) = (rt.alloc(), HashSeed::new(rt)?);
     let host = Host { rt, alloc, seed };
-    let mut port = Port::new(rt);
-    let number = port.listen(0, 0)?;
-    let bound = Bound { port, number };
+    let bound = Bound::new(rt)?;
+    let number = bound.number;
     let (served, told) = thread::join(
         rt,
         move || serve_bound(host, bound, accept, client),

@@ -6,4 +6,5 @@ pub mod Entries
 pub mod Merging
 pub mod Numbers
 pub mod Parts
+pub mod Counts
 pub mod Logs

@@ -22,11 +22,11 @@ own_here seat entry false is = absurd (grind (arith, nat_tests))
 
 -- ---- the entries of one seat
 
-own-append : (seat : ℕ) (entries more : List Signed) → own seat (entries ++ more) ≡ own seat entries ++ own seat more
+pub own-append : (seat : ℕ) (entries more : List Signed) → own seat (entries ++ more) ≡ own seat entries ++ own seat more
 own-append seat [] more = refl
 own-append seat (s ∷ entries) more = own_behind seat s entries more (s.seat == seat) refl (own-append seat entries more)
 
-own_last : (seat : ℕ) (entry : Entry) → own seat (signed seat entry ∷ []) ≡ entry ∷ []
+pub own_last : (seat : ℕ) (entry : Entry) → own seat (signed seat entry ∷ []) ≡ entry ∷ []
 own_last seat entry = own_here seat entry (seat == seat) refl
 
 -- of a log that goes on
@@ -76,6 +76,10 @@ without_length seat entries = omega (
   length-map (without seat entries) (λ (s : Signed). s.entry),
   length-map entries (λ (s : Signed). s.entry),
 )
+
+-- what was made is no more than the log has
+pub few_made : (seat : ℕ) (made : Log) (entries : List Signed) → IsAmong made (own seat entries) → length made ≤ length entries
+few_made seat made entries among = omega (arith, among_length made (own seat entries) among, without_length seat entries)
 
 own_without : (seat other : ℕ) (entries : List Signed) → other ≢ seat → own other (without seat entries) ≡ own other entries
 own_without seat other [] apart = refl

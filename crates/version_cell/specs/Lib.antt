@@ -6,3 +6,5 @@ pub mod Blanks
 pub mod Merges
 pub mod Signed
 pub mod Shares
+pub mod Rests
+pub mod Counts

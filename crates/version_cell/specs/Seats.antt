@@ -1,10 +1,12 @@
 -- What a contract sees of a seat, and what its calls do to it.
-use Rattle.std.specs.Prelude.{◌≡◌, ◌⊎◌, ℕ, ◌+◌, List}
+use Rattle.std.specs.Prelude.{◌≡◌, ◌⊎◌, ℕ, ◌+◌, List, [], ◌∷◌}
 use Rattle.version_log.specs.Log.{Log}
 
--- the log that the seat has seen or was told of, the log that it entered last, how often it entered the cell, the entries that
--- were made through it, in order, and how often it asked the putter
+-- the number of the seat, the log that it has seen or was told of, the log that it entered last,
+-- how often it entered the cell, the entries that were made through it, in order, and how often it
+-- asked the putter
 pub record Seat : Type 0 where
+  pub number : ℕ
   pub log : Log
   pub entered : Log
   pub enters : ℕ
@@ -12,8 +14,14 @@ pub record Seat : Type 0 where
   pub asks : ℕ
 
 -- a seat that never asked
-abbrev pub seat : Log → Log → ℕ → Log → Seat
-seat log entered enters made = record { log = log; entered = entered; enters = enters; made = made; asks = 0 }
+abbrev pub seat : ℕ → Log → Log → ℕ → Log → Seat
+seat number log entered enters made =
+    record { number = number; log = log; entered = entered; enters = enters; made = made; asks = 0 }
+
+-- seats have the numbers from one on, each the next
+abbrev pub IsNumbered : ℕ → List Seat → Type 0
+IsNumbered first [] = Unit {0}
+IsNumbered first (one ∷ others) = (one.number ≡ first) × IsNumbered (first + 1) others
 
 -- one enter: the seat has seen the log so entered
 abbrev pub EntersOnce : Seat → Seat → Type 0

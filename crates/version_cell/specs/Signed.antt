@@ -1,4 +1,4 @@
--- Inside: the log of a cell, in which each entry has the number of the seat through which it was made.
+-- The log of a cell, in which each entry has the number of the seat through which it was made.
 use Rattle.std.specs.Prelude.{◌≡◌, ◌⊎◌, ◌==◌, ◌+◌, ◌^◌, ℕ, List, [], ◌∷◌, ◌++◌, length, map, Option, Some, None, if◌then◌else◌}
 use Rattle.version_log.specs.Log.{Entry, Log}
 use Rattle.version_cell.specs.Merges.{Merges}

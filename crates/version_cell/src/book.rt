@@ -80,16 +80,27 @@ impl CellName for Brand {
     ghost numbers = { 0 };
 }
 
-/// A book with an empty log, which has no name yet.
+/// A book with an empty log, which has no name yet. Contracts see it as that book.
 #[derive(Drop)]
 pub struct Opened {
     head: Word<Signed, u64, Law>,
     seen: Seen<Signed, u64, Law>,
-    pub ghost empty: { seen.log ≡ [] },
-    pub ghost head_is: { head ≡ head_of seen.book },
+}
+
+impl Model for Opened {
+    ghost use Rattle.std.specs.Prelude.{◌≡◌, []};
+    ghost use Rattle.logbook.specs.Pages.{Book};
+    ghost use Rattle.version_cell.specs.Rules.{head_of};
+
+    ghost Value = { Book };
+
+    ghost view = { λ o. o.seen.book };
+
+    ghost invariant = { λ o. (o.seen.log ≡ []) × (o.head ≡ head_of o.seen.book) };
 }
 
 impl Opened {
+    /// Opens a book. It takes no memory.
     pub fn new() -> Opened {
         let (seen, mut first, _second) = Seen::open(Start::alone(), 0, 0);
         Opened {
@@ -99,8 +110,8 @@ impl Opened {
     }
 
     /// The word, and the history that has no entry.
-    pub fn into_parts(self) -> (Head, History)
-        ensures book { (result.0 ≡ head_of self.seen.book) × (result.1.seen.book ≡ self.seen.book) }
+    pub(crate) fn into_parts(self) -> (Head, History)
+        ensures book { (result.0 ≡ head_of self) × (result.1.seen.book ≡ self) }
         ensures log { result.1.seen.log ≡ [] }
     {
         let Opened { head, seen } = self;
@@ -132,6 +143,13 @@ impl History {
         ensures { result ≡ puts_in (log_of self.now.seen.log) }
     {
         self.puts
+    }
+
+    /// How many entries it has.
+    pub fn len(&self) -> u64
+        ensures { result ≡ length self.now.seen.log }
+    {
+        self.entries
     }
 
     /// Whether it has as many entries as it may have.

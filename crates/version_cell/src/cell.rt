@@ -4,7 +4,8 @@ ghost use Rattle.std.specs.Prelude.{◌≡◌, ◌≤◌, ◌<◌, [], length, d
 ghost use Rattle.std.specs.Arc.{arc_value};
 ghost use Rattle.scan_base.specs.declared.fault.Fault.TheVariants.{OutOfMemory};
 ghost use Rattle.version_cell.specs.Blanks.{IsNamed, most_seats};
-ghost use Rattle.version_cell.specs.Seats.{seat};
+ghost use Rattle.version_cell.specs.Counts.{Counted};
+ghost use Rattle.version_cell.specs.Seats.{seat, IsNumbered};
 ghost use Rattle.version_cell.specs.Shares.{cutter_at};
 ghost use Rattle.version_cell.specs.Signed.{log_of};
 ghost use Rattle.version_index.specs.Versions.{IsIndexOf};
@@ -18,7 +19,7 @@ use crate::shown::{Publishes, Store};
 use crate::tally::{Cutter, Ledgers};
 use hash_seed::HashSeed;
 use scan_base::Fault;
-use std::alloc::Global;
+use std::alloc::{AllocError, Global};
 use std::marker::Model;
 use std::sync::{Arc, Wait};
 use version_index::VersionIndex;
@@ -42,7 +43,7 @@ impl Model for Blank {
     ghost Value = { BlankAt };
 
     ghost view = { λ b. record {
-      book = b.opened.seen.book;
+      book = b.opened;
       ledger = b.ledgers.entries.name;
       asks = b.ledgers.asks.name;
       numbers = b.ledgers.numbers.name;
@@ -54,19 +55,20 @@ impl Model for Blank {
         × IsIndexOf (arc_value b.index) [] };
 }
 
-/// A cell with so many seats. Hashes of the values of its versions begin with the seed.
+/// A cell with so many seats, whose log stands in this book. Hashes of the values of its versions
+/// begin with the seed.
 ///
 /// # Errors
 ///
 /// F21 (`Fault::OutOfMemory`) where memory is refused.
-pub fn open(alloc: Global, seed: HashSeed, seats: usize) -> Result<Blank, Fault>
+pub fn open(alloc: Global, seed: HashSeed, seats: usize, opened: Opened) -> Result<Blank, Fault>
     requires { (0 < seats) × (seats ≤ most_seats) }
-    ensures ok { IfOk result (λ blank. blank.seats ≡ seats) }
+    ensures ok { IfOk result (λ blank. (blank.seats ≡ seats) × (blank.book ≡ opened)) }
     ensures err { IfErr result (λ fault. fault ≡ OutOfMemory) }
 {
     let index = VersionIndex::new(alloc, seed)?;
     Ok(Blank {
-        opened: Opened::new(),
+        opened,
         ledgers: Ledgers::new(seats as u64),
         seats,
         index: Arc::new(alloc, index)?,
@@ -86,7 +88,8 @@ impl Blank {
     ) -> Result<(Putter<C, R>, Vec<Scanner<C>>), Fault>
         requires { IsNamed self C.book C.name C.parts C.asks C.numbers }
         ensures ok { IfOk result (λ cell. (cell.0 ≡ []) × (length cell.1.items ≡ self.seats)
-            × All (λ scanner. scanner ≡ seat [] [] 0 []) cell.1.items) }
+            × All (λ scanner. scanner ≡ seat scanner.number [] [] 0 []) cell.1.items) }
+        ensures numbers { IfOk result (λ cell. IsNumbered 0 cell.1.items) }
         ensures err { IfErr result (λ fault. fault ≡ OutOfMemory) }
     {
         let Blank {
@@ -95,6 +98,7 @@ impl Blank {
             seats,
             index,
         } = self;
+        let counts = zeros(alloc, seats)?;
         let (head, history) = opened.into_parts();
         let mut cutter = Cutter::<C>::new(ledgers);
         let store = Store::new(index, history.again());
@@ -107,7 +111,7 @@ impl Blank {
         match seat_all(alloc, &writer, &history, &mut cutter, seats) {
             Some(scanners) => {
                 let publisher = Publisher::new(head, writer, rt);
-                Ok((Putter::new(publisher, cutter.close()), scanners))
+                Ok((Putter::new(publisher, cutter.close(), counts), scanners))
             }
             None => {
                 drop(writer.take(&rt));
@@ -115,6 +119,17 @@ impl Blank {
             }
         }
     }
+}
+
+// So many zeros: each seat has no entry in a log that has none.
+fn zeros(alloc: Global, count: usize) -> Result<Vec<u64>, AllocError>
+    ensures { IfOk result (λ zeros. Counted zeros.items []) }
+{
+    let mut zeros = Vec::new(alloc);
+    for _ in 0..count {
+        zeros.push(0)?;
+    }
+    Ok(zeros)
 }
 
 // A writer that shows this store.
@@ -165,7 +180,9 @@ fn seat_all<C: CellName>(
     requires few { seats ≤ most_seats }
     requires cutter { cutter.old ≡ cutter_at 0 seats }
     ensures all { IfSome result (λ all. (length all.items ≡ seats)
-        × All (λ scanner. scanner ≡ seat (log_of history.now.seen.log) [] 0 []) all.items) }
+        × All (λ scanner. scanner ≡ seat scanner.number (log_of history.now.seen.log) [] 0 [])
+        all.items) }
+    ensures numbers { IfSome result (λ all. IsNumbered 0 all.items) }
     ensures left { IfSome result (λ _. cutter.new.left ≡ 0) }
 {
     let mut scanners = Vec::new(alloc);

@@ -119,6 +119,8 @@ impl<C: CellName> Gathered<C> {
             seat,
             history,
             made,
+            count: _,
+            asked: _,
             shares,
         } = maker;
         let before = mem::replace(&mut self.parts, Parts::none());

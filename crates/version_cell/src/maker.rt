@@ -1,11 +1,14 @@
 //! The part of a seat through which entries are made.
 
-ghost use Rattle.std.specs.Prelude.{◌≡◌, ◌+◌, ◌^◌, ◌++◌, ◌∷◌, []};
+ghost use Rattle.std.specs.Prelude.{◌≡◌, ◌≤◌, ◌+◌, ◌^◌, ◌++◌, ◌∷◌, [], length};
+ghost use Rattle.version_cell.specs.Rests.{rest_at};
 ghost use Rattle.version_cell.specs.Shares.{shares_at};
-ghost use Rattle.version_cell.specs.Signed.{signed, maker_at, GoesOn, Learns};
+ghost use Rattle.version_cell.specs.Signed.{own, signed, maker_at, GoesOn, Learns};
 
 use crate::book::{CellName, History};
+use crate::rest::Rest;
 use crate::tally::{Shares, Tally};
+use crate::times::Times;
 use std::marker::Model;
 use std::{mem, snapshot};
 use version_log::{Entries, Entry};
@@ -17,6 +20,10 @@ pub(crate) struct Maker<C: CellName> {
     pub(crate) seat: u64,
     pub(crate) history: History,
     pub(crate) made: snapshot::Snapshot<Entries>,
+    // How many these are.
+    pub(crate) count: u64,
+    // How often it asked, for others to see.
+    pub(crate) asked: Times,
     // Each of these entries is counted in them, and each ask.
     pub(crate) shares: Shares<C>,
 }
@@ -32,7 +39,8 @@ impl<C: CellName> Model for Maker<C> {
 
     ghost invariant = { λ m. (m.history.seen.book ≡ C.book)
         × (m.shares ≡ shares_at 1 (length m.made.value.entries) m.shares.asks (2 ^ m.seat))
-        × IsAmong m.made.value.entries (own m.seat m.history.seen.log) };
+        × IsAmong m.made.value.entries (own m.seat m.history.seen.log)
+        × (m.count ≡ length m.made.value.entries) × (m.asked.times ≡ m.shares.asks) };
 }
 
 impl<C: CellName> Maker<C> {
@@ -47,6 +55,8 @@ impl<C: CellName> Maker<C> {
             seat,
             history,
             made: Entries::none(),
+            count: 0,
+            asked: Times::none(),
             shares,
         }
     }
@@ -55,6 +65,13 @@ impl<C: CellName> Maker<C> {
         ensures { result ≡ self.now.seat }
     {
         self.seat
+    }
+
+    // How many entries it made.
+    pub(crate) fn count(&self) -> u64
+        ensures { result ≡ length self.now.made }
+    {
+        self.count
     }
 
     pub(crate) fn history(&self) -> &History
@@ -92,12 +109,25 @@ impl<C: CellName> Maker<C> {
     {
         self.learn(told);
         tally.ask(&mut self.shares);
+        self.asked.raise();
+    }
+
+    // How its seat rests, where it made as many entries as the log that it has seen has of its
+    // number. These are then the same.
+    #[tactic(auto, using(crate::proofs::Merging::among_whole))]
+    pub(crate) fn rest(&self) -> Rest
+        requires { length self.now.made ≡ length (own self.now.seat self.now.seen) }
+        ensures rest { result ≡ rest_at C.book self.now.seat self.now.seen self.now.asks }
+        ensures made { result.made ≡ self.now.made }
+    {
+        Rest::new(self.seat, self.history.again(), self.asked.again())
     }
 
     // It made the entry that stands behind what it had seen, and that is counted.
     #[tactic(auto, using(crate::proofs::Parts::among_made))]
     pub(crate) fn make(&mut self, tally: &mut Tally<C>, told: &History, entry: &Entry)
         requires book { told.now.seen.book ≡ C.book }
+        requires few { length told.now.seen.log ≤ 2 ^ 62 }
         requires behind { told.now.seen.log ≡ self.old.seen ++ signed self.old.seat entry.now ∷ [] }
         ensures tally { tally.new ≡ tally.old + 1 }
         ensures made { self.new ≡ maker_at self.old.seat told.now.seen.log (self.old.made ++ entry.now ∷ []) self.old.asks }
@@ -105,6 +135,7 @@ impl<C: CellName> Maker<C> {
         self.history = told.again();
         let before = mem::replace(&mut self.made, Entries::none());
         self.made = Entries::with(before, entry);
+        self.count += 1;
         tally.count(&mut self.shares);
     }
 }

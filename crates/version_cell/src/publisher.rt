@@ -1,6 +1,6 @@
 //! Who publishes: the log of a cell grows, and its seats are shown the versions.
 
-ghost use Rattle.std.specs.Prelude.{◌≡◌, ◌≢◌, ◌<◌, ◌^◌, ◌++◌, ◌∷◌, [], length, drop, fold, IfOk, IfErr, MatchResult, IsOk, Err};
+ghost use Rattle.std.specs.Prelude.{◌≡◌, ◌≢◌, ◌<◌, ◌≤◌, ◌^◌, ◌++◌, ◌∷◌, [], length, drop, fold, IfOk, IfErr, MatchResult, IsOk, Err};
 ghost use Rattle.std.specs.Arc.{arc_value};
 ghost use Rattle.scan_base.specs.Reading.{RefusesFirst};
 ghost use Rattle.scan_base.specs.declared.fault.Fault.TheVariants.{OutOfMemory};
@@ -155,6 +155,7 @@ impl<C: CellName, R: Wait + Drop> Publisher<C, R> {
         ensures receipt { IfOk result (λ receipt. (receipt.number ≡ puts_in (log_of self.new))
             × (receipt.put.value ≡ put)) }
         ensures typed { IfOk result (λ _. IsPut (put_of put)) }
+        ensures few { IfOk result (λ _. length self.new ≤ 2 ^ 62) }
     {
         let made_by = snapshot::Snapshot::of(&put);
         let entry = Signed::new(seat, Entry::put(snapshot::Snapshot::of(&put)));
@@ -172,6 +173,7 @@ impl<C: CellName, R: Wait + Drop> Publisher<C, R> {
         ensures answered { IsExpired result (log_of self.old) version (log_of self.new) }
         ensures added { MatchResult result (λ _. self.new ≡ self.old ++ signed seat (expired version) ∷ [])
             (λ _. self.new ≡ self.old) }
+        ensures few { IfOk result (λ _. length self.new ≤ 2 ^ 62) }
     {
         let index = self.store().without(alloc, version)?;
         self.commit(index, &Signed::new(seat, Entry::mark(version)));

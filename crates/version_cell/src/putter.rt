@@ -1,11 +1,12 @@
 //! Who puts.
 
-ghost use Rattle.std.specs.Prelude.{◌≡◌, IfOk};
+ghost use Rattle.std.specs.Prelude.{◌≡◌, [], IfOk};
 ghost use Rattle.scan_base.specs.Reading.{RefusesFirst};
 ghost use Rattle.version_log.specs.Expiry.{IsExpired};
 ghost use Rattle.version_log.specs.Log.{puts_in, IsLog};
 ghost use Rattle.table_versions.specs.Stored.{put_of};
 ghost use Rattle.table_versions.specs.Valid.{IsPut};
+ghost use Rattle.version_cell.specs.Counts.{Counted};
 ghost use Rattle.version_cell.specs.Puts.{after_log, IsAnswered};
 ghost use Rattle.version_cell.specs.Signed.{log_of};
 
@@ -29,26 +30,34 @@ pub struct Putter<C: CellName, R: Wait + Drop> {
     pub(crate) publisher: Publisher<C, R>,
     // Until it is shared, no entry is counted.
     pub(crate) tally: Tally<C>,
+    // Nor are the entries of each seat, for which there is room.
+    pub(crate) counts: Vec<u64>,
 }
 
 impl<C: CellName, R: Wait + Drop> Model for Putter<C, R> {
-    ghost use Rattle.std.specs.Prelude.{◌≡◌};
+    ghost use Rattle.std.specs.Prelude.{◌≡◌, []};
     ghost use Rattle.version_log.specs.Log.{Log};
+    ghost use Rattle.version_cell.specs.Counts.{Counted};
     ghost use Rattle.version_cell.specs.Signed.{log_of};
 
     ghost Value = { Log };
 
     ghost view = { λ p. log_of p.publisher };
 
-    ghost invariant = { λ p. p.tally ≡ 0 };
+    ghost invariant = { λ p. (p.tally ≡ 0) × Counted p.counts.items [] };
 }
 
 impl<C: CellName, R: Wait + Drop> Putter<C, R> {
-    pub(crate) fn new(publisher: Publisher<C, R>, tally: Tally<C>) -> Putter<C, R>
-        requires { tally ≡ 0 }
+    pub(crate) fn new(publisher: Publisher<C, R>, tally: Tally<C>, counts: Vec<u64>) -> Putter<C, R>
+        requires tally { tally ≡ 0 }
+        requires counts { Counted counts.items [] }
         ensures { result ≡ log_of publisher }
     {
-        Putter { publisher, tally }
+        Putter {
+            publisher,
+            tally,
+            counts,
+        }
     }
 
     /// The log so far, for seats to learn. It takes no memory.

@@ -19,9 +19,9 @@ use table_versions::Snapshot;
 
 type CellReader<C> = Reader<Store, Entered, Shown<C>>;
 
-/// A seat of a cell. Contracts see it as the log that it has seen or was told of, the log that it entered last, the
-/// number of its enters, the entries that were made through it, and the number of its asks. Its calls wait for nobody and take no
-/// memory.
+/// A seat of a cell. Contracts see it as its number, the log that it has seen or was told of, the
+/// log that it entered last, the number of its enters, the entries that were made through it, and
+/// the number of its asks. Its calls wait for nobody and take no memory.
 #[derive(Drop)]
 pub struct Scanner<C: CellName> {
     pub(crate) maker: Maker<C>,
@@ -37,6 +37,7 @@ impl<C: CellName> Model for Scanner<C> {
     ghost Value = { Seat };
 
     ghost view = { λ s. record {
+      number = s.maker.seat;
       log = log_of s.maker.seen;
       entered = log_of (read_or [] (λ reader. reader.place.me.0.client.log) s.reader);
       enters = read_or 0 (λ reader. reader.place.me.0.client.enters) s.reader;
@@ -51,7 +52,7 @@ impl<C: CellName> Scanner<C> {
     // A seat of what the writer shows, through which entries are made by this.
     pub(crate) fn new(writer: &CellWriter<C>, maker: Maker<C>) -> Option<Scanner<C>>
         requires { maker ≡ maker_at maker.seat maker.seen [] 0 }
-        ensures { IfSome result (λ s. s ≡ seat (log_of maker.seen) [] 0 []) }
+        ensures { IfSome result (λ s. s ≡ seat maker.seat (log_of maker.seen) [] 0 []) }
     {
         let reader = writer.factory().reader().ok()?;
         Some(Scanner {
@@ -62,6 +63,7 @@ impl<C: CellName> Scanner<C> {
 
     // One enter.
     fn enter(&mut self) -> Result<Store, Fault>
+        ensures number { self.new.number ≡ self.old.number }
         ensures made { MakesNone self.old self.new }
         ensures asks { AsksNone self.old self.new }
         ensures begins { Begins self.old.log self.new.log }
@@ -96,6 +98,7 @@ impl<C: CellName> Scanner<C> {
     /// F21 (`Fault::OutOfMemory`) where the putter is gone, or one handle more of a version is refused; and were a log entered that is
     /// behind what the seat has seen, which never is.
     pub fn current(&mut self) -> Result<Snapshot, Fault>
+        ensures number { self.new.number ≡ self.old.number }
         ensures made { MakesNone self.old self.new }
         ensures asks { AsksNone self.old self.new }
         ensures begins { Begins self.old.log self.new.log }
@@ -115,6 +118,7 @@ impl<C: CellName> Scanner<C> {
     /// F18 (`Fault::VersionUnknown`) where that log has fewer puts, F19 (`Fault::VersionExpired`) where the number is below its
     /// floor, and F21 (`Fault::OutOfMemory`) as `current` does.
     pub fn at(&mut self, number: u64) -> Result<Snapshot, Fault>
+        ensures number { self.new.number ≡ self.old.number }
         ensures made { MakesNone self.old self.new }
         ensures asks { AsksNone self.old self.new }
         ensures begins { Begins self.old.log self.new.log }
@@ -161,6 +165,7 @@ impl<C: CellName> Scanner<C> {
 
     /// From now on the seat sees no less than was told, and no more than this and what it had seen. It makes no enter.
     pub fn learn(&mut self, told: &Told<C>)
+        ensures number { self.new.number ≡ self.old.number }
         ensures made { MakesNone self.old self.new }
         ensures asks { AsksNone self.old self.new }
         ensures begins { Begins self.old.log self.new.log }

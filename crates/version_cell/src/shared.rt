@@ -1,21 +1,24 @@
 //! A putter that threads share under one lock.
 
-ghost use Rattle.std.specs.Prelude.{◌≡◌, ◌+◌, ◌⊎◌, [], true, length, IfOk, IfSome};
+ghost use Rattle.std.specs.Prelude.{◌≡◌, ◌+◌, ◌<◌, [], true, length, IfOk, IfSome};
 ghost use Rattle.version_log.specs.Expiry.{IsExpired};
 ghost use Rattle.version_log.specs.Log.{puts_in, Begins, IsLog};
 ghost use Rattle.table_versions.specs.Stored.{put_of};
 ghost use Rattle.table_versions.specs.Valid.{IsPut};
+ghost use Rattle.version_cell.specs.Counts.{Counted};
 ghost use Rattle.version_cell.specs.Expiries.{CountsExpiry, ExpiresBehind};
 ghost use Rattle.version_cell.specs.Merges.{MergesAll};
 ghost use Rattle.version_cell.specs.Puts.{CountsPut, IsAnswered, PutsBehind};
+ghost use Rattle.version_cell.specs.Rests.{IsRestOf};
 ghost use Rattle.version_cell.specs.Seats.{AsksOnce, MakesNone};
-ghost use Rattle.version_cell.specs.Signed.{log_of, maker_at};
+ghost use Rattle.version_cell.specs.Signed.{log_of, maker_at, own};
 
 use crate::book::CellName;
 use crate::gathered::Gathered;
 use crate::maker::Maker;
 use crate::publisher::{Publisher, Receipt};
 use crate::putter::Putter;
+use crate::rest::Rest;
 use crate::scanner::Scanner;
 use crate::tally::Tally;
 use crate::told::Told;
@@ -26,73 +29,120 @@ use std::thread;
 use table_versions::Put;
 use version_log::Entry;
 
-// Who publishes, and how many entries were made through all seats. Whenever the lock is free the log has so many: each entry
-// of it was made through a seat, and counted once.
+// Who publishes, how many entries were made through all seats, and how many through each, by the
+// numbers of the seats. Whenever the lock is free the log has so many: each entry of it was made
+// through a seat, and counted once.
 #[derive(Drop)]
 struct Counting<C: CellName, R: Wait + Drop> {
     publisher: Publisher<C, R>,
     tally: Tally<C>,
+    counts: Vec<u64>,
     ghost counted: { length publisher ≡ tally },
+    ghost each: { Counted counts.items publisher },
 }
 
 impl<C: CellName, R: Wait + Drop> Counting<C, R> {
-    // Whether a seat has seen no more than the log.
-    fn is_ahead_of(&self, seat: &Scanner<C>) -> bool
-        ensures { result ≡ true → Begins seat.now.log (log_of self.now.publisher) }
+    // How many entries of the log a seat made. None where there is no seat of this number.
+    fn count_of(&self, seat: u64) -> Option<u64>
+        ensures { IfSome result (λ count. (seat < length self.now.counts.items)
+            × (count ≡ length (own seat self.now.publisher))) }
     {
-        seat.is_within(&self.publisher.tell())
+        if seat as usize >= self.counts.len() {
+            return None;
+        }
+        Some(self.counts[seat as usize])
     }
 
-    // A seat asks, and sees no less than the log.
-    fn ask(&mut self, seat: &mut Scanner<C>)
+    // Whether a seat has seen no more than the log, and made as many entries as the log has of its
+    // number.
+    fn accounts_for(&self, seat: &Scanner<C>) -> bool
+        ensures within { result ≡ true → Begins seat.now.log (log_of self.now.publisher) }
+        ensures known { result ≡ true → seat.now.number < length self.now.counts.items }
+        ensures counted { result ≡ true
+            → length seat.now.made ≡ length (own seat.now.number self.now.publisher) }
+    {
+        match self.count_of(seat.maker.seat()) {
+            Some(count) if count == seat.maker.count() => seat.is_within(&self.publisher.tell()),
+            _ => false,
+        }
+    }
+
+    // A seat asks, sees all of the log, and tells how it then rests.
+    fn ask(&mut self, seat: &mut Scanner<C>) -> Rest
+        requires within { Begins seat.old.log (log_of self.old.publisher) }
+        requires counted { length seat.old.made ≡ length (own seat.old.number self.old.publisher) }
         ensures asks { AsksOnce seat.old seat.new }
-        ensures told { Begins (log_of self.old.publisher) seat.new.log }
-        ensures longer { (seat.new.log ≡ seat.old.log) ⊎ (seat.new.log ≡ log_of self.old.publisher) }
+        ensures told { seat.new.log ≡ log_of self.old.publisher }
         ensures begins { Begins seat.old.log seat.new.log }
         ensures made { MakesNone seat.old seat.new }
+        ensures number { seat.new.number ≡ seat.old.number }
         ensures enters { (seat.new.enters ≡ seat.old.enters) × (seat.new.entered ≡ seat.old.entered) }
+        ensures rest { IsRestOf result C.book seat.new }
+        ensures exact { result.log ≡ self.old.publisher }
         ensures same { self.new.publisher ≡ self.old.publisher }
     {
-        let Counting { publisher, tally } = self;
-        seat.maker.ask(tally, &publisher.history());
+        let Counting {
+            publisher,
+            tally,
+            counts: _,
+        } = self;
+        let maker = &mut seat.maker;
+        catch_up(publisher, tally, maker);
+        maker.rest()
     }
 
     // Puts through a seat, which asks first, and gives the put's number.
     fn put(&mut self, alloc: Global, seat: &mut Scanner<C>, put: Put) -> Result<u64, Fault>
         requires within { Begins seat.old.log (log_of self.old.publisher) }
+        requires known { seat.old.number < length self.old.counts.items }
+        requires counted { length seat.old.made ≡ length (own seat.old.number self.old.publisher) }
         ensures answered { IsAnswered result (log_of self.old.publisher) (put_of put) (log_of self.new.publisher) }
         ensures put { PutsBehind result seat.old (put_of put) seat.new }
         ensures made { CountsPut result seat.old (put_of put) seat.new }
         ensures asks { AsksOnce seat.old seat.new }
+        ensures seat { seat.new.number ≡ seat.old.number }
         ensures number { IfOk result (λ number. number ≡ puts_in seat.new.log) }
         ensures typed { IfOk result (λ _. IsPut (put_of put)) }
         ensures begins { Begins seat.old.log seat.new.log }
         ensures enters { (seat.new.enters ≡ seat.old.enters) × (seat.new.entered ≡ seat.old.entered) }
     {
-        let Counting { publisher, tally } = self;
+        let Counting {
+            publisher,
+            tally,
+            counts,
+        } = self;
         let maker = &mut seat.maker;
         catch_up(publisher, tally, maker);
         let receipt = publisher.put(alloc, maker.seat(), put)?;
         let Receipt { number, put, .. } = receipt;
         maker.make(tally, &publisher.history(), &Entry::put(put));
+        counts[maker.seat() as usize] = maker.count();
         Ok(number)
     }
 
     // Expires versions through a seat, which asks first, and gives the floor.
     fn expire(&mut self, alloc: Global, seat: &mut Scanner<C>, version: u64) -> Result<u64, Fault>
         requires within { Begins seat.old.log (log_of self.old.publisher) }
+        requires known { seat.old.number < length self.old.counts.items }
+        requires counted { length seat.old.made ≡ length (own seat.old.number self.old.publisher) }
         ensures answered { IsExpired result (log_of self.old.publisher) version (log_of self.new.publisher) }
         ensures expiry { ExpiresBehind result seat.old version seat.new }
         ensures made { CountsExpiry result seat.old version seat.new }
         ensures asks { AsksOnce seat.old seat.new }
+        ensures seat { seat.new.number ≡ seat.old.number }
         ensures begins { Begins seat.old.log seat.new.log }
         ensures enters { (seat.new.enters ≡ seat.old.enters) × (seat.new.entered ≡ seat.old.entered) }
     {
-        let Counting { publisher, tally } = self;
+        let Counting {
+            publisher,
+            tally,
+            counts,
+        } = self;
         let maker = &mut seat.maker;
         catch_up(publisher, tally, maker);
         let floor = publisher.expire(alloc, maker.seat(), version)?;
         maker.make(tally, &publisher.history(), &Entry::mark(version));
+        counts[maker.seat() as usize] = maker.count();
         Ok(floor)
     }
 
@@ -101,7 +151,11 @@ impl<C: CellName, R: Wait + Drop> Counting<C, R> {
         ensures none { (result.seats ≡ 0) × (result.made ≡ 0) }
         ensures each { result.each ≡ [] }
     {
-        let Counting { publisher, tally } = self;
+        let Counting {
+            publisher,
+            tally,
+            counts: _,
+        } = self;
         Gathered::new(publisher.history(), tally.none())
     }
 
@@ -114,7 +168,11 @@ impl<C: CellName, R: Wait + Drop> Counting<C, R> {
         ensures each { IfSome result (λ told. MergesAll all.old.each told) }
         ensures is_log { IfSome result (λ told. IsLog told) }
     {
-        let Counting { publisher, tally } = self;
+        let Counting {
+            publisher,
+            tally,
+            counts: _,
+        } = self;
         tally.audit(&mut all.shares);
         if all.history.begins(&publisher.history()) {
             return Some(publisher.tell());
@@ -148,17 +206,26 @@ impl<C: CellName, R: Wait + Drop> SharedPutter<C, R> {
     pub fn new(putter: Putter<C, R>) -> SharedPutter<C, R>
         requires { putter ≡ [] }
     {
-        let Putter { publisher, tally } = putter;
+        let Putter {
+            publisher,
+            tally,
+            counts,
+        } = putter;
         SharedPutter {
-            counting: Mutex::new(Counting { publisher, tally }),
+            counting: Mutex::new(Counting {
+                publisher,
+                tally,
+                counts,
+            }),
         }
     }
 
     /// Puts, lets the seat see the log behind the put, also a refused one, and gives the put's number. What the seat learns
     /// was told under the same hold of the lock. It is no enter.
     ///
-    /// The log that a put meets goes on from what its seat has seen. No seat is ever ahead of the log, so the lock is held
-    /// once; were one, it would be let go, and asked for again.
+    /// The log that a put meets goes on from what its seat has seen. No seat is ever ahead of the
+    /// log, nor has made what the log has not. So the lock is held once; else it would be let go,
+    /// and asked for again.
     ///
     /// # Errors
     ///
@@ -173,6 +240,7 @@ impl<C: CellName, R: Wait + Drop> SharedPutter<C, R> {
         ensures put { PutsBehind result seat.old (put_of put) seat.new }
         ensures made { CountsPut result seat.old (put_of put) seat.new }
         ensures asks { AsksOnce seat.old seat.new }
+        ensures seat { seat.new.number ≡ seat.old.number }
         ensures number { IfOk result (λ number. number ≡ puts_in seat.new.log) }
         ensures typed { IfOk result (λ _. IsPut (put_of put)) }
         ensures begins { Begins seat.old.log seat.new.log }
@@ -180,7 +248,7 @@ impl<C: CellName, R: Wait + Drop> SharedPutter<C, R> {
     {
         for _ in rt.forever() {
             let mut counting = self.counting.lock(rt);
-            if counting.is_ahead_of(seat) {
+            if counting.accounts_for(seat) {
                 return counting.put(alloc, seat, put);
             }
             drop(counting);
@@ -205,12 +273,13 @@ impl<C: CellName, R: Wait + Drop> SharedPutter<C, R> {
         ensures expiry { ExpiresBehind result seat.old version seat.new }
         ensures made { CountsExpiry result seat.old version seat.new }
         ensures asks { AsksOnce seat.old seat.new }
+        ensures seat { seat.new.number ≡ seat.old.number }
         ensures begins { Begins seat.old.log seat.new.log }
         ensures enters { (seat.new.enters ≡ seat.old.enters) × (seat.new.entered ≡ seat.old.entered) }
     {
         for _ in rt.forever() {
             let mut counting = self.counting.lock(rt);
-            if counting.is_ahead_of(seat) {
+            if counting.accounts_for(seat) {
                 return counting.expire(alloc, seat, version);
             }
             drop(counting);
@@ -219,39 +288,56 @@ impl<C: CellName, R: Wait + Drop> SharedPutter<C, R> {
         unreachable!()
     }
 
-    /// Lets a seat see all that was done so far. It waits for the lock, takes no memory, and is no enter. Who asks, as who puts or
-    /// expires, holds the lock once: nothing else raises the number of asks.
-    pub fn ask(&self, rt: &impl Wait, seat: &mut Scanner<C>)
+    /// Lets a seat see all that was done so far, and tells how it then rests: of all that the seat
+    /// has then seen, the entries of its number are just those that it made. It waits for the lock,
+    /// takes no memory, and is no enter. Who asks, as who puts or expires, holds the lock: nothing
+    /// else raises the number of asks.
+    ///
+    /// No seat is ever ahead of the log, nor has made what the log has not. So the lock is held
+    /// once; else it would be let go, and asked for again.
+    pub fn ask(&self, rt: &impl Wait, seat: &mut Scanner<C>) -> Rest
         ensures asks { AsksOnce seat.old seat.new }
         ensures begins { Begins seat.old.log seat.new.log }
         ensures made { MakesNone seat.old seat.new }
+        ensures seat { seat.new.number ≡ seat.old.number }
         ensures enters { (seat.new.enters ≡ seat.old.enters) × (seat.new.entered ≡ seat.old.entered) }
+        ensures rest { IsRestOf result C.book seat.new }
     {
-        self.counting.lock(rt).ask(seat);
+        for _ in rt.forever() {
+            let mut counting = self.counting.lock(rt);
+            if counting.accounts_for(seat) {
+                return counting.ask(seat);
+            }
+            drop(counting);
+            thread::yield_now();
+        }
+        unreachable!()
     }
 
-    /// No seat yet, with the log so far.
-    pub fn gather(&self, rt: &impl Wait) -> Gathered<C>
+    /// No seat yet, with the log so far. Nobody else has the putter then: it takes no lock.
+    pub fn gather(&mut self) -> Gathered<C>
         ensures none { (result.seats ≡ 0) × (result.made ≡ 0) }
         ensures each { result.each ≡ [] }
     {
-        self.counting.lock(rt).gather()
+        self.counting.get_mut().gather()
     }
 
     /// The whole log, where all seats of the cell are done with: it goes on from all that they had seen, and is made up of the
-    /// entries that were made through each.
+    /// entries that were made through each. The putter ends with it.
     ///
-    /// No seat is ever ahead of the log, so the lock is held once; were one, it would be let go, and asked for again.
-    pub fn whole_log(&self, rt: &impl Wait, all: Gathered<C>) -> Told<C>
+    /// No seat is ever ahead of the log, so it is looked at once; were one, this would never end.
+    pub fn whole_log(self, rt: &impl Wait, all: Gathered<C>) -> Told<C>
         requires { all.seats ≡ C.parts }
         ensures begins { Begins all.log result }
         ensures counted { length result ≡ all.made }
         ensures each { MergesAll all.each result }
         ensures is_log { IsLog result }
     {
+        let SharedPutter { counting } = self;
+        let mut counting = counting.into_inner();
         let mut all = all;
         for _ in rt.forever() {
-            if let Some(whole) = self.counting.lock(rt).whole(&mut all) {
+            if let Some(whole) = counting.whole(&mut all) {
                 return whole;
             }
             thread::yield_now();

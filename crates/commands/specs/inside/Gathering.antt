@@ -3,14 +3,17 @@ use Rattle.std.specs.Prelude.{◌≡◌, ◌⊎◌, ◌<◌, ℕ, ◌+◌, lengt
 use Rattle.atomic_table.specs.Seated.{TableId}
 use Rattle.scan_base.specs.declared.fault.Fault.{Fault}
 use Rattle.version_log.specs.Log.{Log, Begins}
+use Rattle.logbook.specs.Pages.{Book}
+use Rattle.version_cell.specs.Rests.{RestAt}
 use Rattle.version_cell.specs.Seats as cell
 use Rattle.flight_calls.specs.declared.setting.Options.{Options}
 use Rattle.flight_core.specs.Seats.{Seat, seat_of}
 use Rattle.shared_calls.specs.Sharing.{onward, seat_at}
 use Rattle.connection_turns.specs.Drawers.{DrawerAt, drawer_at}
-use Rattle.command_ends.specs.Network.{Ends}
+use Rattle.command_ends.specs.Network.{Accepting, Ends}
 use Rattle.commands.specs.declared.crew.Hired as declared
 use Rattle.commands.specs.Port.{IsFresh}
+use Rattle.commands.specs.Shown.{IsNewSeat}
 use Rattle.commands.specs.Serve.{Pays, Work, Worker, ServesUpTo, drawn_by, first_fault, made_by, made_by_each, worker_of}
 
 -- a worker's seat of the cell, which is always there between two connections
@@ -32,15 +35,22 @@ work_of hired = record { worker = state_of hired; drawn = hired.drawer.drawn; re
 abbrev pub IsNew : {L : Type 0} → TableId → HiredWorker L → Type 0
 IsNew name hired = IsSome hired.scanner × (hired.drawer ≡ drawer_at name 1 0 0)
 
--- its listener hears this port, and no connection that it gave is open
-abbrev pub IsAtRest : {L : Type 0} → (L → Type 0) → (L → ℕ) → ℕ → HiredWorker L → Type 0
-IsAtRest at_rest port_of port hired = at_rest hired.listener × (port_of hired.listener ≡ port)
+-- Its listener hears this port, and no connection that it gave is open. It may be shown the seats of the cell with this book, of one
+-- that was new.
+pub record IsAtRest {L : Type 0} (at_rest : L → Type 0) (port_of : L → ℕ) (rests known : L → RestAt → Type 0) (port : ℕ) (book : Book)
+    (hired : HiredWorker L) : Type 0 where
+  pub free : at_rest hired.listener
+  pub port : port_of hired.listener ≡ port
+  pub rests : (new : RestAt) → IsNewSeat new → rests hired.listener new
+  pub knows : (shown : RestAt) → shown.book ≡ book → known hired.listener shown
 
--- it may serve: it is new, its listener may accept, and what is owed for a connection is that it is served
-pub record MayServe {L : Type 0} (at_rest : L → Type 0) (port_of : L → ℕ) (owed : Ends → Ends → Type 0) (options : Options) (port : ℕ) (name : TableId)
+-- it may serve: it is new, its listener may accept, its seat has seen nothing, and what is owed for a connection is that it is served
+pub record MayServe {L : Type 0} (at_rest : L → Type 0) (port_of : L → ℕ) (rests known : L → RestAt → Type 0)
+    (owed : RestAt → Ends → Ends → RestAt → Type 0) (options : Options) (port : ℕ) (book : Book) (name : TableId)
     (hired : HiredWorker L) : Type 0 where
   pub new : IsNew name hired
-  pub may : IsAtRest at_rest port_of port hired
+  pub may : IsAtRest at_rest port_of rests known port book hired
+  pub fresh : seat_in hired.scanner ≡ seat_of [] 0
   pub pays : Pays onward options owed
 
 -- where it ended well, it was told that no turn is left
@@ -49,7 +59,7 @@ HasDrawn name hired =
     IsSome hired.scanner × (hired.drawer.name ≡ name) × (hired.drawer.parts ≡ 1) × IfOk hired.served (λ _. 0 < hired.drawer.ended)
 
 -- a worker served the connections that it drew
-pub record HasWorked {L : Type 0} (accepts : L → Option Ends → L → Type 0) (options : Options) (name : TableId)
+pub record HasWorked {L : Type 0} (accepts : Accepting L) (options : Options) (name : TableId)
     (old new : HiredWorker L) : Type 0 where
   pub serves : ServesUpTo accepts onward options new.drawer.drawn new.served (state_of old) (state_of new)
   pub drawn : HasDrawn name new
@@ -75,11 +85,12 @@ pub record Gathered {L : Type 0} (all left : List (HiredWorker L)) (seats : cell
   pub ended : (0 < hub.ended) ⊎ All (λ work. IsErr work.result) (map work_of done)
 
 -- workers were made for the seats that were taken, and the first drawer has a part for each that is left
-pub record Begun {L : Type 0} (shares : L → Option L → Type 0) (at_rest : L → Type 0) (port_of : L → ℕ) (heard : L) (name : TableId)
-    (hub : DrawerAt) (workers : List (HiredWorker L)) (left : List cell.Seat) (count : ℕ) : Type 0 where
+pub record Begun {L : Type 0} (shares : L → Option L → Type 0) (at_rest : L → Type 0) (port_of : L → ℕ) (rests known : L → RestAt → Type 0)
+    (heard : L) (book : Book) (name : TableId) (hub : DrawerAt) (workers : List (HiredWorker L)) (left : List cell.Seat) (count : ℕ)
+    : Type 0 where
   pub counted : length workers + length left ≡ count
   pub fresh : All (λ hired. IsFresh shares heard (state_of hired)) workers
   pub new : All (IsNew name) workers
-  pub may : All (IsAtRest at_rest port_of (port_of heard)) workers
-  pub seats : All (λ found. found ≡ cell.seat [] [] 0 []) left
+  pub may : All (IsAtRest at_rest port_of rests known (port_of heard) book) workers
+  pub seats : All (λ found. found ≡ cell.seat found.number [] [] 0 []) left
   pub parts : hub ≡ drawer_at name (length left + 1) 0 0

@@ -9,7 +9,7 @@ pub returns : goal.returns
 returns g c =
     let each = rw c.as_mut_slice.ensures.value at c.work_side_by_side.ensures in
     let f = c.first_of-first.ensures in
-    all_served (AcceptsThenCloses g.L.Listen.accepts g.L.Listen.closes) c.args.crew.now.service.options c.args.crew.now.service.turns.now.name c.args.crew.now.service.turns.now.most c.whole_log.result
+    all_served (AcceptsThenCloses g.L.Listen.accepts g.L.Listen.closes) c.args.service.options c.args.service.turns.now.name c.args.service.turns.now.most c.whole_log.result
     c.args.workers.items c.work_side_by_side.new.workers _ c.first_of-first.result.0
     (written c.args.workers.items c.work_side_by_side.new.workers c.args.workers.len (search rules) (search rules)) (search rules) each
     c.first_of-first.result.1.log f.within c.whole_log.ensures.begins c.whole_log.ensures.is_log (search rules)

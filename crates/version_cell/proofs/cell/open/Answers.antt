@@ -7,5 +7,5 @@ use Rattle.version_cell.proofs.cell.open.Goals as goal
 first_index_is : (index : IndexAt) → index ≡ index_at 0 ([] ∷ []) → IsIndexOf index []
 first_index_is index is = rw is first_index
 
-pub invariant_of-result : goal.invariant_of-result
-invariant_of-result c = search (rules, first_index_is)
+pub invariant_of-result-2 : goal.invariant_of-result-2
+invariant_of-result-2 c = search (rules, first_index_is)

@@ -1,7 +1,23 @@
-use Rattle.std.proofs.Common.{◌≡◌, ◌++◌, ◌∷◌, ◌^◌, [], rules}
-use Rattle.version_cell.specs.Signed.{signed}
-use Rattle.version_cell.proofs.Parts.{among_made, one_counted}
+use Rattle.std.proofs.Common.{◌≡◌, ◌++◌, ◌∷◌, ◌^◌, [], length, ap, arith, length-append, rules}
+use Rattle.version_cell.specs.Signed.{MakerAt, signed}
+use Rattle.version_cell.proofs.Parts.{among_made, few_made, one_counted}
 use Rattle.version_cell.proofs.maker.Maker.make.Goals as goal
+
+pub overflow_add-self : goal.overflow_add-self
+overflow_add-self g c =
+    let seen = c.self.inside.history.seen.log in
+    let mine : seen ≡ c.args.self.now.seen = ap (λ (m : MakerAt). m.seen) c.self.view_is in
+    record {
+      fits = omega (
+        arith,
+        c.self.invariant.3,
+        few_made c.self.inside.seat c.self.inside.made.value.entries seen c.self.invariant.2,
+        ap length mine,
+        ap length c.requires.behind,
+        length-append c.args.self.now.seen (signed c.args.self.now.seat c.args.entry.now ∷ []),
+        c.requires.few,
+      );
+    }
 
 pub invariant_of-self : goal.invariant_of-self
 invariant_of-self g c =
@@ -13,4 +29,6 @@ invariant_of-self g c =
       search rules,
       one_counted c.self.inside.shares c.count.new.shares made c.with.result.value.entries c.args.entry.now (2 ^ seat) c.self.invariant.1 c.count.ensures.shares last,
       among_made seat made c.with.result.value.entries seen c.again.result.seen.log c.args.entry.now c.self.invariant.2 log last,
+      omega (arith, c.self.invariant.3, ap length last, length-append made (c.args.entry.now ∷ [])),
+      search rules,
     )

@@ -1,9 +1,18 @@
 use Rattle.std.proofs.Common.{rules}
+use Rattle.version_log.specs.Log.{expired}
+use Rattle.version_cell.proofs.Counts.{counted_more}
 use Rattle.version_cell.proofs.Logs.{longer_by_one}
 use Rattle.version_cell.proofs.shared.Counting.expire.Goals as goal
 
+pub invariant_of-self : goal.invariant_of-self
+invariant_of-self g c = record { counted = search rules; each = rw c.in_err-floor.ensures.added c.args.self.now.each }
+
 pub invariant_of-self-2 : goal.invariant_of-self-2
-invariant_of-self-2 g c = record { counted = longer_by_one _ _ _ _ _ c.in_ok-floor.ensures.added c.args.self.now.counted (search rules) }
+invariant_of-self-2 g c = record {
+  counted = longer_by_one _ _ _ _ _ c.in_ok-floor.ensures.added c.args.self.now.counted (search rules);
+  each = counted_more _ c.args.self.now.publisher _ _ _ (expired c.args.version) c.args.seat.now.made c.make-2.new.self.made c.args.self.now.each
+      (search rules) (search rules) (search rules) (search rules) (search rules);
+}
 
 pub returns-clause-answered : goal.returns-clause-answered
 returns-clause-answered g c = c.in_ok-floor.ensures.answered

@@ -1,8 +1,10 @@
 use Rattle.std.proofs.Common.{Ok, rules}
 use Rattle.std.proofs.lemmas.Result.{err_from_is_err_and}
 use Rattle.table_versions.specs.Stored.{put_of}
+use Rattle.version_log.specs.Log.{added}
 use Rattle.version_cell.specs.Signed.{log_of}
 use Rattle.version_cell.proofs.Answering.{accepted_behind, refused_behind}
+use Rattle.version_cell.proofs.Counts.{counted_more}
 use Rattle.version_cell.proofs.Fronts.{begun_behind}
 use Rattle.version_cell.proofs.Logs.{longer_by_one}
 use Rattle.version_cell.proofs.shared.Counting.put.Goals as goal
@@ -13,8 +15,15 @@ returns-in_err-receipt-clause-put g c =
     rw (p.1, p.2)
     (refused_behind _ _ _ _ _ (put_of c.args.put) (log_of c.args.self.now.publisher) _ c.requires.within c.in_err-receipt.ensures.answered c.in_err-receipt.ensures.first (search rules))
 
+pub invariant_of-self : goal.invariant_of-self
+invariant_of-self g c = record { counted = search rules; each = rw c.in_err-receipt.ensures.added c.args.self.now.each }
+
 pub invariant_of-self-2 : goal.invariant_of-self-2
-invariant_of-self-2 g c = record { counted = longer_by_one _ _ _ _ _ c.in_ok-receipt.ensures.added c.args.self.now.counted (search rules) }
+invariant_of-self-2 g c = record {
+  counted = longer_by_one _ _ _ _ _ c.in_ok-receipt.ensures.added c.args.self.now.counted (search rules);
+  each = counted_more _ c.args.self.now.publisher _ _ _ (added (put_of c.args.put)) c.args.seat.now.made c.make-2.new.self.made c.args.self.now.each
+      (search rules) (search rules) (search rules) (search rules) (search rules);
+}
 
 pub returns-clause-answered : goal.returns-clause-answered
 returns-clause-answered g c = c.in_ok-receipt.ensures.answered
