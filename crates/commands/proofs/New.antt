@@ -40,10 +40,10 @@ taken_so {L} accepts options (Took listener its found end ∷ all) (suc more) re
     let so : found ≡ served = cc (same_some e) in
     let same : end ≡ last = cc (same_some e) in
     let it : IsTakenSo accepts options found end
-    = record { before = old.listener; behind = listener; ends = its; seat = s.2.start; took = s.0; serves = s.2.serves } in
+    = record { before = old.listener; behind = listener; ends = its; seat = s.1.1.start; took = s.0; serves = s.1.1.serves } in
     rw (so, same) at it
 taken_so {L} accepts options (Took listener its found end ∷ all) (suc more) result old new (suc place) at ends served last s e =
-    taken_so accepts options all more result (worker_of listener s.1) new place at ends served last s.3 e
+    taken_so accepts options all more result (worker_of listener s.1.0) new place at ends served last s.1.2 e
 
 pub taken_whole : {L : Type 0} (accepts : Accepting L) (closes : L → L → Type 0) → TakenAreWhole accepts closes
 taken_whole {L} accepts closes gives options history result last t =

@@ -1,5 +1,5 @@
 -- The history of a server has the entries that its connections' calls tell of.
-use Rattle.std.proofs.Common.{◌≡◌, ◌∙◌, inl, inr, ℕ, zero, suc, List, [], ◌∷◌, ◌++◌, map, All, Option, Some, None, Result, Ok, Err, ap, sym, refl, subst, append-nil, append_assoc}
+use Rattle.std.proofs.Common.{◌≡◌, ◌≢◌, ◌⊎◌, ◌∙◌, inl, inr, ℕ, zero, suc, List, [], ◌∷◌, ◌++◌, map, All, Option, Some, None, Result, Ok, Err, ap, sym, refl, subst, append-nil, append_assoc}
 use Rattle.std.proofs.lemmas.Grind.{flat_map-append}
 use Rattle.std.proofs.lemmas.List.Elements.{All-head, All-tail}
 use Rattle.scan_base.specs.declared.fault.Fault.{Fault}
@@ -9,20 +9,24 @@ use Rattle.version_log.specs.Log.{Log, added, expired, puts_of}
 use Rattle.version_log.proofs.Logs.{puts_of-append}
 use Rattle.version_cell.specs.Merges.{Merges, MergesAll}
 use Rattle.flight_proto.specs.Expiry.{expiry_bytes, expiry_of}
+use Rattle.flight_info.specs.Payloads.{Payload}
 use Rattle.flight_info.specs.Replies.{ReplyAt}
 use Rattle.flight_core.specs.Asked.{Asked}
+use Rattle.flight_core.specs.Machine.{PutStep, ReplyTo}
+use Rattle.flight_core.specs.Puts.{put_said}
 use Rattle.flight_calls.specs.Calls.{Call, asked_by}
 use Rattle.flight_calls.specs.declared.setting.Options.{Options}
 use Rattle.flight_calls.specs.Exchanges.{Exchange, exchanges_of, IsOwn, WithOwn}
-use Rattle.flight_calls.specs.Laws.{entries_in, entries_of, marked_by}
+use Rattle.flight_calls.specs.Laws.{accepted_by, entries_in, entries_of, marked_by}
+use Rattle.flight_calls.specs.Responds.{Answers}
 use Rattle.flight_core.specs.Seats.{Moves, Seat}
 use Rattle.flight_calls.proofs.Exchanging.{asks_nothing}
 use Rattle.flight_calls.proofs.Making.{puts_made}
 use Rattle.shared_calls.specs.Sharing.{onward}
 use Rattle.command_ends.specs.Network.{Accepting}
 use Rattle.commands.specs.Port.{IsFresh}
-use Rattle.commands.specs.Serve.{Accept, AsksOthers, Broke, Failed, Took, Work, Worker, IsPartOf, ServesInTurn, ServesSideBySide, made_by_each, worker_of}
-use Rattle.commands.specs.Told.{told_in_turn, told_by, told_by_each, unmarked, WorkersMakeWhatIsTold, HistoryIsTold, PutsAreTold}
+use Rattle.commands.specs.Serve.{Accept, Broke, Failed, Took, Work, Worker, IsPartOf, ServesInTurn, made_by_each, worker_of}
+use Rattle.commands.specs.Told.{told_in_turn, told_by, told_by_each, unmarked, IsMarked, IsOwnMark, HistoryIsMarked, WorkersMakeWhatIsTold, HistoryIsTold, PutsAreTold}
 
 -- nothing is made where nothing more is served
 nothing_more : {L : Type 0} (old new : Worker L) → new ≡ old → new.seat.made ≡ old.seat.made ++ []
@@ -44,15 +48,15 @@ turns_make {L} accepts moves options (Broke listener ∷ all) zero result old ne
 turns_make {L} accepts moves options (Broke listener ∷ all) (suc more) result old new s kept = nothing_more (worker_of listener old.seat) new s.4
 turns_make {L} accepts moves options (Took listener ends served last ∷ all) zero result old new s kept = absurd s
 turns_make {L} accepts moves options (Took listener ends served last ∷ all) (suc more) result old new s kept =
-    let turn = s.2 in
+    let turn = s.1.1 in
     let serves = turn.serves in
     let here : Log = entries_in (exchanges_of options serves.calls serves.replies) in
-    let rest : Log = told_in_turn accepts moves options all more result (worker_of listener s.1) new s.3 in
+    let rest : Log = told_in_turn accepts moves options all more result (worker_of listener s.1.0) new s.1.2 in
     let made = puts_made moves options turn.start last.seat serves.calls serves.replies serves.answers in
     let same : made.0 ≡ exchanges_of options serves.calls serves.replies = asks_nothing options serves.calls serves.replies made.0 kept made.1 in
     let served : last.seat.made ≡ turn.start.made ++ here = made.2 ∙ ap (λ (l : List Exchange). turn.start.made ++ entries_in l) same in
-    let first : s.1.made ≡ old.seat.made ++ here = turn.learnt.0.1 ∙ (served ∙ ap (λ (l : Log). l ++ here) turn.asked.0.1) in
-    turns_make accepts moves options all more result (worker_of listener s.1) new s.3 kept
+    let first : s.1.0.made ≡ old.seat.made ++ here = turn.learnt.0.1 ∙ (served ∙ ap (λ (l : Log). l ++ here) turn.asked.0.1) in
+    turns_make accepts moves options all more result (worker_of listener s.1.0) new s.1.2 kept
     ∙ ap (λ (l : Log). l ++ rest) first ∙ append_assoc old.seat.made here rest
 
 pub workers_make : {L : Type 0} (accepts : Accepting L) → WorkersMakeWhatIsTold accepts
@@ -110,17 +114,17 @@ turns_put {L} accepts moves options (Broke listener ∷ all) zero result old new
 turns_put {L} accepts moves options (Broke listener ∷ all) (suc more) result old new s = nothing_put (worker_of listener old.seat) new s.4
 turns_put {L} accepts moves options (Took listener ends served last ∷ all) zero result old new s = absurd s
 turns_put {L} accepts moves options (Took listener ends served last ∷ all) (suc more) result old new s =
-    let turn = s.2 in
+    let turn = s.1.1 in
     let serves = turn.serves in
     let here : Log = entries_in (exchanges_of options serves.calls serves.replies) in
-    let rest : Log = told_in_turn accepts moves options all more result (worker_of listener s.1) new s.3 in
+    let rest : Log = told_in_turn accepts moves options all more result (worker_of listener s.1.0) new s.1.2 in
     let made = puts_made moves options turn.start last.seat serves.calls serves.replies serves.answers in
     let served : puts_of last.seat.made ≡ puts_of turn.start.made ++ puts_of here
     = ap puts_of made.2 ∙ puts_of-append turn.start.made (entries_in made.0)
     ∙ ap (λ (l : List Put). puts_of turn.start.made ++ l) (puts_told options serves.calls serves.replies made.0 made.1) in
-    let first : puts_of s.1.made ≡ puts_of old.seat.made ++ puts_of here
+    let first : puts_of s.1.0.made ≡ puts_of old.seat.made ++ puts_of here
     = ap puts_of turn.learnt.0.1 ∙ (served ∙ ap (λ (l : Log). puts_of l ++ puts_of here) turn.asked.0.1) in
-    turns_put accepts moves options all more result (worker_of listener s.1) new s.3
+    turns_put accepts moves options all more result (worker_of listener s.1.0) new s.1.2
     ∙ ap (λ (l : List Put). l ++ puts_of rest) first ∙ append_assoc (puts_of old.seat.made) (puts_of here) (puts_of rest)
     ∙ ap (λ (l : List Put). puts_of old.seat.made ++ l) (sym (puts_of-append here rest))
 
@@ -186,3 +190,120 @@ pub puts_are_told : {L : Type 0} (accepts : Accepting L) (shares : L → Option 
 puts_are_told {L} accepts shares options most heard workers result served fresh =
     subst (λ (each : List Log). MergesAll each (unmarked served.history)) (all_put accepts shares options served.history heard workers served.ends served.served fresh)
     (all_unmarked (made_by_each served.ends) served.history served.own)
+
+-- ---- puts with the marks that a server asks of itself
+
+own_mark : (keep : ℕ) → keep ≢ 0 → (told : Option Fault) (read : Result ℕ Fault) → IsOwnMark keep (marked_by told read)
+own_mark keep keeps None (Ok version) = inr (version, keeps, refl)
+own_mark keep keeps None (Err fault) = inl refl
+own_mark keep keeps (Some fault) read = inl refl
+
+-- entries that are told of and made, before others
+before_marked : (keep : ℕ) (first told made : Log) → IsMarked keep told made → IsMarked keep (first ++ told) (first ++ made)
+before_marked keep [] told made are = are
+before_marked keep (added put ∷ first) told made are = ([], first ++ made, inl refl, before_marked keep first told made are, refl)
+before_marked keep (expired version ∷ first) told made are = (first ++ made, before_marked keep first told made are, refl)
+
+marked_append : (keep : ℕ) (told made more rest : Log) → IsMarked keep told made → IsMarked keep more rest → IsMarked keep (told ++ more) (made ++ rest)
+marked_append keep [] made more rest are others = subst (λ (l : Log). IsMarked keep more (l ++ rest)) (sym are) others
+marked_append keep (added put ∷ told) made more rest are others = (
+  are.0,
+  are.1 ++ rest,
+  are.2,
+  marked_append keep told are.1 more rest are.3 others,
+  ap (λ (l : Log). l ++ rest) are.4 ∙ ap (λ (l : Log). added put ∷ l) (append_assoc are.0 are.1 rest),
+)
+marked_append keep (expired version ∷ told) made more rest are others =
+    (are.0 ++ rest, marked_append keep told are.0 more rest are.1 others, ap (λ (l : Log). l ++ rest) are.2)
+
+-- a reply that accepts a put tells of it
+accepted_put : (payloads answers : List Payload) (log after : Log) (fault : Option Fault) → fault ≡ None → PutStep log payloads answers fault after
+    → (said : Put) × (accepted_by fault (put_said payloads) ≡ added said ∷ [])
+accepted_put payloads answers log after None same step = (step.0, ap (accepted_by None) step.1)
+accepted_put payloads answers log after (Some fault) same step = absurd cc
+
+-- a call, and what the server asks of itself behind it
+call_marked : (keep : ℕ) (asked : Result Asked Fault) (log after : Log) (reply : ReplyAt) (own : List Exchange) (told made : Log)
+    → ReplyTo asked log reply after → IsOwn keep asked reply own → IsMarked keep told made
+    → IsMarked keep (entries_of asked reply ++ told) (entries_of asked reply ++ (entries_in own ++ made))
+call_marked keep asked log after reply own told made step (inl none) are =
+    let first : Log = entries_of asked reply in
+    subst (λ (all : List Exchange). IsMarked keep (first ++ told) (first ++ (entries_in all ++ made))) (sym none) (before_marked keep first told made are)
+call_marked keep asked log after reply own told made step (inr one) are =
+    let at : PutStep log one.payloads reply.payloads reply.fault after = subst (λ (it : Result Asked Fault). ReplyTo it log reply after) one.puts step in
+    let accepted = accepted_put one.payloads reply.payloads log after reply.fault one.accepted at in
+    let first : entries_of asked reply ≡ added accepted.0 ∷ [] = ap (λ (it : Result Asked Fault). entries_of it reply) one.puts ∙ accepted.1 in
+    let mark : Log = marked_by one.untold.fault (expiry_of (expiry_bytes one.version)) in
+    let alone : entries_in own ≡ mark = ap entries_in one.alone ∙ append-nil mark in
+    let is : IsOwnMark keep (entries_in own)
+    = subst (λ (l : Log). IsOwnMark keep l) (sym alone) (own_mark keep one.keeps one.untold.fault (expiry_of (expiry_bytes one.version))) in
+    subst (λ (l : Log). IsMarked keep (l ++ told) (l ++ (entries_in own ++ made))) (sym first) (entries_in own, made, is, are, refl)
+
+calls_marked : (moves : Moves) (options : Options) (old new : Seat) (calls : List Call) (replies : List ReplyAt) (all : List Exchange)
+    → Answers moves options old calls replies new → WithOwn options calls replies all
+    → IsMarked options.keep (entries_in (exchanges_of options calls replies)) (entries_in all)
+calls_marked moves options old new [] [] all answers are = ap entries_in are
+calls_marked moves options old new [] (reply ∷ replies) all answers are = absurd are
+calls_marked moves options old new (call ∷ calls) [] all answers are = absurd are
+calls_marked moves options old new (call ∷ calls) (reply ∷ replies) all answers are =
+    let asked : Result Asked Fault = asked_by options call in
+    let first : Log = entries_of asked reply in
+    let told : Log = entries_in (exchanges_of options calls replies) in
+    let same : entries_in all ≡ first ++ (entries_in are.0 ++ entries_in are.1)
+    = ap entries_in are.4 ∙ ap (λ (l : Log). first ++ l) (entries_append are.0 are.1) in
+    let reacts = answers.1.reacts in
+    let rest : IsMarked options.keep told (entries_in are.1) = calls_marked moves options answers.0 new calls replies are.1 answers.2 are.3 in
+    subst (λ (l : Log). IsMarked options.keep (first ++ told) l) (sym same)
+    (call_marked options.keep asked reacts.log reacts.after reply are.0 told (entries_in are.1) reacts.step are.2 rest)
+
+-- what connections make, one after the other
+turns_marked : {L : Type 0} (accepts : Accepting L) (moves : Moves) (options : Options) (all : List (Accept L)) (more : ℕ) (result : Result (Unit {0}) Fault) (old new : Worker L)
+    (s : ServesInTurn accepts moves options all more result old new)
+    → (made : Log) × (new.seat.made ≡ old.seat.made ++ made) × IsMarked options.keep (told_in_turn accepts moves options all more result old new s) made
+turns_marked {L} accepts moves options [] zero result old new s = ([], nothing_more old new s.1, refl)
+turns_marked {L} accepts moves options [] (suc more) result old new s = absurd s
+turns_marked {L} accepts moves options (Failed listener ∷ all) zero result old new s = absurd s
+turns_marked {L} accepts moves options (Failed listener ∷ all) (suc more) result old new s =
+    turns_marked accepts moves options all (suc more) result (worker_of listener old.seat) new s.1
+turns_marked {L} accepts moves options (Broke listener ∷ all) zero result old new s = absurd s
+turns_marked {L} accepts moves options (Broke listener ∷ all) (suc more) result old new s = ([], nothing_more (worker_of listener old.seat) new s.4, refl)
+turns_marked {L} accepts moves options (Took listener ends served last ∷ all) zero result old new s = absurd s
+turns_marked {L} accepts moves options (Took listener ends served last ∷ all) (suc more) result old new s =
+    let turn = s.1.1 in
+    let serves = turn.serves in
+    let told : Log = entries_in (exchanges_of options serves.calls serves.replies) in
+    let made = puts_made moves options turn.start last.seat serves.calls serves.replies serves.answers in
+    let here : Log = entries_in made.0 in
+    let first : s.1.0.made ≡ old.seat.made ++ here = turn.learnt.0.1 ∙ (made.2 ∙ ap (λ (l : Log). l ++ here) turn.asked.0.1) in
+    let rest = turns_marked accepts moves options all more result (worker_of listener s.1.0) new s.1.2 in
+    let others : Log = told_in_turn accepts moves options all more result (worker_of listener s.1.0) new s.1.2 in (
+      here ++ rest.0,
+      rest.1 ∙ ap (λ (l : Log). l ++ rest.0) first ∙ append_assoc old.seat.made here rest.0,
+      marked_append options.keep told here others rest.0
+      (calls_marked moves options turn.start last.seat serves.calls serves.replies made.0 serves.answers made.1) rest.2,
+    )
+
+-- so workers that are new made what is told of, with the marks
+all_marked : {L : Type 0} (accepts : Accepting L) (shares : L → Option L → Type 0) (options : Options) (history : Log) (heard : L) (workers : List (Worker L)) (ends : List (Work L))
+    (parts : Pairwise (IsPartOf accepts options history) workers ends) → All (IsFresh shares heard) workers
+    → Pairwise (IsMarked options.keep) (told_by_each accepts options history workers ends parts) (made_by_each ends)
+all_marked {L} accepts shares options history heard [] [] parts fresh = tt
+all_marked {L} accepts shares options history heard [] (new ∷ ends) parts fresh = absurd parts
+all_marked {L} accepts shares options history heard (old ∷ workers) [] parts fresh = absurd parts
+all_marked {L} accepts shares options history heard (old ∷ workers) (new ∷ ends) parts fresh =
+    let start : IsFresh shares heard old = All-head (IsFresh shares heard) old workers fresh in
+    let serves = parts.0.serves in
+    let told : Log = told_by accepts options history old new parts.0 in
+    let made = turns_marked accepts onward options serves.all new.drawn new.result (worker_of old.listener serves.first) new.worker serves.turns in
+    let same : new.worker.seat.made ≡ made.0
+    = made.1 ∙ (ap (λ (l : Log). l ++ made.0) serves.asked.0.1 ∙ ap (λ (seat : Seat). seat.made ++ made.0) start.1) in (
+      subst (λ (l : Log). IsMarked options.keep told l) (sym same) made.2,
+      all_marked accepts shares options history heard workers ends parts.1 (All-tail (IsFresh shares heard) old workers fresh),
+    )
+
+pub history_is_marked : {L : Type 0} (accepts : Accepting L) (shares : L → Option L → Type 0) → HistoryIsMarked accepts shares
+history_is_marked {L} accepts shares options most heard workers result served fresh = (
+  made_by_each served.ends,
+  served.own,
+  all_marked accepts shares options served.history heard workers served.ends served.served fresh,
+)

@@ -49,9 +49,9 @@ turns_keep {L} accepts moves options (Broke listener ∷ all) (suc more) result 
     begins_same old.seat.log new.seat.log (ap (λ (w : Worker L). w.seat.log) s.4)
 turns_keep {L} accepts moves options (Took listener ends served last ∷ all) zero result old new s = absurd s
 turns_keep {L} accepts moves options (Took listener ends served last ∷ all) (suc more) result old new s =
-    begins_on old.seat.log s.1.log new.seat.log
-    (next_keeps moves options old.seat ends served last s.1 s.2)
-    (turns_keep accepts moves options all more result (worker_of listener s.1) new s.3)
+    begins_on old.seat.log s.1.0.log new.seat.log
+    (next_keeps moves options old.seat ends served last s.1.0 s.1.1)
+    (turns_keep accepts moves options all more result (worker_of listener s.1.0) new s.1.2)
 
 -- so each connection has left no more than the last one
 left_within : {L : Type 0} (accepts : Accepting L) (moves : Moves) (options : Options) (all : List (Accept L)) (more : ℕ) (result : Result (Unit {0}) Fault) (old new : Worker L)
@@ -70,10 +70,10 @@ left_within {L} accepts moves options (Broke listener ∷ all) (suc more) result
 left_within {L} accepts moves options (Took listener its found end ∷ all) zero result old new place at ends served last s e = absurd s
 left_within {L} accepts moves options (Took listener its found end ∷ all) (suc more) result old new zero at ends served last s e =
     let same : end ≡ last = cc (same_some e) in
-    rw same at (begins_on end.seat.log s.1.log new.seat.log s.2.learnt.0.0
-    (turns_keep accepts moves options all more result (worker_of listener s.1) new s.3))
+    rw same at (begins_on end.seat.log s.1.0.log new.seat.log s.1.1.learnt.0.0
+    (turns_keep accepts moves options all more result (worker_of listener s.1.0) new s.1.2))
 left_within {L} accepts moves options (Took listener its found end ∷ all) (suc more) result old new (suc place) at ends served last s e =
-    left_within accepts moves options all more result (worker_of listener s.1) new place at ends served last s.3 e
+    left_within accepts moves options all more result (worker_of listener s.1.0) new place at ends served last s.1.2 e
 
 taken_within : {L : Type 0} (accepts : Accepting L) (options : Options) (history : Log) (result : Result (Unit {0}) Fault) (last : Connection)
     → Takes accepts options history result last → Begins last.seat.log history

@@ -3,7 +3,8 @@
 ghost use Rattle.commands.specs.New.{TakenAreWhole};
 ghost use Rattle.commands.specs.Serve.{AcceptsThenCloses};
 ghost use Rattle.commands.specs.Together.{ServerMeetsHeadline};
-ghost use Rattle.commands.specs.Told.{HistoryIsTold, PutsAreTold, WorkersMakeWhatIsTold};
+ghost use Rattle.commands.specs.Told.{HistoryIsMarked, HistoryIsTold};
+ghost use Rattle.commands.specs.Told.{PutsAreTold, WorkersMakeWhatIsTold};
 
 use crate::shown::ShownSeat;
 use command_ends::Listen;
@@ -34,6 +35,13 @@ pub fn workers_make_what_is_told<L: Listen<ShownSeat>>()
 /// connections tell of, in their order, and of no other: one for each put that was accepted, and one for each expiry that was done.
 pub fn history_is_told<L: Listen<ShownSeat>>()
     ensures { HistoryIsTold (AcceptsThenCloses L.accepts L.closes) L.shares }
+{}
+
+/// However many versions are kept, the history of workers that were new is made up so of the
+/// entries that calls tell of, and of no other: each put has right after it at most one mark
+/// that the server asked of itself.
+pub fn history_is_marked<L: Listen<ShownSeat>>()
+    ensures { HistoryIsMarked (AcceptsThenCloses L.accepts L.closes) L.shares }
 {}
 
 /// However many versions are kept, the puts of the history of workers that were new are made up so of those that calls tell of: one

@@ -9,6 +9,7 @@ use client_commands::query::{Querying, query};
 use client_commands::tables::tables;
 use command_ends::{Connect, Listen};
 use command_line::Format;
+use commands::shown::ShownSeat;
 use grpc_frame::{MemoryInput, MemoryOutput};
 use hash_seed::HashSeed;
 use loopback::{Loopback, Port};
@@ -186,7 +187,7 @@ where
     R: Net<Listener = TcpListener, Stream = TcpStream> + AllocGlobal + Clock,
 {
     let alloc = rt.alloc();
-    let port = Port::new(rt).listen(0, 0)?;
+    let port = Listen::<ShownSeat>::listen(&mut Port::new(rt), 0, 0)?;
     let wanted = format!(in alloc; "cannot connect to 127.0.0.1:{port}: ")?;
     let mut output = MemoryOutput::new(alloc);
     let mut faults = MemoryOutput::new(alloc);
