@@ -1,5 +1,5 @@
 -- Where the morsels are, step by step.
-use Rattle.std.proofs.Common.{◌≡◌, ◌≢◌, ◌⊎◌, inl, inr, ℕ, zero, suc, ◌+◌, ◌*◌, ◌/◌, ◌%◌, ◌<◌, ◌≤◌, List, length, map, replicate, slice_index_or, slice_set, Option, Some, None, IsSome, refl, sym, ap, ◌∙◌, subst, arith, mod-lt, mul-suc, mul-le-mul_left}
+use Rattle.std.proofs.Common.{◌≡◌, ◌≢◌, ◌⊎◌, inl, inr, ℕ, zero, suc, ◌+◌, ◌*◌, ◌/◌, ◌%◌, ◌<◌, ◌≤◌, List, ◌∷◌, length, map, replicate, slice_index_or, slice_set, Option, Some, None, IsSome, refl, sym, ap, ◌∙◌, subst, arith, mod-lt, mul-suc, mul-le-mul_left}
 use Rattle.std.proofs.Math.Nat.{mod-add-div}
 use Rattle.std.proofs.lemmas.Bool.{cases_lt, cases_order, false≢true}
 use Rattle.std.specs.Option.{option_map}
