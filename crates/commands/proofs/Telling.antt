@@ -280,7 +280,7 @@ turns_marked {L} accepts moves options (Took listener ends served last ∷ all) 
       here ++ rest.0,
       rest.1 ∙ ap (λ (l : Log). l ++ rest.0) first ∙ append_assoc old.seat.made here rest.0,
       marked_append options.keep told here others rest.0
-      (calls_marked moves options turn.start last.seat serves.calls serves.replies made.0 serves.answers made.1) rest.2,
+          (calls_marked moves options turn.start last.seat serves.calls serves.replies made.0 serves.answers made.1) rest.2,
     )
 
 -- so workers that are new made what is told of, with the marks
