@@ -5,8 +5,8 @@ use Rattle.version_log.specs.Log.{Log, expired, Begins}
 use Rattle.version_log.specs.Expiry.{IsExpired}
 use Rattle.version_cell.specs.Seats.{Seat, MakesNone}
 
--- an accepted mark that met a log is the last entry that was made through the seat, at the place behind that log, and a refused one
--- is none of them
+-- an accepted mark that met a log is the last entry that was made through the seat, at the place
+-- behind that log, and a refused one is none of them
 abbrev pub CountsExpiry : Result ℕ Fault → Seat → Log → ℕ → Seat → Type 0
 CountsExpiry (Ok floor) old log version new = new.made ≡ old.made ++ (length log, expired version) ∷ []
 CountsExpiry (Err fault) old log version new = MakesNone old new

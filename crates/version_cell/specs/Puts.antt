@@ -17,8 +17,8 @@ abbrev pub IsAnswered : {X : Type 0} → Result X Fault → Log → Put → Log 
 IsAnswered (Ok receipt) log put next = (next ≡ log ++ added put ∷ []) × IsOk (after_log log put)
 IsAnswered (Err fault) log put next = (next ≡ log) × (fault ≢ OutOfMemory → after_log log put ≡ Err fault)
 
--- an accepted put that met a log is the last entry that was made through the seat, at the place behind that log, and a refused one
--- is none of them
+-- an accepted put that met a log is the last entry that was made through the seat, at the place
+-- behind that log, and a refused one is none of them
 abbrev pub CountsPut : {X : Type 0} → Result X Fault → Seat → Log → Put → Seat → Type 0
 CountsPut (Ok done) old log put new = new.made ≡ old.made ++ (length log, added put) ∷ []
 CountsPut (Err fault) old log put new = MakesNone old new

@@ -20,7 +20,8 @@ log_of entries = map (λ (s : Signed). s.entry) entries
 -- the entries of one seat among these, each of which stands behind its place
 abbrev pub own_of : ℕ → List (ℕ × Signed) → List Placed
 own_of seat [] = []
-own_of seat (at ∷ more) = if at.1.seat == seat then (at.0, at.1.entry) ∷ own_of seat more else own_of seat more
+own_of seat (at ∷ more) =
+    if at.1.seat == seat then (at.0, at.1.entry) ∷ own_of seat more else own_of seat more
 
 -- the entries of one seat, each with its place in the log
 abbrev pub own : ℕ → List Signed → List Placed
@@ -36,8 +37,8 @@ IsAmong {X} some all = (rest : List X) × Merges some rest all
 
 -- ---- a maker
 
--- the part of a seat through which entries are made: its number, what it has seen, what was made, each entry with its place in the
--- log, and its asks
+-- the part of a seat through which entries are made: its number, what it has seen, what was made,
+-- each entry with its place in the log, and its asks
 pub record MakerAt : Type 0 where
   pub seat : ℕ
   pub seen : List Signed
@@ -56,7 +57,8 @@ pub record Learns (old : MakerAt) (log : List Signed) (asks : ℕ) (new : MakerA
 
 -- ---- seats that are done with
 
--- a seat that is done with: its number, and the entries that were made through it, each with its place in the log
+-- a seat that is done with: its number, and the entries that were made through it, each with its
+-- place in the log
 pub record Part : Type 0 where
   pub seat : ℕ
   pub made : List Placed

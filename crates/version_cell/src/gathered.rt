@@ -15,8 +15,8 @@ use std::marker::Model;
 use std::mem;
 use std::snapshot::Snapshot;
 
-// Seats one by one: the number of each, and the entries that were made through it, with their places in the log. Contracts
-// alone see them, by snapshots, which take no memory.
+// Seats one by one: the number of each, and the entries that were made through it, with their places
+// in the log. Contracts alone see them, by snapshots, which take no memory.
 #[derive(Drop)]
 pub(crate) struct Parts {
     before: Option<Snapshot<Parts>>,

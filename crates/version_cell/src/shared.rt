@@ -320,7 +320,8 @@ impl<C: CellName, R: Wait + Drop> SharedPutter<C, R> {
     }
 
     /// The whole log, where all seats of the cell are done with: it goes on from all that they had seen, and is made up of the
-    /// entries that were made through each, at the places where these were made. So each place is one seat's. The putter ends with it.
+    /// entries that were made through each, at the places where these were made. So each place is of
+    /// one seat. The putter ends with it.
     ///
     /// No seat is ever ahead of the log, so it is looked at once; were one, this would never end.
     pub fn whole_log(self, rt: &impl Wait, all: Gathered<C>) -> Told<C>
