@@ -44,7 +44,7 @@ pub trait Connect {
 /// Each other one is taken when the one before it was served as it is owed, and is closed. It is shown the seat at each accept and
 /// at each closing: so what was done for it is one chain, from a seat that had seen nothing, without an end.
 pub trait Listen<K: Known> {
-    ghost use Rattle.std.specs.Prelude.{◌≡◌, ℕ, Option, Some, None, Result, Ok, Err, IfErr, IfOk};
+    ghost use Rattle.std.specs.Prelude.{◌≡◌, ◌+◌, ℕ, Option, Some, None, Result, Ok, Err, IfErr, IfOk};
     ghost use Rattle.command_ends.specs.Network.{Accepting, Ends, ends_of};
 
     /// What comes from a client.
@@ -58,7 +58,10 @@ pub trait Listen<K: Known> {
     ghost listens: { Self → ℕ → ℕ → Option ℕ → Self → Type 0 };
 
     // What came of asking for another listener to the same port: this one, or none.
-    ghost shares: { Self → Option Self → Type 0 };
+    ghost shares: { Self → Option Self → Self → Type 0 };
+
+    // How many further listeners it gave.
+    ghost handed: { Self → ℕ };
 
     // What came of an accept: a connection of these ends, or why there is none.
     ghost accepts: { Accepting Self };
@@ -96,21 +99,31 @@ pub trait Listen<K: Known> {
         ensures refused { IfErr result (λ _. listens self.old port idle None self.new) }
         ensures port { IfOk result (λ heard. port_of self.new ≡ heard) }
         ensures at_rest { IfOk result (λ _. at_rest self.new) }
+        ensures handed { handed self.new ≡ handed self.old }
         ensures cell { (seat : K) → cell self.old seat → cell self.new seat };
 
-    /// Another listener to the same port, for a seat of the same cell that has seen nothing: a connection to the port is taken by
-    /// one of the two. It gave none yet.
+    /// Another listener to the same port, for a seat of the same cell that has seen nothing: a
+    /// connection to the port is taken by one of the two. It gave no connection and no listener
+    /// yet. This listener counts it, and stays else as it was.
     ///
     /// # Errors
     ///
-    /// The system's.
-    fn share(&self) -> io::Result<Self>
-        ensures made { IfOk result (λ other. shares self.now (Some other)) }
-        ensures refused { IfErr result (λ _. shares self.now None) }
-        ensures port { IfOk result (λ other. port_of other ≡ port_of self.now) }
+    /// The system's. Nothing is counted then.
+    fn share(&mut self) -> io::Result<Self>
+        ensures made { IfOk result (λ other. shares self.old (Some other) self.new) }
+        ensures refused { IfErr result (λ _. shares self.old None self.new) }
+        ensures handed { IfOk result (λ other.
+            (handed self.new ≡ handed self.old + 1) × (handed other ≡ 0)) }
+        ensures none_handed { IfErr result (λ _. handed self.new ≡ handed self.old) }
+        ensures port { IfOk result (λ other. port_of other ≡ port_of self.old) }
         ensures at_rest { IfOk result (λ other. at_rest other) }
         ensures rests { IfOk result (λ other. (seat : K) → K.is_new seat → rests other seat) }
-        ensures cell { IfOk result (λ other. (seat : K) → cell self.now seat → cell other seat) };
+        ensures cell { IfOk result (λ other. (seat : K) → cell self.old seat → cell other seat) }
+        ensures keeps_port { port_of self.new ≡ port_of self.old }
+        ensures keeps_rest { at_rest self.old → at_rest self.new }
+        ensures keeps_held { (made : Ends) → holds self.old made → holds self.new made }
+        ensures keeps_seat { (seat : K) → rests self.old seat → rests self.new seat }
+        ensures keeps_cell { (seat : K) → cell self.old seat → cell self.new seat };
 
     /// Waits for the next connection, where the line of its port was printed and no other is open. The seat may have learnt what
     /// others did since it was shown last, and nothing was made through it. No call of the connection's ends has failed yet.
@@ -136,6 +149,7 @@ pub trait Listen<K: Known> {
             (ends_of (Self.Reader.tape ends.0) (Self.Writer.contents ends.1))) }
         ensures at_rest { IfErr result (λ _. at_rest self.new) }
         ensures port { port_of self.new ≡ port_of self.old }
+        ensures handed { handed self.new ≡ handed self.old }
         ensures rests { rests self.new seat.now }
         ensures cell { (other : K) → cell self.old other → cell self.new other };
 
@@ -147,6 +161,7 @@ pub trait Listen<K: Known> {
         ensures closed { closes self.old self.new }
         ensures at_rest { at_rest self.new }
         ensures port { port_of self.new ≡ port_of self.old }
+        ensures handed { handed self.new ≡ handed self.old }
         ensures rests { rests self.new seat.now }
         ensures cell { (other : K) → cell self.old other → cell self.new other };
 }

@@ -82,7 +82,9 @@ where
 
     ghost listens = { λ _ _ _ _ _. Unit {0} };
 
-    ghost shares = { λ _ _. Unit {0} };
+    ghost shares = { λ _ _ _. Unit {0} };
+
+    ghost handed = { λ keeping. keeping.bound.port.handed };
 
     ghost accepts = { λ _ _ _. Unit {0} };
 
@@ -105,7 +107,7 @@ where
         Ok(self.bound.number)
     }
 
-    fn share(&self) -> io::Result<Self> {
+    fn share(&mut self) -> io::Result<Self> {
         Ok(Keeping {
             rt: self.rt,
             kept: self.kept,

@@ -110,7 +110,9 @@ where
 
     ghost listens = { λ _ _ _ _ _. Unit {0} };
 
-    ghost shares = { λ _ _. Unit {0} };
+    ghost shares = { λ _ _ _. Unit {0} };
+
+    ghost handed = { λ bound. bound.port.handed };
 
     // Nothing was read or written yet.
     ghost accepts = { λ _ made _. IfOk made (λ ends. AreNew ends) };
@@ -133,9 +135,9 @@ where
         Ok(self.number)
     }
 
-    fn share(&self) -> io::Result<Self> {
+    fn share(&mut self) -> io::Result<Self> {
         Ok(Bound {
-            port: Listen::<ShownSeat>::share(&self.port)?,
+            port: Listen::<ShownSeat>::share(&mut self.port)?,
             number: self.number,
         })
     }
