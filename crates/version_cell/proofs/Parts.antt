@@ -32,9 +32,10 @@ own_of-append seat (at ∷ entries) more = own_behind seat at entries more (at.1
 
 pub own-append : (seat : ℕ) (entries more : List Signed) → own seat (entries ++ more) ≡ own seat entries ++ own_of seat (enumerate_from (length entries) more)
 own-append seat entries more =
-    let at : 0 + length entries ≡ length entries = omega arith in
-    ap (own_of seat) (numbered-append 0 entries more ∙ ap (λ n. enumerate_from 0 entries ++ enumerate_from n more) at)
-    ∙ own_of-append seat (enumerate_from 0 entries) (enumerate_from (length entries) more)
+    let first : 0 + length entries ≡ length entries = omega arith in
+    let split : own seat (entries ++ more) ≡ own seat entries ++ own_of seat (enumerate_from (0 + length entries) more) =
+    ap (own_of seat) (numbered-append 0 entries more) ∙ own_of-append seat (enumerate_from 0 entries) (enumerate_from (0 + length entries) more) in
+    subst (λ (n : ℕ). own seat (entries ++ more) ≡ own seat entries ++ own_of seat (enumerate_from n more)) first split
 
 -- with one entry more, of this seat
 pub own_more : (seat : ℕ) (entries : List Signed) (entry : Entry) → own seat (entries ++ signed seat entry ∷ []) ≡ own seat entries ++ (length entries, entry) ∷ []
