@@ -14,7 +14,7 @@ use Rattle.flight_core.specs.Machine.{StepOn}
 use Rattle.flight_core.specs.Placed.{placed}
 use Rattle.flight_core.specs.Reacts.{Reacts}
 use Rattle.flight_core.specs.Seats.{Seat, lone_seat, Expires, Puts, alone}
-use Rattle.flight_core.proofs.Placing.{placed_more, placed-append}
+use Rattle.flight_core.proofs.Placing.{placed_behind, placed_more}
 
 -- what is accepted has no first fault
 never_refused : {X : Type 0} (number : ℕ) (due : Result X Fault) → IsOk due → RefusesFirst (Ok number) due
@@ -84,5 +84,5 @@ pub alone_made : (asked : Asked) (old new : Seat) (reply : ReplyAt) → Reacts a
 alone_made asked old new reply r own =
     let more = r.goes.made.0 in
     let behind = placed (length r.log) more in
-    r.goes.made.2 ∙ ap (λ made. made ++ behind) (own ∙ ap (placed 0) (sym r.goes.moved.0)) ∙ sym (placed-append 0 r.log more)
+    r.goes.made.2 ∙ ap (λ made. made ++ behind) (own ∙ ap (placed 0) (sym r.goes.moved.0)) ∙ sym (placed_behind r.log more)
     ∙ ap (placed 0) (sym r.goes.made.1 ∙ r.goes.moved.1)

@@ -31,7 +31,11 @@ own_of-append seat [] more = refl
 own_of-append seat (at ∷ entries) more = own_behind seat at entries more (at.1.seat == seat) refl (own_of-append seat entries more)
 
 pub own-append : (seat : ℕ) (entries more : List Signed) → own seat (entries ++ more) ≡ own seat entries ++ own_of seat (enumerate_from (length entries) more)
-own-append seat entries more = ap (own_of seat) (numbered-append 0 entries more) ∙ own_of-append seat (enumerate_from 0 entries) (enumerate_from (length entries) more)
+own-append seat entries more =
+    let first : 0 + length entries ≡ length entries = omega arith in
+    let split : own seat (entries ++ more) ≡ own seat entries ++ own_of seat (enumerate_from (0 + length entries) more) =
+    ap (own_of seat) (numbered-append 0 entries more) ∙ own_of-append seat (enumerate_from 0 entries) (enumerate_from (0 + length entries) more) in
+    subst (λ (n : ℕ). own seat (entries ++ more) ≡ own seat entries ++ own_of seat (enumerate_from n more)) first split
 
 -- with one entry more, of this seat
 pub own_more : (seat : ℕ) (entries : List Signed) (entry : Entry) → own seat (entries ++ signed seat entry ∷ []) ≡ own seat entries ++ (length entries, entry) ∷ []
