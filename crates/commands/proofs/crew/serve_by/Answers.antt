@@ -5,6 +5,6 @@ use Rattle.commands.proofs.crew.serve_by.Goals as goal
 pub serve_seat-requires-clause-rests : goal.serve_seat-requires-clause-rests
 serve_seat-requires-clause-rests g c κs lives = (
   new_rest g.C.CellName.book c.unwrap.result.number,
-  c.requires.may.rests _ (refl, refl),
+  c.requires.rests _ (refl, refl),
   new_shown g.C.CellName.book c.args.worker.old.scanner c.unwrap.result (search rules) c.requires.fresh,
 )
