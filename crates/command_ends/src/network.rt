@@ -40,11 +40,12 @@ pub trait Connect {
         ensures { shares self.old result self.new };
 }
 
-/// Takes connections of clients, one after the other, for one seat. The first one is taken when the line of the port was printed.
-/// Each other one is taken when the one before it was served as it is owed, and is closed. It is shown the seat at each accept and
-/// at each closing: so what was done for it is one chain, from a seat that had seen nothing, without an end.
+/// Takes connections of clients, one after the other, for one seat. The first one is taken when the line of the port was printed,
+/// and the output of that line held what the listener asks for (`due`). Each other one is taken when the one before it was served
+/// as it is owed, and is closed. The listener is shown the seat at each accept and at each closing: so what was done for it is one
+/// chain, from a seat that had seen nothing, without an end.
 pub trait Listen<K: Known> {
-    ghost use Rattle.std.specs.Prelude.{◌≡◌, ◌+◌, ℕ, Option, Some, None, Result, Ok, Err, IfErr, IfOk};
+    ghost use Rattle.std.specs.Prelude.{◌≡◌, ◌+◌, ℕ, List, Option, Some, None, Result, Ok, Err, IfErr, IfOk};
     ghost use Rattle.command_ends.specs.Network.{Accepting, Ends, ends_of};
 
     /// What comes from a client.
@@ -84,6 +85,9 @@ pub trait Listen<K: Known> {
     // It may be shown this seat: it is one of its cell.
     ghost cell: { Self → K → Type 0 };
 
+    // An accept may be asked for once the output of the line of this port holds this.
+    ghost due: { Self → ℕ → Option (List ℕ) → Type 0 };
+
     // What is owed for a connection before it is closed: from the seat at its accept, by its ends when it was made and those that
     // it left, to the seat that it left.
     ghost owed: { K → Ends → Ends → K → Type 0 };
@@ -100,7 +104,9 @@ pub trait Listen<K: Known> {
         ensures port { IfOk result (λ heard. port_of self.new ≡ heard) }
         ensures at_rest { IfOk result (λ _. at_rest self.new) }
         ensures handed { handed self.new ≡ handed self.old }
-        ensures cell { (seat : K) → cell self.old seat → cell self.new seat };
+        ensures cell { (seat : K) → cell self.old seat → cell self.new seat }
+        ensures due { (port : ℕ) (held : Option (List ℕ))
+            → due self.old port held → due self.new port held };
 
     /// Another listener to the same port, for a seat of the same cell that has seen nothing: a
     /// connection to the port is taken by one of the two. It gave no connection and no listener
@@ -119,11 +125,15 @@ pub trait Listen<K: Known> {
         ensures at_rest { IfOk result (λ other. at_rest other) }
         ensures rests { IfOk result (λ other. (seat : K) → K.is_new seat → rests other seat) }
         ensures cell { IfOk result (λ other. (seat : K) → cell self.old seat → cell other seat) }
+        ensures due { IfOk result (λ other. (port : ℕ) (held : Option (List ℕ))
+            → due self.old port held → due other port held) }
         ensures keeps_port { port_of self.new ≡ port_of self.old }
         ensures keeps_rest { at_rest self.old → at_rest self.new }
         ensures keeps_held { (made : Ends) → holds self.old made → holds self.new made }
         ensures keeps_seat { (seat : K) → rests self.old seat → rests self.new seat }
-        ensures keeps_cell { (seat : K) → cell self.old seat → cell self.new seat };
+        ensures keeps_cell { (seat : K) → cell self.old seat → cell self.new seat }
+        ensures keeps_due { (port : ℕ) (held : Option (List ℕ))
+            → due self.old port held → due self.new port held };
 
     /// Waits for the next connection, where the line of its port was printed and no other is open. The seat may have learnt what
     /// others did since it was shown last, and nothing was made through it. No call of the connection's ends has failed yet.
@@ -136,7 +146,8 @@ pub trait Listen<K: Known> {
         announced: &Announced,
         seat: &K,
     ) -> Result<(Self::Reader, Self::Writer), AcceptFailure>
-        requires announced { announced.now ≡ port_of self.old }
+        requires announced { announced.now.port ≡ port_of self.old }
+        requires due { due self.old announced.now.port announced.now.held }
         requires at_rest { at_rest self.old }
         requires cell { cell self.old seat.now }
         requires learns { (old : K) × rests self.old old × K.learns old seat.now }
@@ -151,7 +162,9 @@ pub trait Listen<K: Known> {
         ensures port { port_of self.new ≡ port_of self.old }
         ensures handed { handed self.new ≡ handed self.old }
         ensures rests { rests self.new seat.now }
-        ensures cell { (other : K) → cell self.old other → cell self.new other };
+        ensures cell { (other : K) → cell self.old other → cell self.new other }
+        ensures due { (port : ℕ) (held : Option (List ℕ))
+            → due self.old port held → due self.new port held };
 
     /// Closes the connection that is open, and was served as it is owed, from the seat that was shown at its accept to this one.
     fn done(&mut self, reader: Self::Reader, writer: Self::Writer, seat: &K)
@@ -163,5 +176,7 @@ pub trait Listen<K: Known> {
         ensures port { port_of self.new ≡ port_of self.old }
         ensures handed { handed self.new ≡ handed self.old }
         ensures rests { rests self.new seat.now }
-        ensures cell { (other : K) → cell self.old other → cell self.new other };
+        ensures cell { (other : K) → cell self.old other → cell self.new other }
+        ensures due { (port : ℕ) (held : Option (List ℕ))
+            → due self.old port held → due self.new port held };
 }

@@ -256,6 +256,8 @@ where
 
     ghost cell = { λ _ _. Unit {0} };
 
+    ghost due = { λ _ _ _. Unit {0} };
+
     ghost owed = { λ _ _ _ _. Unit {0} };
 
     fn listen(&mut self, port: u16, idle: u16) -> io::Result<u16> {
@@ -273,7 +275,7 @@ where
 
     fn share(&mut self) -> io::Result<Self> {
         let Some(handed) = self.handed.checked_add(1) else {
-            return Err(io::Error::from(ErrorKind::OutOfMemory));
+            return Err(io::Error::from(ErrorKind::QuotaExceeded));
         };
         let Some(listener) = &self.listener else {
             return Err(io::Error::from(ErrorKind::NotConnected));

@@ -129,6 +129,8 @@ where
 
     ghost cell = { λ _ _. Unit {0} };
 
+    ghost due = { λ _ _ _. Unit {0} };
+
     ghost owed = { λ _ _ _ _. Unit {0} };
 
     fn listen(&mut self, _port: u16, _idle: u16) -> io::Result<u16> {
