@@ -42,10 +42,10 @@ pub none_begun : {L : Type 0} (shares : Sharing L) (at_rest : L → Type 0) (por
 none_begun {L} shares at_rest port_of rests known due handed heard book name hub left seats parts knows = record {
   counted = omega arith;
   given = refl;
-  handed = omega arith;
+  counts = omega arith;
   port = refl;
   knows = knows;
-  due = λ port held is. is;
+  dues = λ port held is. is;
   fresh = All-nil (λ (hired : HiredWorker L). IsFresh (state_of hired));
   new = All-nil (IsNew name);
   may = All-nil (IsAtRest at_rest port_of rests known due heard book);
@@ -72,9 +72,9 @@ pub record Gave {L : Type 0} (shares : Sharing L) (at_rest : L → Type 0) (port
   pub counted : handed new ≡ handed old + 1
   pub free : at_rest listener
   pub port : port_of listener ≡ port_of old
-  pub rests : (seat : RestAt) → IsNewSeat seat → rests listener seat
+  pub stands : (seat : RestAt) → IsNewSeat seat → rests listener seat
   pub knows : (seat : RestAt) → known old seat → known listener seat
-  pub due : (port : ℕ) (held : Option (List ℕ)) → due old port held → due listener port held
+  pub dues : (port : ℕ) (held : Option (List ℕ)) → due old port held → due listener port held
   pub keeps_port : port_of new ≡ port_of old
   pub keeps_cell : (seat : RestAt) → known old seat → known new seat
   pub keeps_due : (port : ℕ) (held : Option (List ℕ)) → due old port held → due new port held
@@ -95,22 +95,22 @@ one_begins {L} shares at_rest port_of rests known due handed heard network liste
     let held : hub ≡ drawer_at name (suc (length rest) + 1) 0 0 = rw first at so.parts in
     let one_less : suc (length rest) + 1 - 1 ≡ length rest + 1 = omega arith in
     let new : other ≡ drawer_at name 1 0 0 = rw held at part in
-    let before : handed network ≡ handed heard + length workers = so.handed in
+    let before : handed network ≡ handed heard + length workers = so.counts in
     let once : handed next ≡ handed network + 1 = gave.counted in
     let may : IsAtRest at_rest port_of rests known due heard book hired
     = record {
       free = gave.free;
       port = gave.port ∙ so.port;
-      rests = gave.rests;
+      stands = gave.stands;
       knows = λ shown same. gave.knows shown (so.knows shown same);
-      due = λ port held is. gave.due port held (so.due port held is);
+      dues = λ port held is. gave.dues port held (so.dues port held is);
     } in record {
       counted = omega (arith, longer, counted);
       given = rw pushed (one_given shares workers hired heard network next so.given gave.shared);
-      handed = omega (arith, longer, before, once);
+      counts = omega (arith, longer, before, once);
       port = gave.keeps_port ∙ so.port;
       knows = λ shown same. gave.keeps_cell shown (so.knows shown same);
-      due = λ port held is. gave.keeps_due port held (so.due port held is);
+      dues = λ port held is. gave.keeps_due port held (so.dues port held is);
       fresh = rw pushed (All-push (λ (worker : HiredWorker L). IsFresh (state_of worker)) workers hired so.fresh (ap seat_at fresh));
       new = rw pushed (All-push (IsNew name) workers hired so.new (refl, new));
       may = rw pushed (All-push (IsAtRest at_rest port_of rests known due heard book) workers hired so.may may);
@@ -133,8 +133,8 @@ may_serve {L} at_rest port_of rests known due owed options heard announced book 
       fresh = All-head (λ (h : HiredWorker L). IsFresh (state_of h)) hired all fresh;
       free = here.free;
       port = same ∙ sym here.port;
-      due = here.due announced.port announced.held dues;
-      rests = here.rests;
+      dues = here.dues announced.port announced.held dues;
+      stands = here.stands;
       knows = here.knows;
       pays = pays;
     })

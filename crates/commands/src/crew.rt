@@ -257,7 +257,7 @@ where
     requires may { All (MayServe L.at_rest L.port_of L.rests L.cell L.due L.owed service.options service.announced.now C.book
         service.turns.now.name) workers.items }
     requires seats { length workers.items ≡ C.parts }
-    ensures { ServesSideBySide (AcceptsThenCloses L.accepts L.closes) service.options service.turns.now.most
+    ensures { ServesSideBySide (AcceptsThenCloses L.accepts L.closes) service.entry.options service.entry.turns.now.most
         (map state_of workers.items) result }
 {
     let (rt, turns) = (service.rt, service.turns);

@@ -97,7 +97,6 @@ fn shown_of<B: Resting>(backend: &mut B) -> ShownSeat
 }
 
 // The next connection. Accepts that fail by what may pass are passed over, each behind a pause.
-#[tactic(auto, using(crate::proofs::Serving::fails_more, crate::proofs::Serving::learnt_none))]
 fn accept_next<L: Listen<ShownSeat>, T: Wait + Clock, X>(
     service: &Service<'_, '_, T, X>,
     network: &mut L,

@@ -42,9 +42,9 @@ pub record IsAtRest {L : Type 0} (at_rest : L → Type 0) (port_of : L → ℕ) 
     (due : L → ℕ → Option (List ℕ) → Type 0) (heard : L) (book : Book) (hired : HiredWorker L) : Type 0 where
   pub free : at_rest hired.listener
   pub port : port_of hired.listener ≡ port_of heard
-  pub rests : (new : RestAt) → IsNewSeat new → rests hired.listener new
+  pub stands : (new : RestAt) → IsNewSeat new → rests hired.listener new
   pub knows : (shown : RestAt) → shown.book ≡ book → known hired.listener shown
-  pub due : (port : ℕ) (held : Option (List ℕ)) → due heard port held → due hired.listener port held
+  pub dues : (port : ℕ) (held : Option (List ℕ)) → due heard port held → due hired.listener port held
 
 -- It may serve: it is new, and its seat has seen nothing. Its listener may accept, where the line of its port was printed so. What is
 -- owed for a connection is that it is served.
@@ -55,8 +55,8 @@ pub record MayServe {L : Type 0} (at_rest : L → Type 0) (port_of : L → ℕ) 
   pub fresh : seat_in hired.scanner ≡ seat_of [] 0
   pub free : at_rest hired.listener
   pub port : announced.port ≡ port_of hired.listener
-  pub due : due hired.listener announced.port announced.held
-  pub rests : (new : RestAt) → IsNewSeat new → rests hired.listener new
+  pub dues : due hired.listener announced.port announced.held
+  pub stands : (new : RestAt) → IsNewSeat new → rests hired.listener new
   pub knows : (shown : RestAt) → shown.book ≡ book → known hired.listener shown
   pub pays : Pays onward options owed
 
@@ -102,10 +102,10 @@ pub record Begun {L : Type 0} (shares : Sharing L) (at_rest : L → Type 0) (por
     (workers : List (HiredWorker L)) (left : List cell.Seat) (count : ℕ) : Type 0 where
   pub counted : length workers + length left ≡ count
   pub given : SharesEach shares heard (hired_listeners workers) network
-  pub handed : handed network ≡ handed heard + length workers
+  pub counts : handed network ≡ handed heard + length workers
   pub port : port_of network ≡ port_of heard
   pub knows : (shown : RestAt) → shown.book ≡ book → known network shown
-  pub due : (port : ℕ) (held : Option (List ℕ)) → due heard port held → due network port held
+  pub dues : (port : ℕ) (held : Option (List ℕ)) → due heard port held → due network port held
   pub fresh : All (λ hired. IsFresh (state_of hired)) workers
   pub new : All (IsNew name) workers
   pub may : All (IsAtRest at_rest port_of rests known due heard book) workers

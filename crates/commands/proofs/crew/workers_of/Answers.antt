@@ -1,6 +1,7 @@
-use Rattle.std.proofs.Common.{rules}
+use Rattle.std.proofs.Common.{inl, refl, rules}
 use Rattle.std.specs.Vec.Iter.{into_iter_items}
-use Rattle.commands.proofs.Crews.{one_begins}
+use Rattle.commands.specs.inside.Gathering.{hired_listeners}
+use Rattle.commands.proofs.Crews.{one_begins, shares_more}
 use Rattle.commands.proofs.crew.workers_of.Goals as goal
 
 pub loop-scanner-preserved : goal.loop-scanner-preserved
@@ -14,11 +15,16 @@ loop-scanner-preserved g c =
       counted = c.in-Ok.ensures.handed.0;
       free = c.in-Ok.ensures.at_rest;
       port = c.in-Ok.ensures.port;
-      rests = c.in-Ok.ensures.rests;
+      stands = c.in-Ok.ensures.rests;
       knows = c.in-Ok.ensures.cell;
-      due = c.in-Ok.ensures.due;
+      dues = c.in-Ok.ensures.due;
       keeps_port = c.share.ensures.keeps_port;
       keeps_cell = c.share.ensures.keeps_cell;
       keeps_due = c.share.ensures.keeps_due;
     })
     c.cut.ensures.mine c.cut.ensures.other (search rules)
+
+pub returns-then-is_err-clause-made : goal.returns-then-is_err-clause-made
+returns-then-is_err-clause-made g c =
+    inl (refl, shares_more g.L.Listen.shares (hired_listeners c.loop-scanner.workers.items) c.in-Ok.listener c.args.network.now c.loop-scanner.network c.share.new.self
+    c.loop-scanner.invariant.given c.in-Ok.ensures.made)

@@ -40,27 +40,31 @@ pub accept_next-requires-clause-cell : goal.accept_next-requires-clause-cell
 accept_next-requires-clause-cell g c = c.loop.invariant.cell c.loop.shown c.loop.invariant.shown.0
 
 pub done-requires-clause-cell : goal.done-requires-clause-cell
-done-requires-clause-cell g c = c.in_ok-reader.ensures.cell _ (c.loop.invariant.cell _ c.shown_of-shown-2.ensures.shown.0)
+done-requires-clause-cell g c = c.in_ok-reader.ensures.cell _ (c.loop.invariant.cell _ c.shown_of-shown-in-loop.ensures.shown.0)
 
 pub done-requires-clause-served : goal.done-requires-clause-served
 done-requires-clause-served g c =
     let was = c.loop.invariant.shown in
-    let is = c.shown_of-shown-2.ensures.shown in
-    let next = next_served g.B.Backend.moves c.args.service.now.options _ _ _ _ _ _ _ _ _ c.in_ok-reader.ensures.reads c.in_ok-reader.ensures.writes
-    (c.learn.ensures.learns, c.learn.ensures.asks, c.learn.ensures.looks) c.serve.ensures c.shown_of-shown-2.ensures.asks in (
+    let is = c.shown_of-shown-in-loop.ensures.shown in
+    let before = g.B.Backend.seat c.loop.backend in
+    let behind = g.B.Backend.seat c.shown_of-shown-in-loop.new.backend in
+    let taken = c.in_ok-reader.ensures in
+    let next = next_served g.B.Backend.moves c.args.service.now.options before _ behind _ _ _ _ _ _ taken.reads taken.writes
+    (c.learn.ensures.learns, c.learn.ensures.asks, c.learn.ensures.looks) c.serve.ensures c.shown_of-shown-in-loop.ensures.asks in (
       c.loop.shown,
       _,
-      c.in_ok-reader.ensures.rests,
-      c.in_ok-reader.ensures.holds,
+      taken.rests,
+      taken.holds,
       c.requires.owed _ _ _ _
-          (served_to g.B.Backend.moves c.args.service.now.options _ _ _ _ _ _ _ _ next refl (as_shown _ _ _ _ was) (as_shown _ _ _ _ is) (same_seat _ _ _ _ _ _ was is)),
+          (served_to g.B.Backend.moves c.args.service.now.options c.loop.shown c.shown_of-shown-in-loop.result before behind _ _ _ _ next refl
+          (as_shown _ _ _ before was) (as_shown _ _ _ behind is) (same_seat _ _ _ _ before behind was is)),
     )
 
 pub loop-preserved : goal.loop-preserved
 loop-preserved g c =
     let taken = c.in_ok-reader.ensures in
     let next = next_served g.B.Backend.moves c.args.service.now.options _ _ _ _ _ _ _ _ _ taken.reads taken.writes
-    (c.learn.ensures.learns, c.learn.ensures.asks, c.learn.ensures.looks) c.serve.ensures c.shown_of-shown-2.ensures.asks in
+    (c.learn.ensures.learns, c.learn.ensures.asks, c.learn.ensures.looks) c.serve.ensures c.shown_of-shown-in-loop.ensures.asks in
     record {
       next = tt;
       finite = tt;
@@ -71,7 +75,7 @@ loop-preserved g c =
           c.loop.invariant.served taken.taken c.done.ensures.closed next);
       free = c.done.ensures.at_rest;
       port = c.done.ensures.port ∙ (taken.port ∙ c.loop.invariant.port);
-      shown = c.shown_of-shown-2.ensures.shown;
+      shown = c.shown_of-shown-in-loop.ensures.shown;
       rests = shown_so (g.L.Listen.rests c.done.new.self) _ c.done.ensures.rests;
       due = c.done.ensures.due _ _ (taken.due _ _ c.loop.invariant.due);
       cell = λ seat same. c.done.ensures.cell seat (taken.cell seat (c.loop.invariant.cell seat same));
