@@ -1,6 +1,6 @@
 -- `of` makes a value of no bytes of memory, at what its clause names.
 use mathlib.Core.Path.{◌≡◌, refl}
-use mathlib.Core.List.{List, [], ◌∷◌}
+use mathlib.Core.List.{[], ◌∷◌}
 use mir.Syntax.{a_type, dcons, dnil, named}
 use mir.Val.{Val, vptr, vstruct, vnil}
 use mir.MapTy.{inst_fn}
@@ -32,7 +32,7 @@ use Rattle.command_ends.proofs.snapshot.Snapshot.of.Code as code
 pub of_spec : {M : Type 1} → statement M
 of_spec 𝓤 𝓛 𝓜 𝓡 wired W L g d met =
     let H = 𝓛.H in let 𝓣 = tables 𝓤 H 𝓜 𝓡 𝓡.env in
-    let En = ended W in let c = clauses W g d 𝓛 𝓜.mem 𝓡.returns in
+    let En = ended W g d in let c = clauses W g d 𝓛 𝓜.mem 𝓡.returns in
     let inst = bounded (a_type ∷ []) (W, tt) (dcons d dnil) in let fn = inst_fn inst code.function in
     let slot = RefOf (0 ∷ []) tt (plain (λ _. param 0 W)) (λ _. tt) in let hs : Stays En.signature.params En.kept = (stay_dropped slot yes, tt) in
     proved 𝓛 En hs c 𝓜 𝓡 (Goes-dropped 𝓛 2 slot yes (λ κs x f. refl), tt) (#self inst) fn (code.unfolded 𝓤 H 𝓜 𝓡 wired (W, tt) d)
