@@ -79,7 +79,7 @@ pub one_more : {L : Type 0} (accepts : Accepting L) (closes : L → L → Type 0
 one_more {L} accepts closes moves options served start old middle new seat next ends result last so takes closed serves more end final rest =
     let turns : Accepting L = AcceptsThenCloses accepts closes in
     let first : ServesRest turns moves options (suc more) end (worker_of takes.listener seat) final
-    = (Took new ends result last ∷ rest.0, ((middle, takes.took, closed), next, serves, rest.1)) in
+    = (Took new ends result last ∷ rest.0, ((middle, takes.took, closed), (next, serves, rest.1))) in
     let all : ServesRest turns moves options (suc more) end (worker_of old seat) final
     = failed_before turns moves options more takes.failed end old takes.listener seat final
     (no_closing accepts closes takes.failed old takes.listener takes.passed) first in

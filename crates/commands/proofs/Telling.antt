@@ -157,51 +157,51 @@ without_places each history own = subst (λ (l : Log). MergesAll (map log_in eac
 -- ---- workers that are new
 
 -- a worker that is new made no more than what it made
-new_made : {L : Type 0} (shares : L → Option L → Type 0) (heard : L) (old : Worker L) (told made : Log) → IsFresh shares heard old → made ≡ log_in old.seat.made ++ told → made ≡ told
-new_made {L} shares heard old told made start is = is ∙ ap (λ (seat : Seat). log_in seat.made ++ told) start.1
+new_made : {L : Type 0} (old : Worker L) (told made : Log) → IsFresh old → made ≡ log_in old.seat.made ++ told → made ≡ told
+new_made {L} old told made start is = is ∙ ap (λ (seat : Seat). log_in seat.made ++ told) start
 
 -- so workers that are new made what is told of
-all_made : {L : Type 0} (accepts : Accepting L) (shares : L → Option L → Type 0) (options : Options) (history : Log) (heard : L) (workers : List (Worker L)) (ends : List (Work L))
-    (parts : Pairwise (IsPartOf accepts options history) workers ends) → All (IsFresh shares heard) workers → options.keep ≡ 0
+all_made : {L : Type 0} (accepts : Accepting L) (options : Options) (history : Log) (workers : List (Worker L)) (ends : List (Work L))
+    (parts : Pairwise (IsPartOf accepts options history) workers ends) → All IsFresh workers → options.keep ≡ 0
     → map log_in (made_by_each ends) ≡ told_by_each accepts options history workers ends parts
-all_made {L} accepts shares options history heard [] [] parts fresh kept = refl
-all_made {L} accepts shares options history heard [] (new ∷ ends) parts fresh kept = absurd parts
-all_made {L} accepts shares options history heard (old ∷ workers) [] parts fresh kept = absurd parts
-all_made {L} accepts shares options history heard (old ∷ workers) (new ∷ ends) parts fresh kept =
-    let start : IsFresh shares heard old = All-head (IsFresh shares heard) old workers fresh in
+all_made {L} accepts options history [] [] parts fresh kept = refl
+all_made {L} accepts options history [] (new ∷ ends) parts fresh kept = absurd parts
+all_made {L} accepts options history (old ∷ workers) [] parts fresh kept = absurd parts
+all_made {L} accepts options history (old ∷ workers) (new ∷ ends) parts fresh kept =
+    let start : IsFresh old = All-head (λ (worker : Worker L). IsFresh worker) old workers fresh in
     let told : Log = told_by accepts options history old new parts.0 in
     let here : log_in new.worker.seat.made ≡ told
-    = new_made shares heard old told (log_in new.worker.seat.made) start (workers_make accepts options history old new parts.0 kept) in
+    = new_made old told (log_in new.worker.seat.made) start (workers_make accepts options history old new parts.0 kept) in
     let rest : map log_in (made_by_each ends) ≡ told_by_each accepts options history workers ends parts.1
-    = all_made accepts shares options history heard workers ends parts.1 (All-tail (IsFresh shares heard) old workers fresh) kept in
+    = all_made accepts options history workers ends parts.1 (All-tail (λ (worker : Worker L). IsFresh worker) old workers fresh) kept in
     ap (λ (l : Log). l ∷ map log_in (made_by_each ends)) here ∙ ap (λ (l : List Log). told ∷ l) rest
 
-pub history_is_told : {L : Type 0} (accepts : Accepting L) (shares : L → Option L → Type 0) → HistoryIsTold accepts shares
-history_is_told {L} accepts shares options most heard workers result served fresh kept =
-    subst (λ (each : List Log). MergesAll each served.history) (all_made accepts shares options served.history heard workers served.ends served.served fresh kept)
+pub history_is_told : {L : Type 0} (accepts : Accepting L) → HistoryIsTold accepts
+history_is_told {L} accepts options most workers result served fresh kept =
+    subst (λ (each : List Log). MergesAll each served.history) (all_made accepts options served.history workers served.ends served.served fresh kept)
     (without_places (made_by_each served.ends) served.history served.own)
 
 -- the same of puts, however many versions are kept
-all_put : {L : Type 0} (accepts : Accepting L) (shares : L → Option L → Type 0) (options : Options) (history : Log) (heard : L) (workers : List (Worker L)) (ends : List (Work L))
-    (parts : Pairwise (IsPartOf accepts options history) workers ends) → All (IsFresh shares heard) workers
+all_put : {L : Type 0} (accepts : Accepting L) (options : Options) (history : Log) (workers : List (Worker L)) (ends : List (Work L))
+    (parts : Pairwise (IsPartOf accepts options history) workers ends) → All IsFresh workers
     → map unmarked (map log_in (made_by_each ends)) ≡ map unmarked (told_by_each accepts options history workers ends parts)
-all_put {L} accepts shares options history heard [] [] parts fresh = refl
-all_put {L} accepts shares options history heard [] (new ∷ ends) parts fresh = absurd parts
-all_put {L} accepts shares options history heard (old ∷ workers) [] parts fresh = absurd parts
-all_put {L} accepts shares options history heard (old ∷ workers) (new ∷ ends) parts fresh =
-    let start : IsFresh shares heard old = All-head (IsFresh shares heard) old workers fresh in
+all_put {L} accepts options history [] [] parts fresh = refl
+all_put {L} accepts options history [] (new ∷ ends) parts fresh = absurd parts
+all_put {L} accepts options history (old ∷ workers) [] parts fresh = absurd parts
+all_put {L} accepts options history (old ∷ workers) (new ∷ ends) parts fresh =
+    let start : IsFresh old = All-head (λ (worker : Worker L). IsFresh worker) old workers fresh in
     let told : Log = told_by accepts options history old new parts.0 in
     let here : puts_of (log_in new.worker.seat.made) ≡ puts_of told
     = turns_put accepts onward options parts.0.serves.all new.drawn new.result (worker_of old.listener parts.0.serves.first) new.worker parts.0.serves.turns
     ∙ ap (λ (l : List Placed). puts_of (log_in l) ++ puts_of told) parts.0.serves.asked.0.1
-    ∙ ap (λ (seat : Seat). puts_of (log_in seat.made) ++ puts_of told) start.1 in
+    ∙ ap (λ (seat : Seat). puts_of (log_in seat.made) ++ puts_of told) start in
     let rest : map unmarked (map log_in (made_by_each ends)) ≡ map unmarked (told_by_each accepts options history workers ends parts.1)
-    = all_put accepts shares options history heard workers ends parts.1 (All-tail (IsFresh shares heard) old workers fresh) in
+    = all_put accepts options history workers ends parts.1 (All-tail (λ (worker : Worker L). IsFresh worker) old workers fresh) in
     ap (λ (l : List Put). map added l ∷ map unmarked (map log_in (made_by_each ends))) here ∙ ap (λ (l : List Log). unmarked told ∷ l) rest
 
-pub puts_are_told : {L : Type 0} (accepts : Accepting L) (shares : L → Option L → Type 0) → PutsAreTold accepts shares
-puts_are_told {L} accepts shares options most heard workers result served fresh =
-    subst (λ (each : List Log). MergesAll each (unmarked served.history)) (all_put accepts shares options served.history heard workers served.ends served.served fresh)
+pub puts_are_told : {L : Type 0} (accepts : Accepting L) → PutsAreTold accepts
+puts_are_told {L} accepts options most workers result served fresh =
+    subst (λ (each : List Log). MergesAll each (unmarked served.history)) (all_put accepts options served.history workers served.ends served.served fresh)
     (all_unmarked (map log_in (made_by_each served.ends)) served.history (without_places (made_by_each served.ends) served.history served.own))
 
 -- ---- puts with the marks that a server asks of itself
@@ -299,26 +299,26 @@ turns_marked {L} accepts moves options (Took listener ends served last ∷ all) 
     )
 
 -- so workers that are new made what is told of, with the marks
-all_marked : {L : Type 0} (accepts : Accepting L) (shares : L → Option L → Type 0) (options : Options) (history : Log) (heard : L) (workers : List (Worker L)) (ends : List (Work L))
-    (parts : Pairwise (IsPartOf accepts options history) workers ends) → All (IsFresh shares heard) workers
+all_marked : {L : Type 0} (accepts : Accepting L) (options : Options) (history : Log) (workers : List (Worker L)) (ends : List (Work L))
+    (parts : Pairwise (IsPartOf accepts options history) workers ends) → All IsFresh workers
     → Pairwise (IsMarked options.keep) (told_by_each accepts options history workers ends parts) (map log_in (made_by_each ends))
-all_marked {L} accepts shares options history heard [] [] parts fresh = tt
-all_marked {L} accepts shares options history heard [] (new ∷ ends) parts fresh = absurd parts
-all_marked {L} accepts shares options history heard (old ∷ workers) [] parts fresh = absurd parts
-all_marked {L} accepts shares options history heard (old ∷ workers) (new ∷ ends) parts fresh =
-    let start : IsFresh shares heard old = All-head (IsFresh shares heard) old workers fresh in
+all_marked {L} accepts options history [] [] parts fresh = tt
+all_marked {L} accepts options history [] (new ∷ ends) parts fresh = absurd parts
+all_marked {L} accepts options history (old ∷ workers) [] parts fresh = absurd parts
+all_marked {L} accepts options history (old ∷ workers) (new ∷ ends) parts fresh =
+    let start : IsFresh old = All-head (λ (worker : Worker L). IsFresh worker) old workers fresh in
     let serves = parts.0.serves in
     let told : Log = told_by accepts options history old new parts.0 in
     let made = turns_marked accepts onward options serves.all new.drawn new.result (worker_of old.listener serves.first) new.worker serves.turns in
     let same : log_in new.worker.seat.made ≡ made.0
-    = made.1 ∙ (ap (λ (l : List Placed). log_in l ++ made.0) serves.asked.0.1 ∙ ap (λ (seat : Seat). log_in seat.made ++ made.0) start.1) in (
+    = made.1 ∙ (ap (λ (l : List Placed). log_in l ++ made.0) serves.asked.0.1 ∙ ap (λ (seat : Seat). log_in seat.made ++ made.0) start) in (
       subst (λ (l : Log). IsMarked options.keep told l) (sym same) made.2,
-      all_marked accepts shares options history heard workers ends parts.1 (All-tail (IsFresh shares heard) old workers fresh),
+      all_marked accepts options history workers ends parts.1 (All-tail (λ (worker : Worker L). IsFresh worker) old workers fresh),
     )
 
-pub history_is_marked : {L : Type 0} (accepts : Accepting L) (shares : L → Option L → Type 0) → HistoryIsMarked accepts shares
-history_is_marked {L} accepts shares options most heard workers result served fresh = (
+pub history_is_marked : {L : Type 0} (accepts : Accepting L) → HistoryIsMarked accepts
+history_is_marked {L} accepts options most workers result served fresh = (
   map log_in (made_by_each served.ends),
   without_places (made_by_each served.ends) served.history served.own,
-  all_marked accepts shares options served.history heard workers served.ends served.served fresh,
+  all_marked accepts options served.history workers served.ends served.served fresh,
 )

@@ -65,24 +65,24 @@ WorkersMakeWhatIsTold {L} accepts =
 
 -- Where workers that are new serve side by side, and all versions are kept, their history is made up of the entries that the calls of
 -- each worker's connections tell of, in their order, and of no other.
-abbrev pub HistoryIsTold : {L : Type 0} → Accepting L → (L → Option L → Type 0) → Type 0
-HistoryIsTold {L} accepts shares =
-    (options : Options) (most : ℕ) (heard : L) (workers : List (Worker L)) (result : Result (Unit {0}) Fault)
-    (served : ServesSideBySide accepts options most workers result) → All (IsFresh shares heard) workers → options.keep ≡ 0
+abbrev pub HistoryIsTold : {L : Type 0} → Accepting L → Type 0
+HistoryIsTold {L} accepts =
+    (options : Options) (most : ℕ) (workers : List (Worker L)) (result : Result (Unit {0}) Fault)
+    (served : ServesSideBySide accepts options most workers result) → All IsFresh workers → options.keep ≡ 0
     → MergesAll (told_by_each accepts options served.history workers served.ends served.served) served.history
 
 -- However many versions are kept, the history is made up so of the entries that the calls tell
 -- of, and of no other: each put has right after it the mark that the server asks of itself.
-abbrev pub HistoryIsMarked : {L : Type 0} → Accepting L → (L → Option L → Type 0) → Type 0
-HistoryIsMarked {L} accepts shares =
-    (options : Options) (most : ℕ) (heard : L) (workers : List (Worker L)) (result : Result (Unit {0}) Fault)
-    (served : ServesSideBySide accepts options most workers result) → All (IsFresh shares heard) workers
+abbrev pub HistoryIsMarked : {L : Type 0} → Accepting L → Type 0
+HistoryIsMarked {L} accepts =
+    (options : Options) (most : ℕ) (workers : List (Worker L)) (result : Result (Unit {0}) Fault)
+    (served : ServesSideBySide accepts options most workers result) → All IsFresh workers
     → (each : List Log) × MergesAll each served.history
     × Pairwise (IsMarked options.keep) (told_by_each accepts options served.history workers served.ends served.served) each
 
 -- However many versions are kept, the puts of the history are made up so of the puts that the calls tell of.
-abbrev pub PutsAreTold : {L : Type 0} → Accepting L → (L → Option L → Type 0) → Type 0
-PutsAreTold {L} accepts shares =
-    (options : Options) (most : ℕ) (heard : L) (workers : List (Worker L)) (result : Result (Unit {0}) Fault)
-    (served : ServesSideBySide accepts options most workers result) → All (IsFresh shares heard) workers
+abbrev pub PutsAreTold : {L : Type 0} → Accepting L → Type 0
+PutsAreTold {L} accepts =
+    (options : Options) (most : ℕ) (workers : List (Worker L)) (result : Result (Unit {0}) Fault)
+    (served : ServesSideBySide accepts options most workers result) → All IsFresh workers
     → MergesAll (map unmarked (told_by_each accepts options served.history workers served.ends served.served)) (unmarked served.history)
