@@ -197,3 +197,6 @@ returns-in_err-answer_of-clause-watched g c = g.met.W.Watches.again _ _ _ c.open
 
 pub returns-clause-watched : goal.returns-clause-watched
 returns-clause-watched g c = g.met.W.Watches.again _ _ _ c.opened_lists.ensures.watched c.watched.ensures.watched
+
+pub returns-in_err-new-clause-watched : goal.returns-in_err-new-clause-watched
+returns-in_err-new-clause-watched g c = g.met.W.Watches.again _ _ _ c.opened_lists.ensures.watched c.watched.ensures.watched
