@@ -191,7 +191,9 @@ same_puts P old new same puts = subst (λ (made : List Placed). All P (puts_of (
 pub more_puts : (P : Put → Type 0) (old new : List Placed) (place : ℕ) (made : Put) → new ≡ old ++ (place, added made) ∷ [] → P made
     → All P (puts_of (log_in old)) → All P (puts_of (log_in new))
 more_puts P old new place made is accepts puts =
-    rw (log_in-more old new place (added made ∷ []) is, puts_of-added (log_in old) made) (All-push P (puts_of (log_in old)) made puts accepts)
+    let before : List Put = puts_of (log_in old) in
+    let all : puts_of (log_in new) ≡ before ++ made ∷ [] = ap puts_of (log_in-more old new place (added made ∷ []) is) ∙ puts_of-added (log_in old) made in
+    subst (λ (some : List Put). All P some) (sym all) (All-push P before made puts accepts)
 
 -- ---- expiries
 
@@ -241,5 +243,7 @@ expiry_refused moves old new action version fault e said = record {
 pub marked_puts : (P : Put → Type 0) (result : Result ℕ Fault) (old new : Seat) (log : Log) (version : ℕ) → MarksAt result old log version new
     → All P (puts_of (log_in old.made)) → All P (puts_of (log_in new.made))
 marked_puts P (Ok floor) old new log version marks puts =
-    rw (log_in-more old.made new.made (length log) (expired version ∷ []) marks, puts_of-expired (log_in old.made) version) puts
+    let all : puts_of (log_in new.made) ≡ puts_of (log_in old.made)
+    = ap puts_of (log_in-more old.made new.made (length log) (expired version ∷ []) marks) ∙ puts_of-expired (log_in old.made) version in
+    subst (λ (some : List Put). All P some) (sym all) puts
 marked_puts P (Err fault) old new log version same puts = same_puts P old.made new.made same puts
