@@ -15,6 +15,7 @@ use Rattle.version_cell.specs.Merges.{MergesAll}
 use Rattle.logbook.specs.Pages.{Book}
 use Rattle.version_cell.specs.Rests.{RestAt}
 use Rattle.version_cell.specs.Seats as cell
+use Rattle.flight_core.specs.Placed.{placed}
 use Rattle.flight_core.specs.Seats.{Seat, seat_of}
 use Rattle.shared_calls.specs.Sharing.{onward, seat_at}
 use Rattle.connection_turns.specs.Drawers.{DrawerAt, drawer_at}
@@ -306,7 +307,7 @@ all_have_drawn {L} accepts options name olds news items is same each = rw is (dr
 pub all_served : {L : Type 0} (accepts : Accepting L) (options : Options) (name : TableId) (most : ℕ) (history : Log) (olds news items : List (HiredWorker L)) (result : Result (Unit {0}) Fault) → items ≡ news → length news ≡ length olds
     → ((i : ℕ) (d : HiredWorker L) → i < length olds → HasWorked accepts options name (slice_index_or olds i d) (slice_index_or news i d))
     → (seen : Log) → All (IsWithin seen) items → Begins seen history → IsLog history → length history ≡ made_by (map work_of items)
-    → MergesAll (made_by_each (map work_of items)) history → DrawsAll most (map work_of items) → result ≡ first_fault (map work_of items)
+    → MergesAll (made_by_each (map work_of items)) (placed 0 history) → DrawsAll most (map work_of items) → result ≡ first_fault (map work_of items)
     → ServesSideBySide accepts options most (map state_of olds) result
 all_served {L} accepts options name most history olds news items result is same each seen within more log made own drawn ends = record {
   history = history;

@@ -7,6 +7,7 @@ use Rattle.version_cell.specs.Merges.{MergesAll}
 use Rattle.flight_calls.specs.declared.setting.Options.{Options}
 use Rattle.flight_calls.specs.Exchanges.{exchanges_of}
 use Rattle.flight_calls.specs.Laws.{entries_in}
+use Rattle.flight_core.specs.Placed.{log_in}
 use Rattle.flight_core.specs.Seats.{Moves}
 use Rattle.shared_calls.specs.Sharing.{onward}
 use Rattle.command_ends.specs.Network.{Accepting}
@@ -59,7 +60,8 @@ unmarked log = map added (puts_of log)
 abbrev pub WorkersMakeWhatIsTold : {L : Type 0} → Accepting L → Type 0
 WorkersMakeWhatIsTold {L} accepts =
     (options : Options) (history : Log) (old : Worker L) (new : Work L) (part : IsPartOf accepts options history old new)
-    → options.keep ≡ 0 → new.worker.seat.made ≡ old.seat.made ++ told_by accepts options history old new part
+    → options.keep ≡ 0
+    → log_in new.worker.seat.made ≡ log_in old.seat.made ++ told_by accepts options history old new part
 
 -- Where workers that are new serve side by side, and all versions are kept, their history is made up of the entries that the calls of
 -- each worker's connections tell of, in their order, and of no other.

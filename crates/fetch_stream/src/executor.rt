@@ -35,8 +35,6 @@ pub trait Payloads {
 }
 
 impl Payloads for FetchStream {
-    ghost use Rattle.std.specs.Prelude.{⊥};
-
     ghost stream = { λ s. s.stream };
 
     ghost unseen = { λ s. s.unseen };

@@ -207,7 +207,7 @@ fn make_stream<W: Output, X: Executor>(
     opening: Opening,
 ) -> Result<Option<FetchStream>, Fault>
     requires failures { CanFail (W.failures writer.old) }
-    ensures stream { IfOk result (λ made. IfSome made (λ stream. stream ≡ opening)) }
+    ensures stream { IfOk result (λ made. IfSome made (λ stream. stream.stream ≡ opening)) }
     ensures bytes { Sends result (W.contents writer.old) (W.contents writer.new) outbox.old outbox.new [] }
     ensures counted { CountsFailure result (W.failures writer.old) (W.failures writer.new) }
     ensures kind { FailsByTransport result }
@@ -243,7 +243,7 @@ fn made_stream<X: Executor, L: Watches>(
     watch: &mut L,
 ) -> Result<FetchStream, AllocError>
     requires ready { L.ready watch.old }
-    ensures stream { IfOk result (λ stream. stream ≡ opening) }
+    ensures stream { IfOk result (λ stream. stream.stream ≡ opening) }
     ensures ready { OnOk result (L.ready watch.new) }
     ensures watched { L.watched watch.old watch.new }
 {
@@ -333,7 +333,8 @@ fn send_rest<W: Output, X: Executor>(
     stream: FetchStream,
 ) -> Result<(), Fault>
     requires failures { CanFail (W.failures writer.old) }
-    ensures bytes { SendsRest stream result (W.contents writer.old) (W.contents writer.new) outbox.old outbox.new }
+    ensures bytes { SendsRest stream.stream result
+        (W.contents writer.old) (W.contents writer.new) outbox.old outbox.new }
     ensures empty { OnErr result (outbox.new ≡ []) }
     ensures counted { CountsFailure result (W.failures writer.old) (W.failures writer.new) }
     ensures kind { FailsByTransport result }

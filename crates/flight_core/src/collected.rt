@@ -92,7 +92,7 @@ fn ready_stream<X: Executor>(
     executor: &X,
     opening: Opening,
 ) -> Result<FetchStream, AllocError>
-    ensures { IfOk result (λ stream. stream ≡ opening) }
+    ensures { IfOk result (λ stream. stream.stream ≡ opening) }
 {
     let stream = opening.stream_watched(alloc, &mut Unwatched)?;
     executor.ready(alloc, stream, &mut Unwatched)

@@ -132,7 +132,10 @@ impl Scan {
         let tables = opened_tables(alloc, tables.as_slice(), lists)?;
         let seed = reading.seed;
         let opened = Reading { seed, from, to };
-        let plan = WholePlan { tree, output: &output };
+        let plan = WholePlan {
+            tree,
+            output: &output,
+        };
         let source = RowSource::watched(alloc, plan, tables, opened, watch)?;
         Ok(Scan {
             schema: Arc::new(alloc, schema)?,

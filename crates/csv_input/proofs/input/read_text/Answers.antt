@@ -1,9 +1,14 @@
-use Rattle.std.proofs.Common.{◌≡◌, false, inr, rules}
+use Rattle.std.proofs.Common.{◌≡◌, false, inl, inr, rules}
 use Rattle.std.specs.Prelude.{is_err}
 use Rattle.std.proofs.lemmas.Result.{err_from_is_err_and}
 use Rattle.command_ends.specs.Printing.{said_of}
 use Rattle.csv_input.proofs.Told.{told_of}
 use Rattle.csv_input.proofs.input.read_text.Goals as goal
+
+pub returns-in-Err-clause-reads : goal.returns-in-Err-clause-reads
+returns-in-Err-clause-reads g c =
+    let why = rw c.as_slice.ensures at c.in-Err.ensures.refused in
+    (c.end_by_fault.ensures.status, inl (c.in-Err.fault, why, c.end_by_fault.ensures.line))
 
 pub returns-in_err-check_rows-clause-reads : goal.returns-in_err-check_rows-clause-reads
 returns-in_err-check_rows-clause-reads g c =

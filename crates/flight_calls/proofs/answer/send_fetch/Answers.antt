@@ -40,7 +40,7 @@ returns-in-Some-clause-bytes g c database handle opens =
     let gives = first_given opening c.in-Ok.first c.in-Ok.ensures.before c.in-Ok.ensures.gives in
     let sent = stream_goes_on law opening opening _ _ _ _ _ _ _ _ (stream_begins law opening _ _) gives c.in_ok-send_first.ensures.bytes in
     let waited = stream_waits law opening _ _ _ _ _ _ _ _ sent refl c.in_ok-stream.ensures.bytes in
-    let made = made_behind opening c.in-Some.stream c.behind_schema.result c.in-Ok.ensures.before (rw c.in-Some.is at c.in_ok-stream.ensures.stream) c.behind_schema.ensures in
+    let made = made_behind opening c.in-Some.stream.stream c.behind_schema.result.stream c.in-Ok.ensures.before (rw c.in-Some.is at c.in_ok-stream.ensures.stream) c.behind_schema.ensures in
     sends_fetch database handle law opening _ _ _ _ _ opens
     (stream_rest law _ opening _ _ made _ _ _ _ _ _ waited c.send_rest.ensures.bytes)
 

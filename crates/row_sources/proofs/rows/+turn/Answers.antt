@@ -50,8 +50,10 @@ Joining::turn-returns-then-is_over-clause-found t c =
     let none = rw (c.in_ok-batch-2.was, c.in_default-2.is) at c.pick.ensures in (
       batch_none pick first c.loop-batch.left joiner c.loop-batch.self.number c.in-Some.batch c.next.new.self gives is.goes is.rows is.seen is.is
           (record { batch = record { ref_ptr = c.args.picker.ref_ptr; now = c.in-Some.batch }; from = 0; to = c.rows-to.result }) refl refl c.rows-to.ensures none,
-      has_end c.args.looking.now.patience c.spend.new.self.patience c.is_over.result (λ e. c.spend.ensures.endless (is.endless e)) c.is_over.ensures.endless c.if-is_over.true,
-      λ _. let fewer = batch_looked c.loop-batch.left joiner c.loop-batch.self.number c.in-Some.batch c.next.new.self gives in omega (arith, is.seen, fewer),
+      (
+        has_end c.args.looking.now.patience c.spend.new.self.patience c.is_over.result (λ e. c.spend.ensures.endless (is.endless e)) c.is_over.ensures.endless c.if-is_over.true,
+        λ _. let fewer = batch_looked c.loop-batch.left joiner c.loop-batch.self.number c.in-Some.batch c.next.new.self gives in omega (arith, is.seen, fewer),
+      ),
     )
 
 pub Joining::turn-loop-batch-smaller-in-Some : goal.Joining::turn-loop-batch-smaller-in-Some
@@ -120,8 +122,10 @@ Joining::turn-returns-in-Working-clause-found t c =
     let first = joined_at c.args.left.now c.args.self.now.joiner c.args.self.now.number in
     let before = joined_at c.loop-batch.left joiner c.loop-batch.self.number in
     let after = joined_at c.feed_next.new.left c.feed_next.new.self.joiner c.feed_next.new.self.number in
-    let found = rw (none.1, c.in_ok-feed_next.was, c.in-Working.is) at c.feed_next.ensures.feeds in
-    (picks_none (pick_of c.args.picker.now) first before after is.goes is.rows is.seen found.0, (λ e. found.1.0 (is.endless e)), λ no. let fewer = found.1.1 (λ e. no (is.choice e)) in omega (arith, is.seen, fewer))
+    let found = rw (none.1, c.in_ok-feed_next.was, c.in-Working.is) at c.feed_next.ensures.feeds in (
+      picks_none (pick_of c.args.picker.now) first before after is.goes is.rows is.seen found.0,
+      ((λ e. found.1.0 (is.endless e)), λ no. let fewer = found.1.1 (λ e. no (is.choice e)) in omega (arith, is.seen, fewer)),
+    )
 
 pub Joining::turn-returns-in-End-clause-found : goal.Joining::turn-returns-in-End-clause-found
 Joining::turn-returns-in-End-clause-found t c =
@@ -197,8 +201,10 @@ Joining::turn_shown-returns-in-Working-clause-found t c =
     let first = joined_at c.args.left.now c.args.self.now.joiner c.args.self.now.number in
     let before = joined_at c.loop-batch.left joiner c.loop-batch.self.number in
     let after = joined_at c.feed_next.new.left c.feed_next.new.self.joiner c.feed_next.new.self.number in
-    let found = rw (none.1, c.in_ok-feed_next.was, c.in-Working.is) at c.feed_next.ensures.feeds in
-    (picks_none (pick_of c.args.picker.now) first before after is.goes is.rows is.seen found.0, (λ e. found.1.0 (is.endless e)), λ no. let fewer = found.1.1 (λ e. no (is.choice e)) in omega (arith, is.seen, fewer))
+    let found = rw (none.1, c.in_ok-feed_next.was, c.in-Working.is) at c.feed_next.ensures.feeds in (
+      picks_none (pick_of c.args.picker.now) first before after is.goes is.rows is.seen found.0,
+      ((λ e. found.1.0 (is.endless e)), λ no. let fewer = found.1.1 (λ e. no (is.choice e)) in omega (arith, is.seen, fewer)),
+    )
 
 pub Joining::turn_shown-returns-in-End-clause-found : goal.Joining::turn_shown-returns-in-End-clause-found
 Joining::turn_shown-returns-in-End-clause-found t c =
@@ -219,8 +225,10 @@ Joining::feed_next-returns-then-is_over-clause-feeds t c =
     let self = c.args.self.now in
     let finds : FindsPiece left c.in-Given.piece c.turn.new.self = rw (c.in_ok-piece.was, c.in-Given.is) at c.turn.ensures.found in (
       rw c.feed.ensures (fed_none left self.joiner self.number c.in-Given.piece c.turn.new.self c.requires.none finds),
-      has_end c.args.looking.now.patience c.turn.new.looking.patience c.is_over.result c.turn.ensures.endless c.is_over.ensures.endless c.if-is_over.true,
-      λ _. rw c.feed.ensures (fed_looked left self.joiner self.number c.in-Given.piece c.turn.new.self c.requires.none finds),
+      (
+        has_end c.args.looking.now.patience c.turn.new.looking.patience c.is_over.result c.turn.ensures.endless c.is_over.ensures.endless c.if-is_over.true,
+        λ _. rw c.feed.ensures (fed_looked left self.joiner self.number c.in-Given.piece c.turn.new.self c.requires.none finds),
+      ),
     )
 
 pub Joining::feed_next-returns-else-is_over-clause-feeds : goal.Joining::feed_next-returns-else-is_over-clause-feeds
@@ -243,8 +251,10 @@ Joining::feed_next-returns-in-Working-clause-feeds t c =
     let left = c.args.left.now in
     let self = c.args.self.now in (
       left_none left self.joiner self.number c.turn.new.self c.requires.none finds.0,
-      finds.1.0,
-      λ no. left_looked left self.joiner self.number c.turn.new.self c.requires.none finds.0.same (finds.1.1 no),
+      (
+        finds.1.0,
+        λ no. left_looked left self.joiner self.number c.turn.new.self c.requires.none finds.0.same (finds.1.1 no),
+      ),
     )
 
 pub Rows::turn-invariant_of-self : goal.Rows::turn-invariant_of-self

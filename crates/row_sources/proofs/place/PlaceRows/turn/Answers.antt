@@ -24,8 +24,10 @@ returns-then-ends_at_choice-clause-found c =
     let pick = pick_of c.args.picker.now in (
       subst (λ (t : TableAt). FindsNone (picked_of pick (place_of t c.args.self.now.cursor)) (picked_of pick (place_of c.loop-self.self.table c.loop-self.self.cursor))) is.table
           (none_yet pick c.loop-self.self.table c.args.self.now.cursor c.loop-self.self.cursor is.from is.to is.forth is.rows is.placed),
-      has_end c.args.looking.now.patience c.loop-self.looking.patience c.ends_at_choice.result is.endless c.ends_at_choice.ensures.endless c.if-ends_at_choice.true,
-      λ no. absurd (no (is.patience (c.ends_at_choice.ensures.choice c.if-ends_at_choice.true))),
+      (
+        has_end c.args.looking.now.patience c.loop-self.looking.patience c.ends_at_choice.result is.endless c.ends_at_choice.ensures.endless c.if-ends_at_choice.true,
+        λ no. absurd (no (is.patience (c.ends_at_choice.ensures.choice c.if-ends_at_choice.true))),
+      ),
     )
 
 pub returns-in_err-batch-clause-found : goal.returns-in_err-batch-clause-found
@@ -62,9 +64,11 @@ returns-then-is_over-clause-found c =
       subst (λ (t : TableAt). FindsNone (picked_of pick (place_of t cursor)) (picked_of pick (place_of c.loop-self.self.table after))) is.table
           (over_is pick c.loop-self.self.table cursor c.loop-self.self.cursor after c.open-part.result is.from is.to is.forth is.rows
           c.open-part.ensures.opened c.open-part.ensures.part c.open-part.ensures.placed none),
-      has_end c.args.looking.now.patience c.spend.new.self.patience c.is_over.result (λ e. c.spend.ensures.endless (is.endless e)) c.is_over.ensures.endless c.if-is_over.true,
-      λ _. looked pick c.loop-self.self.table cursor c.loop-self.self.cursor after c.open-part.result is.from is.to is.forth is.rows
-          c.open-part.ensures.opened c.open-part.ensures.part c.open-part.ensures.placed,
+      (
+        has_end c.args.looking.now.patience c.spend.new.self.patience c.is_over.result (λ e. c.spend.ensures.endless (is.endless e)) c.is_over.ensures.endless c.if-is_over.true,
+        λ _. looked pick c.loop-self.self.table cursor c.loop-self.self.cursor after c.open-part.result is.from is.to is.forth is.rows
+            c.open-part.ensures.opened c.open-part.ensures.part c.open-part.ensures.placed,
+      ),
     )
 
 pub loop-self-preserved : goal.loop-self-preserved
