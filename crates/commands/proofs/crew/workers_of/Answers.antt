@@ -26,5 +26,8 @@ loop-scanner-preserved g c =
 
 pub returns-then-is_err-clause-made : goal.returns-then-is_err-clause-made
 returns-then-is_err-clause-made g c =
-    inl (refl, shares_more g.L.Listen.shares (hired_listeners c.loop-scanner.workers.items) c.in-Ok.listener c.args.network.now c.loop-scanner.network c.share.new.self
-    c.loop-scanner.invariant.given c.in-Ok.ensures.made)
+    inl (
+      refl,
+      shares_more g.L.Listen.shares (hired_listeners c.loop-scanner.workers.items) c.in-Ok.listener c.args.network.now c.loop-scanner.network c.share.new.self
+          c.loop-scanner.invariant.given c.in-Ok.ensures.made,
+    )
