@@ -54,11 +54,11 @@ where
     R: Net<Listener = TcpListener, Stream = TcpStream> + Threads + Wait + Clock + Sync,
     requires { opened ≡ C.book }
 {
-    let number = bound.number;
+    let (rt, alloc, number) = (host.rt, host.alloc, bound.number);
     let kept = Mutex::new(Kept::<C>::new(connections));
-    let mut network = Keeping::new(host.rt, &kept, bound);
-    let mut output = MemoryOutput::new(host.alloc);
-    let mut faults = MemoryOutput::new(host.alloc);
+    let mut network = Keeping::new(rt, &kept, bound);
+    let mut output = MemoryOutput::new(alloc);
+    let mut faults = MemoryOutput::new(alloc);
     let serving = Serving {
         port: 0,
         seats: SEATS,
@@ -76,8 +76,8 @@ where
         &mut faults,
         serving,
     );
-    let names_port = names_port(host.alloc, &output, number);
-    let entries = kept.lock(host.rt).history.entries();
+    let names_port = names_port(alloc, &output, number);
+    let entries = kept.lock(rt).history.entries();
     Ended {
         status: status.number(),
         names_port,
