@@ -8,6 +8,7 @@ use Rattle.grpc_frame.specs.Ends.{CanFail}
 use Rattle.flight_info.specs.Payloads.{Payload}
 use Rattle.flight_proto.specs.FlightData.{data_bytes}
 use Rattle.ipc_stream.specs.declared.message.IpcMessage.{IpcMessage}
+use Rattle.csv_table.specs.Long.{WhyNoMessage}
 use Rattle.csv_table.specs.Rows.{IsNext, SaysRecords}
 use Rattle.csv_input.specs.Input.{TextAt}
 use Rattle.client_calls.specs.declared.call.Method.TheVariants.{DoPut}
@@ -18,7 +19,7 @@ use Rattle.client_calls.specs.Answers.{AnswersOne, Incoming}
 use Rattle.client_calls.specs.Commands.{carried_in, put_descriptor, put_payloads, ReadsCount}
 use Rattle.client_calls.specs.Outcome.{Calls, Line, stopped_by}
 use Rattle.client_calls.specs.Sending.{BeginsPut, FailsPut, IsPutting, PutAt, later_payload, unended_bytes}
-use Rattle.client_commands.specs.RowsPut.{FailsRows, PutsRows}
+use Rattle.client_commands.specs.RowsPut.{FailsRows, IsUnmade, PutsRows}
 use Rattle.client_commands.specs.inside.RowsSent.{HaveSent}
 
 -- one message more of a put
@@ -45,8 +46,8 @@ module _ (target : Target) (text : TextAt) (begun : Line) where
   columns_begun view (Err failure) first says fails = (fails.0, columns_unsent first failure fails.0 says fails.1)
 
   -- it was not made
-  pub columns_unmade : (fault : Fault) → (last : Line) × FailsRows target text (Found fault) begun last
-  columns_unmade fault = (
+  pub columns_unmade : (fault : Fault) → IsUnmade text text.records fault → (last : Line) × FailsRows target text (Found fault) begun last
+  columns_unmade fault unmade = (
     record { incoming = record begun.incoming { left = stopped_by fault begun.incoming.left }; outgoing = begun.outgoing },
     (
       fault,
@@ -58,7 +59,7 @@ module _ (target : Target) (text : TextAt) (begun : Line) where
         messages = [];
         says = inl refl;
         cut = record { wrote = record { front = []; rest = unended_bytes (put_payloads target []); splits = refl; wrote = Appends-nil begun.outgoing.output }; stopped = refl };
-        why = inr refl;
+        why = inr (unmade, refl);
       },
     ),
   )
@@ -97,8 +98,8 @@ module _ (target : Target) (text : TextAt) (begun : Line) where
         )
 
     -- it was not made
-    pub batch_unmade : (fault : Fault) → (last : Line) × FailsRows target text (Found fault) begun last
-    batch_unmade fault =
+    pub batch_unmade : (fault : Fault) → WhyNoMessage text.schema.fields left rest fault → (last : Line) × FailsRows target text (Found fault) begun last
+    batch_unmade fault unmade =
         let putting = have.putting in (
           record { incoming = record begun.incoming { left = stopped_by fault begun.incoming.left }; outgoing = now.line.outgoing },
           (
@@ -114,7 +115,7 @@ module _ (target : Target) (text : TextAt) (begun : Line) where
                 wrote = record { front = putting.sent.written; rest = now.waiting; splits = sym putting.sent.whole; wrote = putting.sent.wrote };
                 stopped = refl;
               };
-              why = inr putting.quiet;
+              why = inr ((rest, unmade), putting.quiet);
             },
           ),
         )

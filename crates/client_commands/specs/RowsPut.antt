@@ -2,6 +2,7 @@
 use Rattle.std.specs.Prelude.{◌≡◌, ◌⊎◌, ℕ, List, [], ◌++◌, Result, Err}
 use Rattle.scan_base.specs.declared.fault.Fault.{Fault}
 use Rattle.ipc_stream.specs.declared.message.IpcMessage.{IpcMessage}
+use Rattle.csv_table.specs.Long.{WhyNoMessage}
 use Rattle.csv_table.specs.Rows.{SaysRecords}
 use Rattle.csv_input.specs.Input.{TextAt}
 use Rattle.client_calls.specs.declared.call.Method.TheVariants.{DoPut}
@@ -19,7 +20,11 @@ PutsAll target text result old new =
     (messages : List IpcMessage) × SaysRecords text.schema text.records messages
     × Calls DoPut (put_payloads target messages) (AnswersOne ReadsCount) result old new
 
--- A put was cut short, behind messages that say the rows of some records of a text, from the first one on, or behind none. What
+-- no message is made of the next records: memory is refused (F21), or they are too long (F12)
+abbrev pub IsUnmade : TextAt → List (List (List ℕ)) → Fault → Type 0
+IsUnmade text others fault = (rest : List (List (List ℕ))) × WhyNoMessage text.schema.fields others rest fault
+
+-- A put was cut short, after messages that say the rows of some records of a text, from the first one on, or after none. What
 -- is written has no End. Why: a message was not sent, or the next one was not made.
 pub record PutsSome (target : Target) (text : TextAt) (fault : Fault) (old new : Line) : Type 0 where
   pub some : List (List (List ℕ))
@@ -28,7 +33,7 @@ pub record PutsSome (target : Target) (text : TextAt) (fault : Fault) (old new :
   pub messages : List IpcMessage
   pub says : (messages ≡ []) ⊎ SaysRecords text.schema some messages
   pub cut : IsCutShort fault (put_payloads target messages) old new
-  pub why : WhyCut fault (put_payloads target messages) old new ⊎ (new.outgoing.failed ≡ old.outgoing.failed)
+  pub why : WhyCut fault (put_payloads target messages) old new ⊎ (IsUnmade text others fault × (new.outgoing.failed ≡ old.outgoing.failed))
 
 -- a put was cut short by a fault of this end
 abbrev pub FailsRows : Target → TextAt → Failure → Line → Line → Type 0

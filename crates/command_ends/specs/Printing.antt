@@ -28,6 +28,11 @@ floor_line floor = codes "floor " ++ decimal floor ++ codes "\n"
 abbrev pub listening_line : ℕ → List ℕ
 listening_line port = codes "listening 127.0.0.1:" ++ decimal port ++ codes "\n"
 
+-- that the line of a port was printed: the port, and what the output held right after the line, where that is known
+pub record AnnouncedAt : Type 0 where
+  pub port : ℕ
+  pub held : Option (List ℕ)
+
 -- what an output holds, where it is known, and how many of its writes have failed
 pub record Said : Type 0 where
   pub bytes : Option (List ℕ)

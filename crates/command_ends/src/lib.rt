@@ -11,6 +11,7 @@ mod held;
 pub mod known;
 pub mod network;
 pub mod printing;
+mod snapshot;
 pub mod whole;
 
 pub use crate::accept_failure::AcceptFailure;

@@ -40,11 +40,12 @@ pub trait Connect {
         ensures { shares self.old result self.new };
 }
 
-/// Takes connections of clients, one after the other, for one seat. The first one is taken when the line of the port was printed.
-/// Each other one is taken when the one before it was served as it is owed, and is closed. It is shown the seat at each accept and
-/// at each closing: so what was done for it is one chain, from a seat that had seen nothing, without an end.
+/// Takes connections of clients, one after the other, for one seat. The first one is taken when the line of the port was printed,
+/// and the output of that line held what the listener asks for (`due`). Each other one is taken when the one before it was served
+/// as it is owed, and is closed. The listener is shown the seat at each accept and at each closing: so what was done for it is one
+/// chain, from a seat that had seen nothing, without an end.
 pub trait Listen<K: Known> {
-    ghost use Rattle.std.specs.Prelude.{◌≡◌, ℕ, Option, Some, None, Result, Ok, Err, IfErr, IfOk};
+    ghost use Rattle.std.specs.Prelude.{◌≡◌, ◌+◌, ℕ, List, Option, Some, None, Result, Ok, Err, IfErr, IfOk};
     ghost use Rattle.command_ends.specs.Network.{Accepting, Ends, ends_of};
 
     /// What comes from a client.
@@ -58,7 +59,10 @@ pub trait Listen<K: Known> {
     ghost listens: { Self → ℕ → ℕ → Option ℕ → Self → Type 0 };
 
     // What came of asking for another listener to the same port: this one, or none.
-    ghost shares: { Self → Option Self → Type 0 };
+    ghost shares: { Self → Option Self → Self → Type 0 };
+
+    // How many further listeners it gave.
+    ghost handed: { Self → ℕ };
 
     // What came of an accept: a connection of these ends, or why there is none.
     ghost accepts: { Accepting Self };
@@ -81,6 +85,9 @@ pub trait Listen<K: Known> {
     // It may be shown this seat: it is one of its cell.
     ghost cell: { Self → K → Type 0 };
 
+    // An accept may be asked for once the output of the line of this port holds this.
+    ghost due: { Self → ℕ → Option (List ℕ) → Type 0 };
+
     // What is owed for a connection before it is closed: from the seat at its accept, by its ends when it was made and those that
     // it left, to the seat that it left.
     ghost owed: { K → Ends → Ends → K → Type 0 };
@@ -96,21 +103,37 @@ pub trait Listen<K: Known> {
         ensures refused { IfErr result (λ _. listens self.old port idle None self.new) }
         ensures port { IfOk result (λ heard. port_of self.new ≡ heard) }
         ensures at_rest { IfOk result (λ _. at_rest self.new) }
-        ensures cell { (seat : K) → cell self.old seat → cell self.new seat };
+        ensures handed { handed self.new ≡ handed self.old }
+        ensures cell { (seat : K) → cell self.old seat → cell self.new seat }
+        ensures due { (port : ℕ) (held : Option (List ℕ))
+            → due self.old port held → due self.new port held };
 
-    /// Another listener to the same port, for a seat of the same cell that has seen nothing: a connection to the port is taken by
-    /// one of the two. It gave none yet.
+    /// Another listener to the same port, for a seat of the same cell that has seen nothing: a
+    /// connection to the port is taken by one of the two. It gave no connection and no listener
+    /// yet. This listener counts it, and stays else as it was.
     ///
     /// # Errors
     ///
-    /// The system's.
-    fn share(&self) -> io::Result<Self>
-        ensures made { IfOk result (λ other. shares self.now (Some other)) }
-        ensures refused { IfErr result (λ _. shares self.now None) }
-        ensures port { IfOk result (λ other. port_of other ≡ port_of self.now) }
+    /// The system's. Nothing is counted then.
+    fn share(&mut self) -> io::Result<Self>
+        ensures made { IfOk result (λ other. shares self.old (Some other) self.new) }
+        ensures refused { IfErr result (λ _. shares self.old None self.new) }
+        ensures handed { IfOk result (λ other.
+            (handed self.new ≡ handed self.old + 1) × (handed other ≡ 0)) }
+        ensures none_handed { IfErr result (λ _. handed self.new ≡ handed self.old) }
+        ensures port { IfOk result (λ other. port_of other ≡ port_of self.old) }
         ensures at_rest { IfOk result (λ other. at_rest other) }
         ensures rests { IfOk result (λ other. (seat : K) → K.is_new seat → rests other seat) }
-        ensures cell { IfOk result (λ other. (seat : K) → cell self.now seat → cell other seat) };
+        ensures cell { IfOk result (λ other. (seat : K) → cell self.old seat → cell other seat) }
+        ensures due { IfOk result (λ other. (port : ℕ) (held : Option (List ℕ))
+            → due self.old port held → due other port held) }
+        ensures keeps_port { port_of self.new ≡ port_of self.old }
+        ensures keeps_rest { at_rest self.old → at_rest self.new }
+        ensures keeps_held { (made : Ends) → holds self.old made → holds self.new made }
+        ensures keeps_seat { (seat : K) → rests self.old seat → rests self.new seat }
+        ensures keeps_cell { (seat : K) → cell self.old seat → cell self.new seat }
+        ensures keeps_due { (port : ℕ) (held : Option (List ℕ))
+            → due self.old port held → due self.new port held };
 
     /// Waits for the next connection, where the line of its port was printed and no other is open. The seat may have learnt what
     /// others did since it was shown last, and nothing was made through it. No call of the connection's ends has failed yet.
@@ -123,7 +146,8 @@ pub trait Listen<K: Known> {
         announced: &Announced,
         seat: &K,
     ) -> Result<(Self::Reader, Self::Writer), AcceptFailure>
-        requires announced { announced.now ≡ port_of self.old }
+        requires announced { announced.now.port ≡ port_of self.old }
+        requires due { due self.old announced.now.port announced.now.held }
         requires at_rest { at_rest self.old }
         requires cell { cell self.old seat.now }
         requires learns { (old : K) × rests self.old old × K.learns old seat.now }
@@ -136,8 +160,11 @@ pub trait Listen<K: Known> {
             (ends_of (Self.Reader.tape ends.0) (Self.Writer.contents ends.1))) }
         ensures at_rest { IfErr result (λ _. at_rest self.new) }
         ensures port { port_of self.new ≡ port_of self.old }
+        ensures handed { handed self.new ≡ handed self.old }
         ensures rests { rests self.new seat.now }
-        ensures cell { (other : K) → cell self.old other → cell self.new other };
+        ensures cell { (other : K) → cell self.old other → cell self.new other }
+        ensures due { (port : ℕ) (held : Option (List ℕ))
+            → due self.old port held → due self.new port held };
 
     /// Closes the connection that is open, and was served as it is owed, from the seat that was shown at its accept to this one.
     fn done(&mut self, reader: Self::Reader, writer: Self::Writer, seat: &K)
@@ -147,6 +174,9 @@ pub trait Listen<K: Known> {
         ensures closed { closes self.old self.new }
         ensures at_rest { at_rest self.new }
         ensures port { port_of self.new ≡ port_of self.old }
+        ensures handed { handed self.new ≡ handed self.old }
         ensures rests { rests self.new seat.now }
-        ensures cell { (other : K) → cell self.old other → cell self.new other };
+        ensures cell { (other : K) → cell self.old other → cell self.new other }
+        ensures due { (port : ℕ) (held : Option (List ℕ))
+            → due self.old port held → due self.new port held };
 }

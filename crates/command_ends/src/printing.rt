@@ -6,24 +6,27 @@ ghost use Rattle.grpc_frame.specs.Ends.{CanFail, CountsFailure, FailsByTransport
 ghost use Rattle.grpc_frame.specs.Sending.{Sends};
 ghost use Rattle.command_ends.specs.Printing.{count_line, floor_line, listening_line};
 
+use crate::snapshot::Snapshot;
 use grpc_frame::{Outbox, Output};
 use itoa::Buffer;
 use scan_base::Fault;
 use std::alloc::Global;
 use std::marker::Model;
 
-/// That the line of a port was printed: `print_listening` alone makes one. A contract sees the port.
+/// That the line of a port was printed: only `print_listening` makes one. A contract sees the port,
+/// and what the output held right after the line.
 #[derive(Drop)]
 pub struct Announced {
     port: u16,
+    output: Snapshot,
 }
 
 impl Model for Announced {
-    ghost use Rattle.std.specs.Prelude.{ℕ};
+    ghost use Rattle.command_ends.specs.Printing.{AnnouncedAt};
 
-    ghost Value = { ℕ };
+    ghost Value = { AnnouncedAt };
 
-    ghost view = { λ announced. announced.port };
+    ghost view = { λ announced. record { port = announced.port; held = announced.output.bytes } };
 }
 
 /// Prints how many rows were put, in a line.
@@ -56,12 +59,16 @@ pub fn print_listening<W: Output>(
     ensures bytes { Writes result (W.contents output.old) (W.contents output.new) (listening_line port) }
     ensures counted { CountsFailure result (W.failures output.old) (W.failures output.new) }
     ensures kind { FailsByTransport result }
-    ensures port { IfOk result (λ announced. announced ≡ port) }
+    ensures port { IfOk result (λ announced. announced.port ≡ port) }
+    ensures held { IfOk result (λ announced. announced.held ≡ W.contents output.new) }
 {
     let mut outbox = Outbox::new(alloc);
     send_listening(&mut outbox, output, port)?;
     outbox.flush(output)?;
-    Ok(Announced { port })
+    Ok(Announced {
+        port,
+        output: Snapshot::of(output),
+    })
 }
 
 // Sends the line of the port.

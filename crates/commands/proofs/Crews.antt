@@ -1,9 +1,9 @@
 -- Workers side by side.
 use native.Mathlib.Omega.{arith}
-use Rattle.std.proofs.Common.{◌≡◌, ◌≤◌, ◌<◌, ◌⊎◌, inl, inr, ℕ, zero, suc, List, [], ◌∷◌, ◌++◌, ◌+◌, ◌-◌, All, IfOk, IsErr, Option, Some, Result, Ok, Err, length, map, take, drop, refl, sym, subst, ap, ◌∙◌, append_assoc, append-nil}
+use Rattle.std.proofs.Common.{◌≡◌, ◌≤◌, ◌<◌, ◌⊎◌, inl, inr, ℕ, zero, suc, List, [], ◌∷◌, ◌++◌, ◌+◌, ◌-◌, All, IfOk, IsErr, Option, Some, None, Result, Ok, Err, length, map, take, drop, refl, sym, subst, ap, ◌∙◌, append_assoc, append-nil}
 use Rattle.std.specs.Prelude.{slice_index_or}
 use Rattle.std.proofs.lemmas.List.Elements.{All-nil, All-cons, All-head, All-tail, All-pop, All-push}
-use Rattle.std.proofs.lemmas.List.{length-append, length-map}
+use Rattle.std.proofs.lemmas.List.{length-append, length-map, map-append}
 use Rattle.std.specs.Io.KnownBytes.{Appends}
 use Rattle.atomic_table.specs.Seated.{TableId}
 use Rattle.scan_base.specs.declared.fault.Fault.{Fault}
@@ -15,16 +15,17 @@ use Rattle.version_cell.specs.Merges.{MergesAll}
 use Rattle.logbook.specs.Pages.{Book}
 use Rattle.version_cell.specs.Rests.{RestAt}
 use Rattle.version_cell.specs.Seats as cell
+use Rattle.flight_core.specs.Placed.{placed}
 use Rattle.flight_core.specs.Seats.{Seat, seat_of}
 use Rattle.shared_calls.specs.Sharing.{onward, seat_at}
 use Rattle.connection_turns.specs.Drawers.{DrawerAt, drawer_at}
 use Rattle.command_line.specs.declared.request.Serving.{Serving}
 use Rattle.command_ends.specs.Network.{Accepting, Ends}
-use Rattle.command_ends.specs.Printing.{Said, listening_line}
+use Rattle.command_ends.specs.Printing.{AnnouncedAt, Said, listening_line}
 use Rattle.commands.specs.Shown.{IsNewSeat, WasShown}
-use Rattle.commands.specs.Port.{IsFresh, IsServed, ServesPort, most_of, options_of}
-use Rattle.commands.specs.Serve.{DrawsAll, Pays, Work, IsPartOf, ServesSideBySide, both, first_fault, made_by, made_by_each}
-use Rattle.commands.specs.inside.Gathering.{Begun, Gathered, HasDrawn, HasWorked, HiredWorker, IsAtRest, IsNew, IsWithin, MayServe, seat_in, state_of, work_of}
+use Rattle.commands.specs.Port.{IsDueAfter, IsFresh, IsServed, RefusesOne, ServesPort, Sharing, SharesEach, SharesSome, listeners_of, most_of, options_of}
+use Rattle.commands.specs.Serve.{DrawsAll, Pays, Work, Worker, IsPartOf, ServesSideBySide, both, first_fault, made_by, made_by_each}
+use Rattle.commands.specs.inside.Gathering.{Begun, Gathered, HasDrawn, HasWorked, HiredWorker, IsAtRest, IsNew, IsWithin, MayServe, hired_listeners, seat_in, state_of, work_of}
 
 -- all that is of a history is of one that goes on from it
 within_more : {L : Type 0} (told history : Log) → Begins told history → (all : List (HiredWorker L)) → All (IsWithin told) all → All (IsWithin history) all
@@ -36,58 +37,117 @@ within_more {L} told history more (hired ∷ all) parts =
 
 -- ---- workers that begin
 
-pub none_begun : {L : Type 0} (shares : L → Option L → Type 0) (at_rest : L → Type 0) (port_of : L → ℕ) (rests known : L → RestAt → Type 0) (heard : L) (book : Book) (name : TableId) (hub : DrawerAt) (left : List cell.Seat) → All (λ found. found ≡ cell.seat found.number [] [] 0 []) left → hub ≡ drawer_at name (length left + 1) 0 0
-    → Begun shares at_rest port_of rests known heard book name hub [] left (length left)
-none_begun {L} shares at_rest port_of rests known heard book name hub left seats parts = record {
+pub none_begun : {L : Type 0} (shares : Sharing L) (at_rest : L → Type 0) (port_of : L → ℕ) (rests known : L → RestAt → Type 0) (due : L → ℕ → Option (List ℕ) → Type 0) (handed : L → ℕ) (heard : L) (book : Book) (name : TableId) (hub : DrawerAt) (left : List cell.Seat) → All (λ found. found ≡ cell.seat found.number [] [] 0 []) left → hub ≡ drawer_at name (length left + 1) 0 0
+    → ((shown : RestAt) → shown.book ≡ book → known heard shown)
+    → Begun shares at_rest port_of rests known due handed heard heard book name hub [] left (length left)
+none_begun {L} shares at_rest port_of rests known due handed heard book name hub left seats parts knows = record {
   counted = omega arith;
-  fresh = All-nil (λ (hired : HiredWorker L). IsFresh shares heard (state_of hired));
+  given = refl;
+  counts = omega arith;
+  port = refl;
+  knows = knows;
+  dues = λ port held is. is;
+  fresh = All-nil (λ (hired : HiredWorker L). IsFresh (state_of hired));
   new = All-nil (IsNew name);
-  may = All-nil (IsAtRest at_rest port_of rests known (port_of heard) book);
+  may = All-nil (IsAtRest at_rest port_of rests known due heard book);
   seats = seats;
   parts = parts;
 }
 
+-- one listener more was given
+one_shared : {L : Type 0} (shares : Sharing L) (given : List L) (listener old middle new : L) → SharesEach shares old given middle → shares middle (Some listener) new
+    → SharesEach shares old (given ++ listener ∷ []) new
+one_shared {L} shares [] listener old middle new each shared = (new, subst (λ (l : L). shares l (Some listener) new) each shared, refl)
+one_shared {L} shares (one ∷ given) listener old middle new each shared =
+    (each.0, each.1, one_shared shares given listener each.0 middle new each.2 shared)
+
+one_given : {L : Type 0} (shares : Sharing L) (workers : List (HiredWorker L)) (hired : HiredWorker L) (old middle new : L) → SharesEach shares old (hired_listeners workers) middle → shares middle (Some hired.listener) new
+    → SharesEach shares old (hired_listeners (workers ++ hired ∷ [])) new
+one_given {L} shares workers hired old middle new each shared =
+    subst (λ (given : List L). SharesEach shares old given new) (sym (map-append (λ (h : HiredWorker L). h.listener) workers (hired ∷ [])))
+    (one_shared shares (hired_listeners workers) hired.listener old middle new each shared)
+
+-- what a network gave and kept, when it was asked for one listener more
+pub record Gave {L : Type 0} (shares : Sharing L) (at_rest : L → Type 0) (port_of : L → ℕ) (rests known : L → RestAt → Type 0) (due : L → ℕ → Option (List ℕ) → Type 0) (handed : L → ℕ) (old listener new : L) : Type 0 where
+  pub shared : shares old (Some listener) new
+  pub counted : handed new ≡ handed old + 1
+  pub free : at_rest listener
+  pub port : port_of listener ≡ port_of old
+  pub stands : (seat : RestAt) → IsNewSeat seat → rests listener seat
+  pub knows : (seat : RestAt) → known old seat → known listener seat
+  pub dues : (port : ℕ) (held : Option (List ℕ)) → due old port held → due listener port held
+  pub keeps_port : port_of new ≡ port_of old
+  pub keeps_cell : (seat : RestAt) → known old seat → known new seat
+  pub keeps_due : (port : ℕ) (held : Option (List ℕ)) → due old port held → due new port held
+
 -- a worker for one seat more
-pub one_begins : {L : Type 0} (shares : L → Option L → Type 0) (at_rest : L → Type 0) (port_of : L → ℕ) (rests known : L → RestAt → Type 0) (heard listener : L) (book : Book) (name : TableId) (hub after other : DrawerAt) (workers more : List (HiredWorker L)) (scanner : cell.Seat) (left rest : List cell.Seat) (count : ℕ)
-    → Begun shares at_rest port_of rests known heard book name hub workers left count → left ≡ scanner ∷ rest → shares heard (Some listener) → at_rest listener → port_of listener ≡ port_of heard
-    → ((new : RestAt) → IsNewSeat new → rests listener new) → ((shown : RestAt) → shown.book ≡ book → known listener shown)
+pub one_begins : {L : Type 0} (shares : Sharing L) (at_rest : L → Type 0) (port_of : L → ℕ) (rests known : L → RestAt → Type 0) (due : L → ℕ → Option (List ℕ) → Type 0) (handed : L → ℕ) (heard network listener next : L) (book : Book) (name : TableId) (hub after other : DrawerAt) (workers more : List (HiredWorker L)) (scanner : cell.Seat) (left rest : List cell.Seat) (count : ℕ)
+    → Begun shares at_rest port_of rests known due handed heard network book name hub workers left count → left ≡ scanner ∷ rest
+    → Gave shares at_rest port_of rests known due handed network listener next
     → after ≡ drawer_at hub.name (hub.parts - 1) hub.drawn hub.ended → other ≡ drawer_at hub.name 1 0 0
     → more ≡ workers ++ record { listener = listener; scanner = Some scanner; drawer = other; served = Ok tt } ∷ []
-    → Begun shares at_rest port_of rests known heard book name after more rest count
-one_begins {L} shares at_rest port_of rests known heard listener book name hub after other workers more scanner left rest count so next shared free same stands knows cut part pushed =
+    → Begun shares at_rest port_of rests known due handed heard next book name after more rest count
+one_begins {L} shares at_rest port_of rests known due handed heard network listener next book name hub after other workers more scanner left rest count so first gave cut part pushed =
     let hired : HiredWorker L = record { listener = listener; scanner = Some scanner; drawer = other; served = Ok tt } in
-    let here : All (λ found. found ≡ cell.seat found.number [] [] 0 []) (scanner ∷ rest) = rw next at so.seats in
+    let here : All (λ found. found ≡ cell.seat found.number [] [] 0 []) (scanner ∷ rest) = rw first at so.seats in
     let fresh : scanner ≡ cell.seat scanner.number [] [] 0 [] = All-head (λ found. found ≡ cell.seat found.number [] [] 0 []) scanner rest here in
     let longer : length more ≡ length workers + 1 = rw pushed (length-append workers (hired ∷ [])) in
-    let counted : length workers + suc (length rest) ≡ count = rw next at so.counted in
-    let held : hub ≡ drawer_at name (suc (length rest) + 1) 0 0 = rw next at so.parts in
+    let counted : length workers + suc (length rest) ≡ count = rw first at so.counted in
+    let held : hub ≡ drawer_at name (suc (length rest) + 1) 0 0 = rw first at so.parts in
     let one_less : suc (length rest) + 1 - 1 ≡ length rest + 1 = omega arith in
     let new : other ≡ drawer_at name 1 0 0 = rw held at part in
-    let may : IsAtRest at_rest port_of rests known (port_of heard) book hired
-    = record { free = free; port = same; rests = stands; knows = knows } in record {
+    let before : handed network ≡ handed heard + length workers = so.counts in
+    let once : handed next ≡ handed network + 1 = gave.counted in
+    let may : IsAtRest at_rest port_of rests known due heard book hired
+    = record {
+      free = gave.free;
+      port = gave.port ∙ so.port;
+      stands = gave.stands;
+      knows = λ shown same. gave.knows shown (so.knows shown same);
+      dues = λ port held is. gave.dues port held (so.dues port held is);
+    } in record {
       counted = omega (arith, longer, counted);
-      fresh = rw pushed (All-push (λ (worker : HiredWorker L). IsFresh shares heard (state_of worker)) workers hired so.fresh (shared, ap seat_at fresh));
+      given = rw pushed (one_given shares workers hired heard network next so.given gave.shared);
+      counts = omega (arith, longer, before, once);
+      port = gave.keeps_port ∙ so.port;
+      knows = λ shown same. gave.keeps_cell shown (so.knows shown same);
+      dues = λ port held is. gave.keeps_due port held (so.dues port held is);
+      fresh = rw pushed (All-push (λ (worker : HiredWorker L). IsFresh (state_of worker)) workers hired so.fresh (ap seat_at fresh));
       new = rw pushed (All-push (IsNew name) workers hired so.new (refl, new));
-      may = rw pushed (All-push (IsAtRest at_rest port_of rests known (port_of heard) book) workers hired so.may may);
+      may = rw pushed (All-push (IsAtRest at_rest port_of rests known due heard book) workers hired so.may may);
       seats = All-tail (λ found. found ≡ cell.seat found.number [] [] 0 []) scanner rest here;
       parts = (rw held at cut) ∙ ap (λ (n : ℕ). drawer_at name n 0 0) one_less;
     }
 
 -- workers may serve, when the line of the port was printed
-pub may_serve : {L : Type 0} (shares : L → Option L → Type 0) (at_rest : L → Type 0) (port_of : L → ℕ) (rests known : L → RestAt → Type 0) (owed : RestAt → Ends → Ends → RestAt → Type 0) (options : Options) (heard : L) (at port : ℕ) (book : Book) (name : TableId) (all : List (HiredWorker L))
-    → at ≡ port → Pays onward options owed → All (λ hired. IsFresh shares heard (state_of hired)) all → All (IsNew name) all → All (IsAtRest at_rest port_of rests known at book) all
-    → All (MayServe at_rest port_of rests known owed options port book name) all
-may_serve {L} shares at_rest port_of rests known owed options heard at port book name [] same pays fresh new may = All-nil (MayServe at_rest port_of rests known owed options port book name)
-may_serve {L} shares at_rest port_of rests known owed options heard at port book name (hired ∷ all) same pays fresh new may =
-    let here : IsAtRest at_rest port_of rests known at book hired = All-head (IsAtRest at_rest port_of rests known at book) hired all may in
-    let start : IsFresh shares heard (state_of hired) = All-head (λ (h : HiredWorker L). IsFresh shares heard (state_of h)) hired all fresh in
-    let heard_so : IsAtRest at_rest port_of rests known port book hired
-    = record { free = here.free; port = here.port ∙ same; rests = here.rests; knows = here.knows } in
-    All-cons (MayServe at_rest port_of rests known owed options port book name) hired all
-    (record { new = All-head (IsNew name) hired all new; may = heard_so; fresh = start.1; pays = pays })
-    (may_serve shares at_rest port_of rests known owed options heard at port book name all same pays
-    (All-tail (λ (h : HiredWorker L). IsFresh shares heard (state_of h)) hired all fresh) (All-tail (IsNew name) hired all new)
-    (All-tail (IsAtRest at_rest port_of rests known at book) hired all may))
+pub may_serve : {L : Type 0} (at_rest : L → Type 0) (port_of : L → ℕ) (rests known : L → RestAt → Type 0) (due : L → ℕ → Option (List ℕ) → Type 0) (owed : RestAt → Ends → Ends → RestAt → Type 0) (options : Options) (heard : L) (announced : AnnouncedAt) (book : Book) (name : TableId) (all : List (HiredWorker L))
+    → announced.port ≡ port_of heard → due heard announced.port announced.held → Pays onward options owed
+    → All (λ hired. IsFresh (state_of hired)) all → All (IsNew name) all → All (IsAtRest at_rest port_of rests known due heard book) all
+    → All (MayServe at_rest port_of rests known due owed options announced book name) all
+may_serve {L} at_rest port_of rests known due owed options heard announced book name [] same dues pays fresh new may =
+    All-nil (MayServe at_rest port_of rests known due owed options announced book name)
+may_serve {L} at_rest port_of rests known due owed options heard announced book name (hired ∷ all) same dues pays fresh new may =
+    let here : IsAtRest at_rest port_of rests known due heard book hired = All-head (IsAtRest at_rest port_of rests known due heard book) hired all may in
+    All-cons (MayServe at_rest port_of rests known due owed options announced book name) hired all
+    (record {
+      new = All-head (IsNew name) hired all new;
+      fresh = All-head (λ (h : HiredWorker L). IsFresh (state_of h)) hired all fresh;
+      free = here.free;
+      port = same ∙ sym here.port;
+      dues = here.dues announced.port announced.held dues;
+      stands = here.stands;
+      knows = here.knows;
+      pays = pays;
+    })
+    (may_serve at_rest port_of rests known due owed options heard announced book name all same dues pays
+    (All-tail (λ (h : HiredWorker L). IsFresh (state_of h)) hired all fresh) (All-tail (IsNew name) hired all new)
+    (All-tail (IsAtRest at_rest port_of rests known due heard book) hired all may))
+
+-- a listener may be asked for an accept, when the line of the port was printed
+pub dues_so : {L : Type 0} (due : L → ℕ → Option (List ℕ) → Type 0) (heard : L) (announced : AnnouncedAt) (port : ℕ) (before after : Option (List ℕ))
+    → IsDueAfter (due heard) before → Appends before after (listening_line port) → announced.port ≡ port → announced.held ≡ after
+    → due heard announced.port announced.held
+dues_so {L} due heard announced port before after dues printed same held = rw (same, held) (dues port after printed)
 
 -- a seat that is new, as it would be shown
 abbrev pub new_rest : Book → ℕ → RestAt
@@ -247,7 +307,7 @@ all_have_drawn {L} accepts options name olds news items is same each = rw is (dr
 pub all_served : {L : Type 0} (accepts : Accepting L) (options : Options) (name : TableId) (most : ℕ) (history : Log) (olds news items : List (HiredWorker L)) (result : Result (Unit {0}) Fault) → items ≡ news → length news ≡ length olds
     → ((i : ℕ) (d : HiredWorker L) → i < length olds → HasWorked accepts options name (slice_index_or olds i d) (slice_index_or news i d))
     → (seen : Log) → All (IsWithin seen) items → Begins seen history → IsLog history → length history ≡ made_by (map work_of items)
-    → MergesAll (made_by_each (map work_of items)) history → DrawsAll most (map work_of items) → result ≡ first_fault (map work_of items)
+    → MergesAll (made_by_each (map work_of items)) (placed 0 history) → DrawsAll most (map work_of items) → result ≡ first_fault (map work_of items)
     → ServesSideBySide accepts options most (map state_of olds) result
 all_served {L} accepts options name most history olds news items result is same each seen within more log made own drawn ends = record {
   history = history;
@@ -262,29 +322,52 @@ all_served {L} accepts options name most history olds news items result is same 
 
 -- ---- the port
 
-fresh_workers : {L : Type 0} (shares : L → Option L → Type 0) (heard : L) (all : List (HiredWorker L)) → All (λ hired. IsFresh shares heard (state_of hired)) all
-    → All (IsFresh shares heard) (map state_of all)
-fresh_workers {L} shares heard [] fresh = All-nil (IsFresh shares heard)
-fresh_workers {L} shares heard (hired ∷ all) fresh =
-    All-cons (IsFresh shares heard) (state_of hired) (map state_of all)
-    (All-head (λ (h : HiredWorker L). IsFresh shares heard (state_of h)) hired all fresh)
-    (fresh_workers shares heard all (All-tail (λ (h : HiredWorker L). IsFresh shares heard (state_of h)) hired all fresh))
+fresh_workers : {L : Type 0} (all : List (HiredWorker L)) → All (λ hired. IsFresh (state_of hired)) all
+    → All IsFresh (map state_of all)
+fresh_workers {L} [] fresh = All-nil (λ (worker : Worker L). IsFresh worker)
+fresh_workers {L} (hired ∷ all) fresh =
+    All-cons (λ (worker : Worker L). IsFresh worker) (state_of hired) (map state_of all)
+    (All-head (λ (h : HiredWorker L). IsFresh (state_of h)) hired all fresh)
+    (fresh_workers all (All-tail (λ (h : HiredWorker L). IsFresh (state_of h)) hired all fresh))
 
-as_served : {L : Type 0} (accepts : Accepting L) (shares : L → Option L → Type 0) (serving : Serving) (result : Result (Unit {0}) Fault) (heard : L) (out out' : Said)
-    → IsServed accepts shares serving result heard out out' → ServesPort accepts shares serving result heard out out'
-as_served accepts shares serving (Ok done) heard out out' served = served
-as_served accepts shares serving (Err fault) heard out out' served = inl served
+same_listeners : {L : Type 0} (all : List (HiredWorker L)) → hired_listeners all ≡ listeners_of (map state_of all)
+same_listeners {L} [] = refl
+same_listeners {L} (hired ∷ all) = ap (λ (others : List L). hired.listener ∷ others) (same_listeners all)
 
-pub port_served : {L : Type 0} (accepts : Accepting L) (shares : L → Option L → Type 0) (serving : Serving) (result : Result (Unit {0}) Fault) (heard : L) (out out' : Said) (all : List (HiredWorker L))
-    → Appends out.bytes out'.bytes (listening_line serving.port) → out'.failures ≡ out.failures → length all ≡ serving.seats → All (λ hired. IsFresh shares heard (state_of hired)) all
-    → ServesSideBySide accepts (options_of serving) (most_of serving.accept) (map state_of all) result
-    → ServesPort accepts shares serving result heard out out'
-port_served {L} accepts shares serving result heard out out' all printed quiet many fresh served =
-    as_served accepts shares serving result heard out out' (record {
+as_served : {L : Type 0} (accepts : Accepting L) (shares : Sharing L) (serving : Serving) (result : Result (Unit {0}) Fault) (heard new : L) (out out' : Said)
+    → IsServed accepts shares serving result heard new out out' → ServesPort accepts shares serving result heard new out out'
+as_served accepts shares serving (Ok done) heard new out out' served = served
+as_served accepts shares serving (Err fault) heard new out out' served = inl served
+
+pub port_served : {L : Type 0} (accepts : Accepting L) (shares : Sharing L) (serving : Serving) (result : Result (Unit {0}) Fault) (heard new : L) (out out' : Said) (all : List (HiredWorker L))
+    → Appends out.bytes out'.bytes (listening_line serving.port) → out'.failures ≡ out.failures → length all ≡ serving.seats → SharesEach shares heard (hired_listeners all) new
+    → All (λ hired. IsFresh (state_of hired)) all → ServesSideBySide accepts (options_of serving) (most_of serving.accept) (map state_of all) result
+    → ServesPort accepts shares serving result heard new out out'
+port_served {L} accepts shares serving result heard new out out' all printed quiet many given fresh served =
+    as_served accepts shares serving result heard new out out' (record {
       printed = printed;
       quiet = quiet;
       workers = map state_of all;
       many = length-map all state_of ∙ many;
-      start = fresh_workers shares heard all fresh;
+      given = subst (λ (listeners : List L). SharesEach shares heard listeners new) (same_listeners all) given;
+      start = fresh_workers all fresh;
       served = served;
     })
+
+-- it gave no listener
+pub shares_none : {L : Type 0} (shares : Sharing L) (heard : L) → SharesSome shares heard heard
+shares_none shares heard = ([], refl)
+
+-- it gave those of workers
+pub shares_some : {L : Type 0} (shares : Sharing L) (heard new : L) (given : List L) → SharesEach shares heard given new → SharesSome shares heard new
+shares_some shares heard new given each = (given, each)
+
+-- it gave some, and then one more
+pub shares_more : {L : Type 0} (shares : Sharing L) (given : List L) (listener heard middle new : L)
+    → SharesEach shares heard given middle → shares middle (Some listener) new → SharesSome shares heard new
+shares_more shares given listener heard middle new each shared = (given ++ listener ∷ [], one_shared shares given listener heard middle new each shared)
+
+-- it gave some, and refused the next one
+pub refuses_one : {L : Type 0} (shares : Sharing L) (given : List L) (heard middle new : L)
+    → SharesEach shares heard given middle → shares middle None new → RefusesOne shares heard new
+refuses_one shares given heard middle new each refused = (middle, (given, each), refused)

@@ -10,6 +10,7 @@ use Rattle.version_cell.specs.Rests.{RestAt}
 use Rattle.version_cell.specs.Signed.{log_of}
 use Rattle.flight_core.proofs.Running.{begins_on, begins_same}
 use Rattle.flight_calls.specs.declared.setting.Options.{Options}
+use Rattle.flight_core.specs.Placed.{Placed}
 use Rattle.flight_core.specs.Seats.{Learns, Moves, Seat}
 use Rattle.shared_calls.specs.Sharing.{RestsAs}
 use Rattle.flight_calls.specs.Owed.{Connection, Serves, connection_of}
@@ -78,7 +79,7 @@ pub one_more : {L : Type 0} (accepts : Accepting L) (closes : L → L → Type 0
 one_more {L} accepts closes moves options served start old middle new seat next ends result last so takes closed serves more end final rest =
     let turns : Accepting L = AcceptsThenCloses accepts closes in
     let first : ServesRest turns moves options (suc more) end (worker_of takes.listener seat) final
-    = (Took new ends result last ∷ rest.0, ((middle, takes.took, closed), next, serves, rest.1)) in
+    = (Took new ends result last ∷ rest.0, ((middle, takes.took, closed), (next, serves, rest.1))) in
     let all : ServesRest turns moves options (suc more) end (worker_of old seat) final
     = failed_before turns moves options more takes.failed end old takes.listener seat final
     (no_closing accepts closes takes.failed old takes.listener takes.passed) first in
@@ -136,14 +137,14 @@ served_to moves options before behind old new made left result last serves leave
 pub told_so : (rest : RestAt) (book : Book) (number : ℕ) (seat : Seat) → RestsAs rest book seat → rest.seat ≡ number → IsShownAs rest book number seat
 told_so rest book number seat rests same = (rests.book, same, rests.log, rests.made, rests.asks)
 
-abbrev seat_with : ℕ → Log → Log → ℕ → Seat
+abbrev seat_with : ℕ → Log → List Placed → ℕ → Seat
 seat_with looks log made asks = record { log = log; looks = looks; made = made; asks = asks }
 
 -- the seat itself, behind its looks
 pub as_shown : (shown : RestAt) (book : Book) (number : ℕ) (seat : Seat) → IsShownAs shown book number seat → seat ≡ seat_shown shown seat.looks
 as_shown shown book number seat is =
     sym (ap (λ (log : Log). seat_with seat.looks log shown.made shown.asks) is.2
-    ∙ (ap (λ (made : Log). seat_with seat.looks seat.log made shown.asks) is.3 ∙ ap (seat_with seat.looks seat.log seat.made) is.4))
+    ∙ (ap (λ (made : List Placed). seat_with seat.looks seat.log made shown.asks) is.3 ∙ ap (seat_with seat.looks seat.log seat.made) is.4))
 
 -- a seat that asked has learnt since it was shown last
 pub learnt_so : (moves : Moves) (shown rest : RestAt) (book : Book) (number : ℕ) (old new : Seat)

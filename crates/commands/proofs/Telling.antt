@@ -8,11 +8,13 @@ use Rattle.table_versions.specs.Database.{Put}
 use Rattle.version_log.specs.Log.{Log, added, expired, puts_of}
 use Rattle.version_log.proofs.Logs.{puts_of-append}
 use Rattle.version_cell.specs.Merges.{Merges, MergesAll}
+use Rattle.version_cell.proofs.Merging.{all_map}
 use Rattle.flight_proto.specs.Expiry.{expiry_bytes, expiry_of}
 use Rattle.flight_info.specs.Payloads.{Payload}
 use Rattle.flight_info.specs.Replies.{ReplyAt}
 use Rattle.flight_core.specs.Asked.{Asked}
 use Rattle.flight_core.specs.Machine.{PutStep, ReplyTo}
+use Rattle.flight_core.specs.Placed.{Placed, placed, log_in}
 use Rattle.flight_core.specs.Puts.{put_said}
 use Rattle.flight_calls.specs.Calls.{Call, asked_by}
 use Rattle.flight_calls.specs.declared.setting.Options.{Options}
@@ -20,6 +22,7 @@ use Rattle.flight_calls.specs.Exchanges.{Exchange, exchanges_of, IsOwn, WithOwn}
 use Rattle.flight_calls.specs.Laws.{accepted_by, entries_in, entries_of, marked_by}
 use Rattle.flight_calls.specs.Responds.{Answers}
 use Rattle.flight_core.specs.Seats.{Moves, Seat}
+use Rattle.flight_core.proofs.Placing.{log_in-placed}
 use Rattle.flight_calls.proofs.Exchanging.{asks_nothing}
 use Rattle.flight_calls.proofs.Making.{puts_made}
 use Rattle.shared_calls.specs.Sharing.{onward}
@@ -29,16 +32,16 @@ use Rattle.commands.specs.Serve.{Accept, Broke, Failed, Took, Work, Worker, IsPa
 use Rattle.commands.specs.Told.{told_in_turn, told_by, told_by_each, unmarked, IsMarked, IsOwnMark, HistoryIsMarked, WorkersMakeWhatIsTold, HistoryIsTold, PutsAreTold}
 
 -- nothing is made where nothing more is served
-nothing_more : {L : Type 0} (old new : Worker L) → new ≡ old → new.seat.made ≡ old.seat.made ++ []
-nothing_more {L} old new same = ap (λ (worker : Worker L). worker.seat.made) same ∙ sym (append-nil old.seat.made)
+nothing_more : {L : Type 0} (old new : Worker L) → new ≡ old → log_in new.seat.made ≡ log_in old.seat.made ++ []
+nothing_more {L} old new same = ap (λ (worker : Worker L). log_in worker.seat.made) same ∙ sym (append-nil (log_in old.seat.made))
 
-nothing_put : {L : Type 0} (old new : Worker L) → new ≡ old → puts_of new.seat.made ≡ puts_of old.seat.made ++ []
-nothing_put {L} old new same = ap (λ (worker : Worker L). puts_of worker.seat.made) same ∙ sym (append-nil (puts_of old.seat.made))
+nothing_put : {L : Type 0} (old new : Worker L) → new ≡ old → puts_of (log_in new.seat.made) ≡ puts_of (log_in old.seat.made) ++ []
+nothing_put {L} old new same = ap (λ (worker : Worker L). puts_of (log_in worker.seat.made)) same ∙ sym (append-nil (puts_of (log_in old.seat.made)))
 
 -- connections make what their calls tell of
 turns_make : {L : Type 0} (accepts : Accepting L) (moves : Moves) (options : Options) (all : List (Accept L)) (more : ℕ) (result : Result (Unit {0}) Fault) (old new : Worker L)
     (s : ServesInTurn accepts moves options all more result old new)
-    → options.keep ≡ 0 → new.seat.made ≡ old.seat.made ++ told_in_turn accepts moves options all more result old new s
+    → options.keep ≡ 0 → log_in new.seat.made ≡ log_in old.seat.made ++ told_in_turn accepts moves options all more result old new s
 turns_make {L} accepts moves options [] zero result old new s kept = nothing_more old new s.1
 turns_make {L} accepts moves options [] (suc more) result old new s kept = absurd s
 turns_make {L} accepts moves options (Failed listener ∷ all) zero result old new s kept = absurd s
@@ -54,16 +57,18 @@ turns_make {L} accepts moves options (Took listener ends served last ∷ all) (s
     let rest : Log = told_in_turn accepts moves options all more result (worker_of listener s.1.0) new s.1.2 in
     let made = puts_made moves options turn.start last.seat serves.calls serves.replies serves.answers in
     let same : made.0 ≡ exchanges_of options serves.calls serves.replies = asks_nothing options serves.calls serves.replies made.0 kept made.1 in
-    let served : last.seat.made ≡ turn.start.made ++ here = made.2 ∙ ap (λ (l : List Exchange). turn.start.made ++ entries_in l) same in
-    let first : s.1.0.made ≡ old.seat.made ++ here = turn.learnt.0.1 ∙ (served ∙ ap (λ (l : Log). l ++ here) turn.asked.0.1) in
+    let before : Log = log_in old.seat.made in
+    let served : log_in last.seat.made ≡ log_in turn.start.made ++ here = made.2 ∙ ap (λ (l : List Exchange). log_in turn.start.made ++ entries_in l) same in
+    let first : log_in s.1.0.made ≡ before ++ here
+    = ap log_in turn.learnt.0.1 ∙ (served ∙ ap (λ (l : List Placed). log_in l ++ here) turn.asked.0.1) in
     turns_make accepts moves options all more result (worker_of listener s.1.0) new s.1.2 kept
-    ∙ ap (λ (l : Log). l ++ rest) first ∙ append_assoc old.seat.made here rest
+    ∙ ap (λ (l : Log). l ++ rest) first ∙ append_assoc before here rest
 
 pub workers_make : {L : Type 0} (accepts : Accepting L) → WorkersMakeWhatIsTold accepts
 workers_make {L} accepts options history old new part kept =
     let told : Log = told_by accepts options history old new part in
     turns_make accepts onward options part.serves.all new.drawn new.result (worker_of old.listener part.serves.first) new.worker part.serves.turns kept
-    ∙ ap (λ (l : Log). l ++ told) part.serves.asked.0.1
+    ∙ ap (λ (l : List Placed). log_in l ++ told) part.serves.asked.0.1
 
 -- ---- puts alone, however many versions are kept
 
@@ -104,7 +109,7 @@ puts_told options (call ∷ calls) (reply ∷ replies) all are =
 -- connections put what their calls tell of
 turns_put : {L : Type 0} (accepts : Accepting L) (moves : Moves) (options : Options) (all : List (Accept L)) (more : ℕ) (result : Result (Unit {0}) Fault) (old new : Worker L)
     (s : ServesInTurn accepts moves options all more result old new)
-    → puts_of new.seat.made ≡ puts_of old.seat.made ++ puts_of (told_in_turn accepts moves options all more result old new s)
+    → puts_of (log_in new.seat.made) ≡ puts_of (log_in old.seat.made) ++ puts_of (told_in_turn accepts moves options all more result old new s)
 turns_put {L} accepts moves options [] zero result old new s = nothing_put old new s.1
 turns_put {L} accepts moves options [] (suc more) result old new s = absurd s
 turns_put {L} accepts moves options (Failed listener ∷ all) zero result old new s = absurd s
@@ -119,14 +124,17 @@ turns_put {L} accepts moves options (Took listener ends served last ∷ all) (su
     let here : Log = entries_in (exchanges_of options serves.calls serves.replies) in
     let rest : Log = told_in_turn accepts moves options all more result (worker_of listener s.1.0) new s.1.2 in
     let made = puts_made moves options turn.start last.seat serves.calls serves.replies serves.answers in
-    let served : puts_of last.seat.made ≡ puts_of turn.start.made ++ puts_of here
-    = ap puts_of made.2 ∙ puts_of-append turn.start.made (entries_in made.0)
-    ∙ ap (λ (l : List Put). puts_of turn.start.made ++ l) (puts_told options serves.calls serves.replies made.0 made.1) in
-    let first : puts_of s.1.0.made ≡ puts_of old.seat.made ++ puts_of here
-    = ap puts_of turn.learnt.0.1 ∙ (served ∙ ap (λ (l : Log). puts_of l ++ puts_of here) turn.asked.0.1) in
+    let start : Log = log_in turn.start.made in
+    let before : List Put = puts_of (log_in old.seat.made) in
+    let served : puts_of (log_in last.seat.made) ≡ puts_of start ++ puts_of here
+    = ap puts_of made.2 ∙ puts_of-append start (entries_in made.0)
+    ∙ ap (λ (l : List Put). puts_of start ++ l) (puts_told options serves.calls serves.replies made.0 made.1) in
+    let first : puts_of (log_in s.1.0.made) ≡ before ++ puts_of here
+    = ap (λ (l : List Placed). puts_of (log_in l)) turn.learnt.0.1
+    ∙ (served ∙ ap (λ (l : List Placed). puts_of (log_in l) ++ puts_of here) turn.asked.0.1) in
     turns_put accepts moves options all more result (worker_of listener s.1.0) new s.1.2
-    ∙ ap (λ (l : List Put). l ++ puts_of rest) first ∙ append_assoc (puts_of old.seat.made) (puts_of here) (puts_of rest)
-    ∙ ap (λ (l : List Put). puts_of old.seat.made ++ l) (sym (puts_of-append here rest))
+    ∙ ap (λ (l : List Put). l ++ puts_of rest) first ∙ append_assoc before (puts_of here) (puts_of rest)
+    ∙ ap (λ (l : List Put). before ++ l) (sym (puts_of-append here rest))
 
 -- a log that several made, without its marks
 one_unmarked : (one other log : Log) → Merges one other log → Merges (unmarked one) (unmarked other) (unmarked log)
@@ -142,54 +150,59 @@ all_unmarked : (each : List Log) (log : Log) → MergesAll each log → MergesAl
 all_unmarked [] log none = ap unmarked none
 all_unmarked (one ∷ others) log (rest, is, more) = (unmarked rest, one_unmarked one rest log is, all_unmarked others rest more)
 
+-- what several made, without its places
+without_places : (each : List (List Placed)) (history : Log) → MergesAll each (placed 0 history) → MergesAll (map log_in each) history
+without_places each history own = subst (λ (l : Log). MergesAll (map log_in each) l) (log_in-placed 0 history) (all_map (λ (one : Placed). one.1) each (placed 0 history) own)
+
 -- ---- workers that are new
 
 -- a worker that is new made no more than what it made
-new_made : {L : Type 0} (shares : L → Option L → Type 0) (heard : L) (old : Worker L) (told made : Log) → IsFresh shares heard old → made ≡ old.seat.made ++ told → made ≡ told
-new_made {L} shares heard old told made start is = is ∙ ap (λ (seat : Seat). seat.made ++ told) start.1
+new_made : {L : Type 0} (old : Worker L) (told made : Log) → IsFresh old → made ≡ log_in old.seat.made ++ told → made ≡ told
+new_made {L} old told made start is = is ∙ ap (λ (seat : Seat). log_in seat.made ++ told) start
 
 -- so workers that are new made what is told of
-all_made : {L : Type 0} (accepts : Accepting L) (shares : L → Option L → Type 0) (options : Options) (history : Log) (heard : L) (workers : List (Worker L)) (ends : List (Work L))
-    (parts : Pairwise (IsPartOf accepts options history) workers ends) → All (IsFresh shares heard) workers → options.keep ≡ 0
-    → made_by_each ends ≡ told_by_each accepts options history workers ends parts
-all_made {L} accepts shares options history heard [] [] parts fresh kept = refl
-all_made {L} accepts shares options history heard [] (new ∷ ends) parts fresh kept = absurd parts
-all_made {L} accepts shares options history heard (old ∷ workers) [] parts fresh kept = absurd parts
-all_made {L} accepts shares options history heard (old ∷ workers) (new ∷ ends) parts fresh kept =
-    let start : IsFresh shares heard old = All-head (IsFresh shares heard) old workers fresh in
+all_made : {L : Type 0} (accepts : Accepting L) (options : Options) (history : Log) (workers : List (Worker L)) (ends : List (Work L))
+    (parts : Pairwise (IsPartOf accepts options history) workers ends) → All IsFresh workers → options.keep ≡ 0
+    → map log_in (made_by_each ends) ≡ told_by_each accepts options history workers ends parts
+all_made {L} accepts options history [] [] parts fresh kept = refl
+all_made {L} accepts options history [] (new ∷ ends) parts fresh kept = absurd parts
+all_made {L} accepts options history (old ∷ workers) [] parts fresh kept = absurd parts
+all_made {L} accepts options history (old ∷ workers) (new ∷ ends) parts fresh kept =
+    let start : IsFresh old = All-head (λ (worker : Worker L). IsFresh worker) old workers fresh in
     let told : Log = told_by accepts options history old new parts.0 in
-    let here : new.worker.seat.made ≡ told
-    = new_made shares heard old told new.worker.seat.made start (workers_make accepts options history old new parts.0 kept) in
-    let rest : made_by_each ends ≡ told_by_each accepts options history workers ends parts.1
-    = all_made accepts shares options history heard workers ends parts.1 (All-tail (IsFresh shares heard) old workers fresh) kept in
-    ap (λ (l : Log). l ∷ made_by_each ends) here ∙ ap (λ (l : List Log). told ∷ l) rest
+    let here : log_in new.worker.seat.made ≡ told
+    = new_made old told (log_in new.worker.seat.made) start (workers_make accepts options history old new parts.0 kept) in
+    let rest : map log_in (made_by_each ends) ≡ told_by_each accepts options history workers ends parts.1
+    = all_made accepts options history workers ends parts.1 (All-tail (λ (worker : Worker L). IsFresh worker) old workers fresh) kept in
+    ap (λ (l : Log). l ∷ map log_in (made_by_each ends)) here ∙ ap (λ (l : List Log). told ∷ l) rest
 
-pub history_is_told : {L : Type 0} (accepts : Accepting L) (shares : L → Option L → Type 0) → HistoryIsTold accepts shares
-history_is_told {L} accepts shares options most heard workers result served fresh kept =
-    subst (λ (each : List Log). MergesAll each served.history) (all_made accepts shares options served.history heard workers served.ends served.served fresh kept) served.own
+pub history_is_told : {L : Type 0} (accepts : Accepting L) → HistoryIsTold accepts
+history_is_told {L} accepts options most workers result served fresh kept =
+    subst (λ (each : List Log). MergesAll each served.history) (all_made accepts options served.history workers served.ends served.served fresh kept)
+    (without_places (made_by_each served.ends) served.history served.own)
 
 -- the same of puts, however many versions are kept
-all_put : {L : Type 0} (accepts : Accepting L) (shares : L → Option L → Type 0) (options : Options) (history : Log) (heard : L) (workers : List (Worker L)) (ends : List (Work L))
-    (parts : Pairwise (IsPartOf accepts options history) workers ends) → All (IsFresh shares heard) workers
-    → map unmarked (made_by_each ends) ≡ map unmarked (told_by_each accepts options history workers ends parts)
-all_put {L} accepts shares options history heard [] [] parts fresh = refl
-all_put {L} accepts shares options history heard [] (new ∷ ends) parts fresh = absurd parts
-all_put {L} accepts shares options history heard (old ∷ workers) [] parts fresh = absurd parts
-all_put {L} accepts shares options history heard (old ∷ workers) (new ∷ ends) parts fresh =
-    let start : IsFresh shares heard old = All-head (IsFresh shares heard) old workers fresh in
+all_put : {L : Type 0} (accepts : Accepting L) (options : Options) (history : Log) (workers : List (Worker L)) (ends : List (Work L))
+    (parts : Pairwise (IsPartOf accepts options history) workers ends) → All IsFresh workers
+    → map unmarked (map log_in (made_by_each ends)) ≡ map unmarked (told_by_each accepts options history workers ends parts)
+all_put {L} accepts options history [] [] parts fresh = refl
+all_put {L} accepts options history [] (new ∷ ends) parts fresh = absurd parts
+all_put {L} accepts options history (old ∷ workers) [] parts fresh = absurd parts
+all_put {L} accepts options history (old ∷ workers) (new ∷ ends) parts fresh =
+    let start : IsFresh old = All-head (λ (worker : Worker L). IsFresh worker) old workers fresh in
     let told : Log = told_by accepts options history old new parts.0 in
-    let here : puts_of new.worker.seat.made ≡ puts_of told
+    let here : puts_of (log_in new.worker.seat.made) ≡ puts_of told
     = turns_put accepts onward options parts.0.serves.all new.drawn new.result (worker_of old.listener parts.0.serves.first) new.worker parts.0.serves.turns
-    ∙ ap (λ (l : Log). puts_of l ++ puts_of told) parts.0.serves.asked.0.1
-    ∙ ap (λ (seat : Seat). puts_of seat.made ++ puts_of told) start.1 in
-    let rest : map unmarked (made_by_each ends) ≡ map unmarked (told_by_each accepts options history workers ends parts.1)
-    = all_put accepts shares options history heard workers ends parts.1 (All-tail (IsFresh shares heard) old workers fresh) in
-    ap (λ (l : List Put). map added l ∷ map unmarked (made_by_each ends)) here ∙ ap (λ (l : List Log). unmarked told ∷ l) rest
+    ∙ ap (λ (l : List Placed). puts_of (log_in l) ++ puts_of told) parts.0.serves.asked.0.1
+    ∙ ap (λ (seat : Seat). puts_of (log_in seat.made) ++ puts_of told) start in
+    let rest : map unmarked (map log_in (made_by_each ends)) ≡ map unmarked (told_by_each accepts options history workers ends parts.1)
+    = all_put accepts options history workers ends parts.1 (All-tail (λ (worker : Worker L). IsFresh worker) old workers fresh) in
+    ap (λ (l : List Put). map added l ∷ map unmarked (map log_in (made_by_each ends))) here ∙ ap (λ (l : List Log). unmarked told ∷ l) rest
 
-pub puts_are_told : {L : Type 0} (accepts : Accepting L) (shares : L → Option L → Type 0) → PutsAreTold accepts shares
-puts_are_told {L} accepts shares options most heard workers result served fresh =
-    subst (λ (each : List Log). MergesAll each (unmarked served.history)) (all_put accepts shares options served.history heard workers served.ends served.served fresh)
-    (all_unmarked (made_by_each served.ends) served.history served.own)
+pub puts_are_told : {L : Type 0} (accepts : Accepting L) → PutsAreTold accepts
+puts_are_told {L} accepts options most workers result served fresh =
+    subst (λ (each : List Log). MergesAll each (unmarked served.history)) (all_put accepts options served.history workers served.ends served.served fresh)
+    (all_unmarked (map log_in (made_by_each served.ends)) served.history (without_places (made_by_each served.ends) served.history served.own))
 
 -- ---- puts with the marks that a server asks of itself
 
@@ -259,7 +272,7 @@ calls_marked moves options old new (call ∷ calls) (reply ∷ replies) all answ
 -- what connections make, one after the other
 turns_marked : {L : Type 0} (accepts : Accepting L) (moves : Moves) (options : Options) (all : List (Accept L)) (more : ℕ) (result : Result (Unit {0}) Fault) (old new : Worker L)
     (s : ServesInTurn accepts moves options all more result old new)
-    → (made : Log) × (new.seat.made ≡ old.seat.made ++ made) × IsMarked options.keep (told_in_turn accepts moves options all more result old new s) made
+    → (made : Log) × (log_in new.seat.made ≡ log_in old.seat.made ++ made) × IsMarked options.keep (told_in_turn accepts moves options all more result old new s) made
 turns_marked {L} accepts moves options [] zero result old new s = ([], nothing_more old new s.1, refl)
 turns_marked {L} accepts moves options [] (suc more) result old new s = absurd s
 turns_marked {L} accepts moves options (Failed listener ∷ all) zero result old new s = absurd s
@@ -274,36 +287,38 @@ turns_marked {L} accepts moves options (Took listener ends served last ∷ all) 
     let told : Log = entries_in (exchanges_of options serves.calls serves.replies) in
     let made = puts_made moves options turn.start last.seat serves.calls serves.replies serves.answers in
     let here : Log = entries_in made.0 in
-    let first : s.1.0.made ≡ old.seat.made ++ here = turn.learnt.0.1 ∙ (made.2 ∙ ap (λ (l : Log). l ++ here) turn.asked.0.1) in
+    let before : Log = log_in old.seat.made in
+    let first : log_in s.1.0.made ≡ before ++ here
+    = ap log_in turn.learnt.0.1 ∙ (made.2 ∙ ap (λ (l : List Placed). log_in l ++ here) turn.asked.0.1) in
     let rest = turns_marked accepts moves options all more result (worker_of listener s.1.0) new s.1.2 in
     let others : Log = told_in_turn accepts moves options all more result (worker_of listener s.1.0) new s.1.2 in (
       here ++ rest.0,
-      rest.1 ∙ ap (λ (l : Log). l ++ rest.0) first ∙ append_assoc old.seat.made here rest.0,
+      rest.1 ∙ ap (λ (l : Log). l ++ rest.0) first ∙ append_assoc before here rest.0,
       marked_append options.keep told here others rest.0
-      (calls_marked moves options turn.start last.seat serves.calls serves.replies made.0 serves.answers made.1) rest.2,
+          (calls_marked moves options turn.start last.seat serves.calls serves.replies made.0 serves.answers made.1) rest.2,
     )
 
 -- so workers that are new made what is told of, with the marks
-all_marked : {L : Type 0} (accepts : Accepting L) (shares : L → Option L → Type 0) (options : Options) (history : Log) (heard : L) (workers : List (Worker L)) (ends : List (Work L))
-    (parts : Pairwise (IsPartOf accepts options history) workers ends) → All (IsFresh shares heard) workers
-    → Pairwise (IsMarked options.keep) (told_by_each accepts options history workers ends parts) (made_by_each ends)
-all_marked {L} accepts shares options history heard [] [] parts fresh = tt
-all_marked {L} accepts shares options history heard [] (new ∷ ends) parts fresh = absurd parts
-all_marked {L} accepts shares options history heard (old ∷ workers) [] parts fresh = absurd parts
-all_marked {L} accepts shares options history heard (old ∷ workers) (new ∷ ends) parts fresh =
-    let start : IsFresh shares heard old = All-head (IsFresh shares heard) old workers fresh in
+all_marked : {L : Type 0} (accepts : Accepting L) (options : Options) (history : Log) (workers : List (Worker L)) (ends : List (Work L))
+    (parts : Pairwise (IsPartOf accepts options history) workers ends) → All IsFresh workers
+    → Pairwise (IsMarked options.keep) (told_by_each accepts options history workers ends parts) (map log_in (made_by_each ends))
+all_marked {L} accepts options history [] [] parts fresh = tt
+all_marked {L} accepts options history [] (new ∷ ends) parts fresh = absurd parts
+all_marked {L} accepts options history (old ∷ workers) [] parts fresh = absurd parts
+all_marked {L} accepts options history (old ∷ workers) (new ∷ ends) parts fresh =
+    let start : IsFresh old = All-head (λ (worker : Worker L). IsFresh worker) old workers fresh in
     let serves = parts.0.serves in
     let told : Log = told_by accepts options history old new parts.0 in
     let made = turns_marked accepts onward options serves.all new.drawn new.result (worker_of old.listener serves.first) new.worker serves.turns in
-    let same : new.worker.seat.made ≡ made.0
-    = made.1 ∙ (ap (λ (l : Log). l ++ made.0) serves.asked.0.1 ∙ ap (λ (seat : Seat). seat.made ++ made.0) start.1) in (
+    let same : log_in new.worker.seat.made ≡ made.0
+    = made.1 ∙ (ap (λ (l : List Placed). log_in l ++ made.0) serves.asked.0.1 ∙ ap (λ (seat : Seat). log_in seat.made ++ made.0) start) in (
       subst (λ (l : Log). IsMarked options.keep told l) (sym same) made.2,
-      all_marked accepts shares options history heard workers ends parts.1 (All-tail (IsFresh shares heard) old workers fresh),
+      all_marked accepts options history workers ends parts.1 (All-tail (λ (worker : Worker L). IsFresh worker) old workers fresh),
     )
 
-pub history_is_marked : {L : Type 0} (accepts : Accepting L) (shares : L → Option L → Type 0) → HistoryIsMarked accepts shares
-history_is_marked {L} accepts shares options most heard workers result served fresh = (
-  made_by_each served.ends,
-  served.own,
-  all_marked accepts shares options served.history heard workers served.ends served.served fresh,
+pub history_is_marked : {L : Type 0} (accepts : Accepting L) → HistoryIsMarked accepts
+history_is_marked {L} accepts options most workers result served fresh = (
+  map log_in (made_by_each served.ends),
+  without_places (made_by_each served.ends) served.history served.own,
+  all_marked accepts options served.history workers served.ends served.served fresh,
 )

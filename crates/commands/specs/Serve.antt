@@ -7,6 +7,7 @@ use Rattle.version_log.specs.Log.{Log, IsLog, Begins}
 use Rattle.version_cell.specs.Merges.{MergesAll}
 use Rattle.version_cell.specs.Rests.{RestAt}
 use Rattle.flight_calls.specs.declared.setting.Options.{Options}
+use Rattle.flight_core.specs.Placed.{Placed, placed}
 use Rattle.flight_core.specs.Seats.{AsksOnce, Learns, Moves, Seat}
 use Rattle.flight_calls.specs.Owed.{Connection, Serves, connection_of}
 use Rattle.shared_calls.specs.Sharing.{onward}
@@ -119,8 +120,8 @@ abbrev pub made_by : {L : Type 0} → List (Work L) → ℕ
 made_by [] = 0
 made_by (work ∷ others) = length work.worker.seat.made + made_by others
 
--- the entries that the connections of each of them made
-abbrev pub made_by_each : {L : Type 0} → List (Work L) → List Log
+-- the entries that the connections of each of them made, with their places in the log
+abbrev pub made_by_each : {L : Type 0} → List (Work L) → List (List Placed)
 made_by_each [] = []
 made_by_each (work ∷ others) = work.worker.seat.made ∷ made_by_each others
 
@@ -136,7 +137,9 @@ pub record IsPartOf {L : Type 0} (accepts : Accepting L) (options : Options) (hi
 
 -- These workers served side by side, each the connections that it drew, so many in all. All that their seats have seen
 -- is of one history of accepted puts, with as many entries as their connections made. It is made up of these: of the entries
--- of each worker, in their order, and of no others. The result is the first fault of a worker, if any.
+-- of each worker, in their order, and of no others. Each stands at the place where its step made it.
+-- So no two steps, of whatever workers, made the entry of one place. The result is the first fault of
+-- a worker, if any.
 pub record ServesSideBySide {L : Type 0} (accepts : Accepting L) (options : Options) (most : ℕ)
     (workers : List (Worker L)) (result : Result (Unit {0}) Fault) : Type 0 where
   pub history : Log
@@ -144,6 +147,6 @@ pub record ServesSideBySide {L : Type 0} (accepts : Accepting L) (options : Opti
   pub ends : List (Work L)
   pub served : Pairwise (IsPartOf accepts options history) workers ends
   pub made : length history ≡ made_by ends
-  pub own : MergesAll (made_by_each ends) history
+  pub own : MergesAll (made_by_each ends) (placed 0 history)
   pub drawn : DrawsAll most ends
   pub ended : result ≡ first_fault ends

@@ -7,6 +7,7 @@ use Rattle.version_cell.specs.Merges.{MergesAll}
 use Rattle.flight_calls.specs.declared.setting.Options.{Options}
 use Rattle.flight_calls.specs.Exchanges.{exchanges_of}
 use Rattle.flight_calls.specs.Laws.{entries_in}
+use Rattle.flight_core.specs.Placed.{log_in}
 use Rattle.flight_core.specs.Seats.{Moves}
 use Rattle.shared_calls.specs.Sharing.{onward}
 use Rattle.command_ends.specs.Network.{Accepting}
@@ -59,28 +60,29 @@ unmarked log = map added (puts_of log)
 abbrev pub WorkersMakeWhatIsTold : {L : Type 0} → Accepting L → Type 0
 WorkersMakeWhatIsTold {L} accepts =
     (options : Options) (history : Log) (old : Worker L) (new : Work L) (part : IsPartOf accepts options history old new)
-    → options.keep ≡ 0 → new.worker.seat.made ≡ old.seat.made ++ told_by accepts options history old new part
+    → options.keep ≡ 0
+    → log_in new.worker.seat.made ≡ log_in old.seat.made ++ told_by accepts options history old new part
 
 -- Where workers that are new serve side by side, and all versions are kept, their history is made up of the entries that the calls of
 -- each worker's connections tell of, in their order, and of no other.
-abbrev pub HistoryIsTold : {L : Type 0} → Accepting L → (L → Option L → Type 0) → Type 0
-HistoryIsTold {L} accepts shares =
-    (options : Options) (most : ℕ) (heard : L) (workers : List (Worker L)) (result : Result (Unit {0}) Fault)
-    (served : ServesSideBySide accepts options most workers result) → All (IsFresh shares heard) workers → options.keep ≡ 0
+abbrev pub HistoryIsTold : {L : Type 0} → Accepting L → Type 0
+HistoryIsTold {L} accepts =
+    (options : Options) (most : ℕ) (workers : List (Worker L)) (result : Result (Unit {0}) Fault)
+    (served : ServesSideBySide accepts options most workers result) → All IsFresh workers → options.keep ≡ 0
     → MergesAll (told_by_each accepts options served.history workers served.ends served.served) served.history
 
 -- However many versions are kept, the history is made up so of the entries that the calls tell
 -- of, and of no other: each put has right after it the mark that the server asks of itself.
-abbrev pub HistoryIsMarked : {L : Type 0} → Accepting L → (L → Option L → Type 0) → Type 0
-HistoryIsMarked {L} accepts shares =
-    (options : Options) (most : ℕ) (heard : L) (workers : List (Worker L)) (result : Result (Unit {0}) Fault)
-    (served : ServesSideBySide accepts options most workers result) → All (IsFresh shares heard) workers
+abbrev pub HistoryIsMarked : {L : Type 0} → Accepting L → Type 0
+HistoryIsMarked {L} accepts =
+    (options : Options) (most : ℕ) (workers : List (Worker L)) (result : Result (Unit {0}) Fault)
+    (served : ServesSideBySide accepts options most workers result) → All IsFresh workers
     → (each : List Log) × MergesAll each served.history
     × Pairwise (IsMarked options.keep) (told_by_each accepts options served.history workers served.ends served.served) each
 
 -- However many versions are kept, the puts of the history are made up so of the puts that the calls tell of.
-abbrev pub PutsAreTold : {L : Type 0} → Accepting L → (L → Option L → Type 0) → Type 0
-PutsAreTold {L} accepts shares =
-    (options : Options) (most : ℕ) (heard : L) (workers : List (Worker L)) (result : Result (Unit {0}) Fault)
-    (served : ServesSideBySide accepts options most workers result) → All (IsFresh shares heard) workers
+abbrev pub PutsAreTold : {L : Type 0} → Accepting L → Type 0
+PutsAreTold {L} accepts =
+    (options : Options) (most : ℕ) (workers : List (Worker L)) (result : Result (Unit {0}) Fault)
+    (served : ServesSideBySide accepts options most workers result) → All IsFresh workers
     → MergesAll (map unmarked (told_by_each accepts options served.history workers served.ends served.served)) (unmarked served.history)

@@ -1,15 +1,15 @@
 //! Workers that serve connections side by side, over one history.
 
-ghost use Rattle.std.specs.Prelude.{◌≡◌, ◌⊎◌, ◌<◌, ◌+◌, [], All, MatchResult, None, ℕ, length, map, slice_index_or, IfOk};
+ghost use Rattle.std.specs.Prelude.{◌≡◌, ◌⊎◌, ◌<◌, ◌≤◌, ◌+◌, [], All, MatchResult, None, ℕ, length, map, slice_index_or, IfOk};
 ghost use Rattle.scan_base.specs.declared.fault.Fault.TheVariants.{OutOfMemory, Transport};
 ghost use Rattle.version_cell.specs.Rests.{RestAt};
 ghost use Rattle.version_cell.specs.Seats.{seat};
 ghost use Rattle.connection_turns.specs.Drawers as drawers;
-ghost use Rattle.commands.specs.Port.{IsFresh};
+ghost use Rattle.commands.specs.Port.{IsFresh, RefusesOne, SharesEach, SharesSome};
 ghost use Rattle.commands.specs.Serve.{AcceptsThenCloses, DrawsAll, Pays, ServesSideBySide, ServesUpTo, first_fault, made_by, made_by_each, worker_of};
 ghost use Rattle.shared_calls.specs.Sharing.{onward, seat_at};
 ghost use Rattle.commands.specs.Shown.{WasShown};
-ghost use Rattle.commands.specs.inside.Gathering.{HasDrawn, HasWorked, IsAtRest, IsNew, IsWithin, MayServe, state_of, work_of};
+ghost use Rattle.commands.specs.inside.Gathering.{HasDrawn, HasWorked, IsAtRest, IsNew, IsWithin, MayServe, hired_listeners, state_of, work_of};
 
 use crate::shown::ShownSeat;
 use crate::turns::{Service, serve_in_turn};
@@ -54,18 +54,21 @@ pub(crate) fn workers_of<L: Listen<ShownSeat> + Drop, C: CellName>(
     alloc: Global,
     turns: &Turns,
     drawer: &mut Drawer,
-    network: &L,
+    network: &mut L,
     scanners: Vec<Scanner<C>>,
 ) -> Result<Vec<ServingWorker<L, C>>, Fault>
     requires seats { All (λ scanner. scanner ≡ seat scanner.number [] [] 0 []) scanners.items }
-    requires cell { (shown : RestAt) → shown.book ≡ C.book → L.cell network.now shown }
+    requires cell { (shown : RestAt) → shown.book ≡ C.book → L.cell network.old shown }
     requires drawer { drawer.old ≡ drawers.drawer_at turns.now.name (length scanners.items + 1) 0 0 }
     ensures made { MatchResult result
         (λ workers. (length workers.items ≡ length scanners.items)
-        × All (λ hired. IsFresh L.shares network.now (state_of hired)) workers.items
+        × SharesEach L.shares network.old (hired_listeners workers.items) network.new
+        × All (λ hired. IsFresh (state_of hired)) workers.items
         × All (IsNew turns.now.name) workers.items
-        × All (IsAtRest L.at_rest L.port_of L.rests L.cell (L.port_of network.now) C.book) workers.items)
-        (λ fault. (fault ≡ OutOfMemory) ⊎ ((fault ≡ Transport) × L.shares network.now None)) }
+        × All (IsAtRest L.at_rest L.port_of L.rests L.cell L.due network.old C.book) workers.items)
+        (λ fault. ((fault ≡ OutOfMemory) × SharesSome L.shares network.old network.new)
+        ⊎ ((fault ≡ Transport) × RefusesOne L.shares network.old network.new)) }
+    ensures handed { L.handed network.new ≤ L.handed network.old + length scanners.items }
     ensures drawer { IfOk result (λ _. drawer.new ≡ drawers.drawer_at turns.now.name 1 0 0) }
 {
     let mut workers = Vec::new(alloc);
@@ -112,7 +115,7 @@ where
     ghost use Rattle.commands.specs.Serve.{AcceptsThenCloses};
     ghost use Rattle.commands.specs.inside.Gathering.{HasWorked, MayServe};
 
-    ghost takes = { λ crew worker. MayServe L.at_rest L.port_of L.rests L.cell L.owed crew.service.options
+    ghost takes = { λ crew worker. MayServe L.at_rest L.port_of L.rests L.cell L.due L.owed crew.service.options
         crew.service.announced.now C.book crew.service.turns.now.name worker };
 
     ghost leaves = { λ crew old new. HasWorked (AcceptsThenCloses L.accepts L.closes) crew.service.options
@@ -130,7 +133,7 @@ where
     C: CellName,
     T: Wait + Clock,
     X: Executor,
-    requires { MayServe L.at_rest L.port_of L.rests L.cell L.owed crew.now.service.options
+    requires { MayServe L.at_rest L.port_of L.rests L.cell L.due L.owed crew.now.service.options
         crew.now.service.announced.now C.book crew.now.service.turns.now.name worker.old }
     ensures { HasWorked (AcceptsThenCloses L.accepts L.closes) crew.now.service.options
         crew.now.service.turns.now.name worker.old worker.new }
@@ -162,7 +165,8 @@ where
     requires number { scanner.number ≡ N.number }
     requires drawer { drawer.old ≡ drawers.drawer_at crew.now.service.turns.now.name 1 0 0 }
     requires at_rest { L.at_rest listener.old }
-    requires announced { crew.now.service.announced.now ≡ L.port_of listener.old }
+    requires announced { crew.now.service.announced.now.port ≡ L.port_of listener.old }
+    requires due { L.due listener.old crew.now.service.announced.now.port crew.now.service.announced.now.held }
     requires cell { (shown : RestAt) → shown.book ≡ C.book → L.cell listener.old shown }
     requires rests { (shown : RestAt) × L.rests listener.old shown × WasShown shown C.book N.number (seat_at scanner) }
     requires owed { Pays onward crew.now.service.options L.owed }
@@ -250,10 +254,10 @@ where
     X: Executor + Sync,
     requires parts { service.turns.now.parts ≡ length workers.items + 1 }
     requires drawer { drawer ≡ drawers.drawer_at service.turns.now.name 1 0 0 }
-    requires may { All (MayServe L.at_rest L.port_of L.rests L.cell L.owed service.options service.announced.now C.book
+    requires may { All (MayServe L.at_rest L.port_of L.rests L.cell L.due L.owed service.options service.announced.now C.book
         service.turns.now.name) workers.items }
     requires seats { length workers.items ≡ C.parts }
-    ensures { ServesSideBySide (AcceptsThenCloses L.accepts L.closes) service.options service.turns.now.most
+    ensures { ServesSideBySide (AcceptsThenCloses L.accepts L.closes) service.entry.options service.entry.turns.now.most
         (map state_of workers.items) result }
 {
     let (rt, turns) = (service.rt, service.turns);

@@ -34,18 +34,18 @@ pub fn workers_make_what_is_told<L: Listen<ShownSeat>>()
 /// Where all versions are kept, the history of workers that were new is made up of the entries that the calls of each worker's
 /// connections tell of, in their order, and of no other: one for each put that was accepted, and one for each expiry that was done.
 pub fn history_is_told<L: Listen<ShownSeat>>()
-    ensures { HistoryIsTold (AcceptsThenCloses L.accepts L.closes) L.shares }
+    ensures { HistoryIsTold (AcceptsThenCloses L.accepts L.closes) }
 {}
 
 /// However many versions are kept, the history of workers that were new is made up so of the
 /// entries that calls tell of, and of no other: each put has right after it at most one mark
 /// that the server asked of itself.
 pub fn history_is_marked<L: Listen<ShownSeat>>()
-    ensures { HistoryIsMarked (AcceptsThenCloses L.accepts L.closes) L.shares }
+    ensures { HistoryIsMarked (AcceptsThenCloses L.accepts L.closes) }
 {}
 
 /// However many versions are kept, the puts of the history of workers that were new are made up so of those that calls tell of: one
 /// for each put that was accepted.
 pub fn puts_are_told<L: Listen<ShownSeat>>()
-    ensures { PutsAreTold (AcceptsThenCloses L.accepts L.closes) L.shares }
+    ensures { PutsAreTold (AcceptsThenCloses L.accepts L.closes) }
 {}

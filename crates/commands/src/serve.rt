@@ -1,13 +1,13 @@
 //! `flightscan serve`: connections to a port, several at once.
 
-ghost use Rattle.std.specs.Prelude.{◌≡◌, ◌≤◌, ◌<◌, ℕ, List};
+ghost use Rattle.std.specs.Prelude.{◌≡◌, ◌≤◌, ◌<◌, ◌+◌, ℕ, List};
 ghost use Rattle.grpc_frame.specs.Ends.{CanFail};
 ghost use Rattle.version_cell.specs.Blanks.{IsNamed, most_seats};
 ghost use Rattle.version_cell.specs.Rests.{RestAt};
 ghost use Rattle.command_ends.specs.Printing.{Prints, cause_lines, said_of};
 ghost use Rattle.command_ends.specs.declared.exit_status.ExitStatus.TheVariants.{FaultAtThisEnd};
 ghost use Rattle.commands.specs.Port as serves;
-ghost use Rattle.commands.specs.Port.{Listens, ServesPort};
+ghost use Rattle.commands.specs.Port.{IsDueAfter, Listens, ServesPort};
 ghost use Rattle.commands.specs.Serve.{AcceptsThenCloses, Pays};
 ghost use Rattle.shared_calls.specs.Sharing.{onward};
 
@@ -70,11 +70,17 @@ where
     requires writes { CanFail (W.failures output.old) }
     requires prints { CanFail (E.failures faults.old) }
 
+    // The network may be asked for an accept once the line of its port was printed on the output.
+    requires due { IsDueAfter (L.due network.old) (W.contents output.old) }
+
     // Whatever the network is owed for a connection, serving it is that.
     requires owed { Pays onward (serves.options_of serving) L.owed }
 
+    // The network gives no more further listeners than there are seats, one to each worker.
+    ensures handed { L.handed network.new ≤ L.handed network.old + serving.seats }
+
     // The network gave a port, which is served, and a fault of this end is printed; or it gave none, and why is.
-    ensures { Listens (AcceptsThenCloses L.accepts L.closes) L.shares (L.listens network.old serving.port serving.idle) serving result network.new
+    ensures serves { Listens (AcceptsThenCloses L.accepts L.closes) L.shares (L.listens network.old serving.port serving.idle) serving result network.new
         (said_of W.Output output.old) (said_of W.Output output.new)
         (said_of E.Output faults.old) (said_of E.Output faults.new) }
 {
@@ -105,7 +111,7 @@ fn end_unheard<E: Output>(alloc: Global, faults: &mut E, port: u16, error: &Erro
 fn serve_port<T, L, W: Output>(
     host: Host<'_, T>,
     opened: Opened,
-    network: &L,
+    network: &mut L,
     output: &mut W,
     serving: Serving,
 ) -> Result<(), Fault>
@@ -114,12 +120,14 @@ where
     L: Listen<ShownSeat> + Drop + Send,
     L::Reader: Send,
     L::Writer: Send,
-    requires cell { (shown : RestAt) → shown.book ≡ opened → L.cell network.now shown }
+    requires cell { (shown : RestAt) → shown.book ≡ opened → L.cell network.old shown }
     requires seats { (0 < serving.seats) × (serving.seats ≤ most_seats) }
     requires writes { CanFail (W.failures output.old) }
-    requires port { L.port_of network.now ≡ serving.port }
+    requires port { L.port_of network.old ≡ serving.port }
+    requires due { IsDueAfter (L.due network.old) (W.contents output.old) }
     requires owed { Pays onward (serves.options_of serving) L.owed }
-    ensures { ServesPort (AcceptsThenCloses L.accepts L.closes) L.shares serving result network.now
+    ensures handed { L.handed network.new ≤ L.handed network.old + serving.seats }
+    ensures serves { ServesPort (AcceptsThenCloses L.accepts L.closes) L.shares serving result network.old network.new
         (said_of W.Output output.old) (said_of W.Output output.new) }
 {
     let blank = open(host.alloc, host.seed, serving.seats as usize, opened)?;
@@ -130,7 +138,7 @@ where
 fn serve_cell<C: CellName + Send + Sync, T, L, W: Output>(
     host: Host<'_, T>,
     blank: Blank,
-    network: &L,
+    network: &mut L,
     output: &mut W,
     serving: Serving,
 ) -> Result<(), Fault>
@@ -140,12 +148,14 @@ where
     L::Reader: Send,
     L::Writer: Send,
     requires named { IsNamed blank C.book C.name C.parts C.asks C.numbers }
-    requires cell { (shown : RestAt) → shown.book ≡ C.book → L.cell network.now shown }
+    requires cell { (shown : RestAt) → shown.book ≡ C.book → L.cell network.old shown }
     requires seats { blank.seats ≡ serving.seats }
     requires writes { CanFail (W.failures output.old) }
-    requires port { L.port_of network.now ≡ serving.port }
+    requires port { L.port_of network.old ≡ serving.port }
+    requires due { IsDueAfter (L.due network.old) (W.contents output.old) }
     requires owed { Pays onward (serves.options_of serving) L.owed }
-    ensures { ServesPort (AcceptsThenCloses L.accepts L.closes) L.shares serving result network.now
+    ensures handed { L.handed network.new ≤ L.handed network.old + serving.seats }
+    ensures serves { ServesPort (AcceptsThenCloses L.accepts L.closes) L.shares serving result network.old network.new
         (said_of W.Output output.old) (said_of W.Output output.new) }
 {
     let (turns, mut drawer) = open_turns(

@@ -1,6 +1,6 @@
 //! Connections that one worker serves, one behind the other.
 
-ghost use Rattle.std.specs.Prelude.{◌≡◌, ◌<◌, IfErr, IfOk};
+ghost use Rattle.std.specs.Prelude.{◌≡◌, ◌<◌, ℕ, List, Option, IfErr, IfOk};
 ghost use Rattle.grpc_frame.specs.Ends.{FailsByTransport};
 ghost use Rattle.connection_turns.specs.Drawers as drawers;
 ghost use Rattle.version_cell.specs.Rests.{RestAt};
@@ -54,7 +54,8 @@ pub fn serve_in_turn<L: Listen<ShownSeat>, B: Resting, T: Wait + Clock, X: Execu
 ) -> Result<(), Fault>
     requires drawer { drawer.old ≡ drawers.drawer_at service.now.turns.now.name 1 0 0 }
     requires at_rest { L.at_rest network.old }
-    requires announced { service.now.announced.now ≡ L.port_of network.old }
+    requires announced { service.now.announced.now.port ≡ L.port_of network.old }
+    requires due { L.due network.old service.now.announced.now.port service.now.announced.now.held }
 
     // The listener is shown seats of this cell, and is this seat's.
     requires cell { (seat : RestAt) → seat.book ≡ B.book → L.cell network.old seat }
@@ -96,14 +97,14 @@ fn shown_of<B: Resting>(backend: &mut B) -> ShownSeat
 }
 
 // The next connection. Accepts that fail by what may pass are passed over, each behind a pause.
-#[tactic(auto, using(crate::proofs::Serving::fails_more, crate::proofs::Serving::learnt_none))]
 fn accept_next<L: Listen<ShownSeat>, T: Wait + Clock, X>(
     service: &Service<'_, '_, T, X>,
     network: &mut L,
     seat: &ShownSeat,
 ) -> Result<(L::Reader, L::Writer), Fault>
     requires at_rest { L.at_rest network.old }
-    requires announced { service.now.announced.now ≡ L.port_of network.old }
+    requires announced { service.now.announced.now.port ≡ L.port_of network.old }
+    requires due { L.due network.old service.now.announced.now.port service.now.announced.now.held }
     requires cell { L.cell network.old seat.now }
     requires rests { (old : RestAt) × L.rests network.old old × HasLearnt old seat.now }
     ensures taken { IfOk result (λ ends. TakesNext L.accepts
@@ -116,6 +117,7 @@ fn accept_next<L: Listen<ShownSeat>, T: Wait + Clock, X>(
     ensures port { L.port_of network.new ≡ L.port_of network.old }
     ensures rests { L.rests network.new seat.now }
     ensures cell { (other : RestAt) → L.cell network.old other → L.cell network.new other }
+    ensures due { (port : ℕ) (held : Option (List ℕ)) → L.due network.old port held → L.due network.new port held }
     ensures kind { FailsByTransport result }
 {
     let mut pause = LEAST_PAUSE_MILLISECONDS;

@@ -55,11 +55,11 @@ Shows None columns old new = Appends old.bytes new.bytes (columns_line columns) 
 abbrev pub IsTold : Form → List Field → Said → Said → Type 0
 IsTold form columns old new = Shows form.columns columns old new
 
--- columns that are found were not printed in whole: a write failed, or memory is refused for their text
+-- columns that are found were not printed in whole: a write failed; or memory is refused for their text, and F21 is printed
 abbrev pub Hides : Option (List ℕ) → List Field → Said → Said → Type 0
 Hides (Some text) columns old new = ⊥
 Hides None columns old new =
-    (AppendsBeginning old.bytes new.bytes (columns_line columns) × (new.failures ≡ old.failures + 1)) ⊎ (new ≡ old)
+    (AppendsBeginning old.bytes new.bytes (columns_line columns) × (new.failures ≡ old.failures + 1)) ⊎ Prints (fault_line OutOfMemory) old new
 
 abbrev pub IsUntold : Form → List Field → Said → Said → Type 0
 IsUntold form columns old new = Hides form.columns columns old new

@@ -1,6 +1,6 @@
 //! Reading an input as CSV.
 
-ghost use Rattle.std.specs.Prelude.{◌≡◌, MatchResult, OnOk};
+ghost use Rattle.std.specs.Prelude.{◌≡◌, IfErr, MatchResult, OnOk};
 ghost use Rattle.grpc_frame.specs.Ends.{CanFail};
 ghost use Rattle.csv_records.specs.Left.{records_in};
 ghost use Rattle.command_ends.specs.Printing.{Prints, said_of};
@@ -30,7 +30,7 @@ use std::alloc::{AllocError, Global};
 ///
 /// - The input was not read (F22), or memory is refused (F21).
 /// - The form spells no columns, or none are found (F8, F12).
-/// - The columns were found and not printed.
+/// - The columns were found and not printed: a write failed, or memory is refused (F21).
 /// - A record is wrong, which the line tells.
 pub fn read_csv<I: Input, E: Output>(
     alloc: Global,
@@ -62,8 +62,9 @@ fn tell_columns<E: Output>(
     faults: &mut E,
     columns: &[Field],
     form: CsvForm<'_>,
-) -> Result<(), Fault>
+) -> Result<(), ExitStatus>
     requires { CanFail (E.failures faults.old) }
+    ensures status { IfErr result (λ status. status ≡ FaultAtThisEnd) }
     ensures told { MatchResult result
         (λ _. IsTold (form_of form.entry) columns.now (said_of E.Output faults.old) (said_of E.Output faults.new))
         (λ _. IsUntold (form_of form.entry) columns.now (said_of E.Output faults.old) (said_of E.Output faults.new)) }
@@ -72,8 +73,13 @@ fn tell_columns<E: Output>(
     if form.columns.is_some() {
         return Ok(());
     }
-    let text = columns_text(alloc, columns)?;
-    faults.write(text.as_slice())
+    match columns_text(alloc, columns) {
+        Ok(text) => match faults.write(text.as_slice()) {
+            Ok(()) => Ok(()),
+            Err(_) => Err(ExitStatus::FaultAtThisEnd),
+        },
+        Err(AllocError) => Err(end_by_fault(faults, Fault::OutOfMemory)),
+    }
 }
 
 // Prints what is wrong with a record.
@@ -136,9 +142,7 @@ fn read_text<E: Output>(
         Ok(schema) => schema,
         Err(fault) => return Err(end_by_fault(faults, fault)),
     };
-    if tell_columns(alloc, faults, schema.fields.as_slice(), form).is_err() {
-        return Err(ExitStatus::FaultAtThisEnd);
-    }
+    tell_columns(alloc, faults, schema.fields.as_slice(), form)?;
     check_rows(alloc, text.as_slice(), faults, &schema, form.header)?;
     Ok(CsvText {
         text,

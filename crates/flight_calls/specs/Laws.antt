@@ -8,6 +8,7 @@ use Rattle.table_versions.specs.Database.{Put}
 use Rattle.flight_proto.specs.Expiry.{expiry_of}
 use Rattle.version_log.specs.Log.{Log, added, expired}
 use Rattle.flight_core.specs.Asked.{Asked, put, info, tables, schema, fetch, expire}
+use Rattle.flight_core.specs.Placed.{log_in}
 use Rattle.flight_core.specs.Puts.{put_said}
 use Rattle.flight_core.specs.Machine.{Run}
 use Rattle.flight_core.specs.Headline.{Headline}
@@ -82,7 +83,8 @@ entries_in all = flat_map (λ one. entries_of one.asked one.reply) all
 abbrev pub PutsAreMade : Moves → Type 0
 PutsAreMade moves = (options : Options) (old new : Seat) (calls : List Call) (replies : List ReplyAt)
     → Answers moves options old calls replies new
-    → (all : List Exchange) × WithOwn options calls replies all × (new.made ≡ old.made ++ entries_in all)
+    → (all : List Exchange) × WithOwn options calls replies all
+    × (log_in new.made ≡ log_in old.made ++ entries_in all)
 
 -- The answers of a connection that shares its log with none are a run of the core, on what its calls ask and on the expiries that
 -- the server asks of itself: a call that is refused before it comes to the core changes nothing.

@@ -1,5 +1,5 @@
 -- The backend of a log that nobody shares.
-use Rattle.std.proofs.Common.{◌≡◌, ◌≢◌, ◌+◌, ℕ, [], ◌∷◌, ◌++◌, Result, Ok, Err, refl, sym, ap, subst, ◌∙◌, append-nil}
+use Rattle.std.proofs.Common.{◌≡◌, ◌≢◌, ◌+◌, ℕ, [], ◌∷◌, ◌++◌, length, Result, Ok, Err, refl, sym, ap, subst, ◌∙◌, append-nil}
 use Rattle.std.specs.Prelude.{IsOk}
 use Rattle.scan_base.specs.declared.fault.Fault.{Fault}
 use Rattle.scan_base.specs.declared.fault.Fault.TheVariants.{OutOfMemory}
@@ -11,8 +11,10 @@ use Rattle.flight_info.proofs.Results.{first_for}
 use Rattle.flight_info.specs.Replies.{ReplyAt}
 use Rattle.flight_core.specs.Asked.{Asked}
 use Rattle.flight_core.specs.Machine.{StepOn}
+use Rattle.flight_core.specs.Placed.{placed}
 use Rattle.flight_core.specs.Reacts.{Reacts}
 use Rattle.flight_core.specs.Seats.{Seat, lone_seat, Expires, Puts, alone}
+use Rattle.flight_core.proofs.Placing.{placed_behind, placed_more}
 
 -- what is accepted has no first fault
 never_refused : {X : Type 0} (number : ℕ) (due : Result X Fault) → IsOk due → RefusesFirst (Ok number) due
@@ -24,7 +26,7 @@ pub put_alone : (old new : Log) (looks asks more number : ℕ) (made : Put) → 
 put_alone old new looks asks more number made asked is accepts count = record {
   log = old;
   next = new;
-  at = (accepts, is, is, count);
+  at = (accepts, is, placed_more old new (added made) is, count);
   first = never_refused number (after (database_of old) (puts_in old) made) accepts;
   moved = (refl, refl);
   kept = (added made ∷ [], is);
@@ -38,7 +40,7 @@ pub refused_alone : (fault : Fault) (old new : Log) (looks asks more : ℕ) (mad
 refused_alone fault old new looks asks more made asked err first = record {
   log = old;
   next = new;
-  at = (err.0, err.0, err.1);
+  at = (err.0, ap (placed 0) err.0, err.1);
   first = first_for (Unit {0}) ℕ fault (after (database_of old) (puts_in old) made) first;
   moved = (refl, refl);
   kept = ([], err.0 ∙ sym (append-nil old));
@@ -53,7 +55,7 @@ expires_alone (Ok floor) old new looks asks more version asked is = record {
   log = old;
   next = new;
   at = is;
-  marks = is.1;
+  marks = placed_more old new (expired version) is.1;
   moved = (refl, refl);
   kept = (expired version ∷ [], is.1);
   learnt = ([], sym (append-nil new));
@@ -64,7 +66,7 @@ expires_alone (Err fault) old new looks asks more version asked is = record {
   log = old;
   next = new;
   at = is;
-  marks = is.0;
+  marks = ap (placed 0) is.0;
   moved = (refl, refl);
   kept = ([], is.0 ∙ sym (append-nil old));
   learnt = ([], sym (append-nil new));
@@ -78,7 +80,9 @@ alone_steps asked old new reply r =
     subst (λ (log : Log). StepOn log asked reply new.log) r.goes.moved.0 (subst (λ (after : Log). StepOn r.log asked reply after) r.goes.moved.1 r.step)
 
 -- and each entry of it is its own
-pub alone_made : (asked : Asked) (old new : Seat) (reply : ReplyAt) → Reacts alone (Ok asked) old reply new → old.made ≡ old.log → new.made ≡ new.log
+pub alone_made : (asked : Asked) (old new : Seat) (reply : ReplyAt) → Reacts alone (Ok asked) old reply new → old.made ≡ placed 0 old.log → new.made ≡ placed 0 new.log
 alone_made asked old new reply r own =
     let more = r.goes.made.0 in
-    r.goes.made.2 ∙ ap (λ (log : Log). log ++ more) (own ∙ sym r.goes.moved.0) ∙ sym r.goes.made.1 ∙ r.goes.moved.1
+    let behind = placed (length r.log) more in
+    r.goes.made.2 ∙ ap (λ made. made ++ behind) (own ∙ ap (placed 0) (sym r.goes.moved.0)) ∙ sym (placed_behind r.log more)
+    ∙ ap (placed 0) (sym r.goes.made.1 ∙ r.goes.moved.1)

@@ -1,5 +1,5 @@
 -- Steps over a backend.
-use Rattle.std.proofs.Common.{◌≡◌, ◌≢◌, ◌<◌, ℕ, Vec, List, [], ◌∷◌, ◌++◌, All, Some, None, Result, Ok, Err, refl, sym, ap, subst, ◌∙◌, append-nil, inl, inr, arith}
+use Rattle.std.proofs.Common.{◌≡◌, ◌≢◌, ◌<◌, ℕ, Vec, List, [], ◌∷◌, ◌++◌, length, All, Some, None, Result, Ok, Err, refl, sym, ap, subst, ◌∙◌, append-nil, inl, inr, arith}
 use Rattle.std.specs.Global.{Global}
 use Rattle.std.specs.Prelude.{IsOk}
 use Rattle.std.proofs.lemmas.List.Elements.{All-push}
@@ -16,11 +16,13 @@ use Rattle.flight_core.specs.declared.answer.Answer.TheVariants.{Whole, Accepted
 use Rattle.flight_core.specs.Answered.{fault_in, IsReplyOf, ReactsBy}
 use Rattle.flight_core.specs.Asked.{Asked, put, info, tables, schema, fetch, expire}
 use Rattle.flight_core.specs.Machine.{PutStep, ReplyTo}
+use Rattle.flight_core.specs.Placed.{Placed, log_in}
 use Rattle.flight_core.specs.Puts.{put_glance, put_said}
 use Rattle.flight_core.specs.Reacts.{StartsAt, Looks, Asks, Goes, MayAsk, Reacts}
 use Rattle.flight_core.specs.Refusals.{RefusedFor}
 use Rattle.flight_core.specs.Seats.{Seat, Moves, AsksNone, AsksOnce, Expires, Learns, LooksOnce, MarksAt, Puts}
 use Rattle.flight_core.proofs.Arriving.{glance_good}
+use Rattle.flight_core.proofs.Placing.{log_in-more}
 use Rattle.flight_core.proofs.Expiring.{number_read, number_unread, expired_reply, unread_expiry, refused_expiry}
 use Rattle.flight_core.proofs.Replies.{refused_reply, unread_reply}
 use Rattle.flight_core.proofs.Running.{begins_itself}
@@ -182,12 +184,16 @@ put_made moves version old new payloads made answers p said step = record {
 }
 
 -- the puts of what a seat made, where it made no more
-pub same_puts : (P : Put → Type 0) (old new : Log) → new ≡ old → All P (puts_of old) → All P (puts_of new)
-same_puts P old new same puts = subst (λ (made : Log). All P (puts_of made)) (sym same) puts
+pub same_puts : (P : Put → Type 0) (old new : List Placed) → new ≡ old → All P (puts_of (log_in old)) → All P (puts_of (log_in new))
+same_puts P old new same puts = subst (λ (made : List Placed). All P (puts_of (log_in made))) (sym same) puts
 
 -- or one more
-pub more_puts : (P : Put → Type 0) (old new : Log) (made : Put) → new ≡ old ++ added made ∷ [] → P made → All P (puts_of old) → All P (puts_of new)
-more_puts P old new made is accepts puts = rw (is, puts_of-added old made) (All-push P (puts_of old) made puts accepts)
+pub more_puts : (P : Put → Type 0) (old new : List Placed) (place : ℕ) (made : Put) → new ≡ old ++ (place, added made) ∷ [] → P made
+    → All P (puts_of (log_in old)) → All P (puts_of (log_in new))
+more_puts P old new place made is accepts puts =
+    let before : List Put = puts_of (log_in old) in
+    let all : puts_of (log_in new) ≡ before ++ made ∷ [] = ap puts_of (log_in-more old new place (added made ∷ []) is) ∙ puts_of-added (log_in old) made in
+    subst (λ (some : List Put). All P some) (sym all) (All-push P before made puts accepts)
 
 -- ---- expiries
 
@@ -234,6 +240,10 @@ expiry_refused moves old new action version fault e said = record {
 }
 
 -- a mark is no put
-pub marked_puts : (P : Put → Type 0) (result : Result ℕ Fault) (old new : Seat) (version : ℕ) → MarksAt result old version new → All P (puts_of old.made) → All P (puts_of new.made)
-marked_puts P (Ok floor) old new version marks puts = rw (marks, puts_of-expired old.made version) puts
-marked_puts P (Err fault) old new version same puts = same_puts P old.made new.made same puts
+pub marked_puts : (P : Put → Type 0) (result : Result ℕ Fault) (old new : Seat) (log : Log) (version : ℕ) → MarksAt result old log version new
+    → All P (puts_of (log_in old.made)) → All P (puts_of (log_in new.made))
+marked_puts P (Ok floor) old new log version marks puts =
+    let all : puts_of (log_in new.made) ≡ puts_of (log_in old.made)
+    = ap puts_of (log_in-more old.made new.made (length log) (expired version ∷ []) marks) ∙ puts_of-expired (log_in old.made) version in
+    subst (λ (some : List Put). All P some) (sym all) puts
+marked_puts P (Err fault) old new log version same puts = same_puts P old.made new.made same puts

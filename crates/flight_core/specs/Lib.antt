@@ -9,6 +9,7 @@ pub mod Headline
 pub mod Laws
 pub mod Versions
 pub mod Counts
+pub mod Placed
 pub mod Seats
 pub mod Operation
 pub mod Reacts

@@ -1,5 +1,5 @@
 -- What a step does over a backend.
-use Rattle.std.specs.Prelude.{◌≡◌, ◌≢◌, ◌⊎◌, ◌<◌, ◌≤◌, ◌+◌, ◌++◌, IsOk, Some, Result, Ok, Err}
+use Rattle.std.specs.Prelude.{◌≡◌, ◌≢◌, ◌⊎◌, ◌<◌, ◌≤◌, ◌+◌, List, ◌++◌, length, IsOk, Some, Result, Ok, Err}
 use Rattle.scan_base.specs.declared.fault.Fault.{Fault}
 use Rattle.scan_base.specs.declared.fault.Fault.TheVariants.{OutOfMemory}
 use Rattle.flight_proto.specs.Expiry.{expiry_of}
@@ -11,6 +11,7 @@ use Rattle.version_log.specs.Log.{Log, puts_in, Begins}
 use Rattle.flight_core.specs.Asked.{Asked, put, info, tables, schema, fetch, expire}
 use Rattle.flight_core.specs.Puts.{put_said}
 use Rattle.flight_core.specs.Machine.{ReplyTo}
+use Rattle.flight_core.specs.Placed.{Placed, placed}
 use Rattle.flight_core.specs.Seats.{Seat, Moves, AsksNone}
 
 -- a put or an expiry that was read may go by another log than the seat's; all else by one that begins with what the seat had
@@ -30,9 +31,10 @@ Looks (Ok (fetch ticket workers)) = IsOk (handle_asked ticket)
 Looks (Ok (expire action)) = ⊥
 Looks (Err fault) = ⊥
 
--- what a step adds to a log, if it adds anything, is made by the seat
-abbrev pub AddsTo : Log → Log → Log → Log → Type 0
-AddsTo made log after new = (more : Log) × (after ≡ log ++ more) × (new ≡ made ++ more)
+-- what a step adds to a log, if it adds anything, is made by the seat, at the places behind it
+abbrev pub AddsTo : List Placed → Log → Log → List Placed → Type 0
+AddsTo made log after new =
+    (more : Log) × (after ≡ log ++ more) × (new ≡ made ++ placed (length log) more)
 
 -- A step from one log to another on what is asked, as the seat sees it: then it has seen the second log, and all that it
 -- had seen.

@@ -1,22 +1,24 @@
 -- A seat: what contracts see of a backend, and what its calls do to it.
-use Rattle.std.specs.Prelude.{◌≡◌, ◌≢◌, ◌⊎◌, ℕ, ◌+◌, ◌∷◌, ◌++◌, [], IsOk, Result, Ok, Err}
+use Rattle.std.specs.Prelude.{◌≡◌, ◌≢◌, ◌⊎◌, ℕ, ◌+◌, List, ◌∷◌, ◌++◌, [], length, IsOk, Result, Ok, Err}
 use Rattle.scan_base.specs.declared.fault.Fault.{Fault}
 use Rattle.scan_base.specs.declared.fault.Fault.TheVariants.{OutOfMemory}
 use Rattle.scan_base.specs.Reading.{RefusesFirst}
 use Rattle.table_versions.specs.Database.{Put, after}
 use Rattle.version_log.specs.Expiry.{IsExpired}
 use Rattle.version_log.specs.Log.{Log, added, expired, puts_in, database_of, Begins}
+use Rattle.flight_core.specs.Placed.{Placed, placed}
 
--- the log that the seat has seen, its looks, the entries that it made, and how often it asked what others have done
+-- the log that the seat has seen, its looks, the entries that it made, each with its place in the
+-- log, and how often it asked what others have done
 pub record Seat : Type 0 where
   pub log : Log
   pub looks : ℕ
-  pub made : Log
+  pub made : List Placed
   pub asks : ℕ
 
 -- the seat that alone puts into a log: each entry of it is its own
 abbrev pub lone_seat : Log → ℕ → ℕ → Seat
-lone_seat log looks asks = record { log = log; looks = looks; made = log; asks = asks }
+lone_seat log looks asks = record { log = log; looks = looks; made = placed 0 log; asks = asks }
 
 -- the same, which never asked
 abbrev pub seat_of : Log → ℕ → Seat
@@ -50,11 +52,13 @@ LooksOnce old new = new.looks ≡ old.looks + 1
 abbrev pub MayLook : Seat → Seat → Type 0
 MayLook old new = (new.looks ≡ old.looks) ⊎ LooksOnce old new
 
--- A put at a log: the entry of an accepted one is its last, and the last of those that the seat made, and its number is how
--- many puts there are then. A refused one changes nothing, and its fault is due, or memory was refused.
+-- A put at a log: the entry of an accepted one is its last, and the last of those that the seat
+-- made, at the place behind that log, and its number is how many puts there are then. A refused one
+-- changes nothing, and its fault is due, or memory was refused.
 abbrev pub PutsAt : Result ℕ Fault → Seat → Log → Put → Log → Seat → Type 0
 PutsAt (Ok number) old log put next new = IsOk (after (database_of log) (puts_in log) put)
-    × (next ≡ log ++ added put ∷ []) × (new.made ≡ old.made ++ added put ∷ []) × (number ≡ puts_in next)
+    × (next ≡ log ++ added put ∷ []) × (new.made ≡ old.made ++ (length log, added put) ∷ [])
+    × (number ≡ puts_in next)
 PutsAt (Err fault) old log put next new = (next ≡ log) × (new.made ≡ old.made)
     × (fault ≢ OutOfMemory → after (database_of log) (puts_in log) put ≡ Err fault)
 
@@ -71,10 +75,11 @@ pub record Puts (moves : Moves) (result : Result ℕ Fault) (old : Seat) (put : 
   pub looks : new.looks ≡ old.looks
   pub asks : AsksOnce old new
 
--- the mark of an expiry that was done is the last entry that the seat made, and a refused one is none of them
-abbrev pub MarksAt : Result ℕ Fault → Seat → ℕ → Seat → Type 0
-MarksAt (Ok floor) old version new = new.made ≡ old.made ++ expired version ∷ []
-MarksAt (Err fault) old version new = new.made ≡ old.made
+-- the mark of an expiry that was done at a log is the last entry that the seat made, at the place
+-- behind that log, and a refused one is none of them
+abbrev pub MarksAt : Result ℕ Fault → Seat → Log → ℕ → Seat → Type 0
+MarksAt (Ok floor) old log version new = new.made ≡ old.made ++ (length log, expired version) ∷ []
+MarksAt (Err fault) old log version new = new.made ≡ old.made
 
 -- An expiry of the versions below a number, at the log that it meets, for which the seat asks. Behind it the seat has seen that log with the mark, and
 -- all that it had seen.
@@ -82,7 +87,7 @@ pub record Expires (moves : Moves) (result : Result ℕ Fault) (old : Seat) (ver
   pub log : Log
   pub next : Log
   pub at : IsExpired result log version next
-  pub marks : MarksAt result old version new
+  pub marks : MarksAt result old log version new
   pub moved : moves old log next new
   pub kept : Begins old.log new.log
   pub learnt : Begins next new.log

@@ -18,7 +18,8 @@ pub trait Backend {
     ghost use Rattle.version_log.specs.Log.{Log, puts_in, floor_of, database_of, version};
     ghost use Rattle.flight_core.specs.Seats.{Seat, AsksNone, AsksOnce, Expires, Learns, LooksOnce, MayLook, Puts};
 
-    // The log that it has seen, its looks, the entries that it made, and its asks.
+    // The log that it has seen, its looks, the entries that it made, with their places, and its
+    // asks.
     ghost seat: { Self → Seat };
 
     // Which steps, from a log to a log, it takes from a seat to a seat.

@@ -10,6 +10,7 @@ ghost use Rattle.flight_core.specs.Headline.{Headline};
 ghost use Rattle.flight_core.specs.Laws.{RefusedLeaveNothing};
 ghost use Rattle.flight_core.specs.Machine.{Run};
 ghost use Rattle.flight_core.specs.Operation.{StandsFor};
+ghost use Rattle.flight_core.specs.Placed.{log_in};
 ghost use Rattle.flight_core.specs.Reacts.{Reacts};
 
 use crate::backend::{Alone, Backend};
@@ -66,7 +67,8 @@ pub fn reply_to<B: Backend, X: Executor>(
 ) -> Result<Reply, Fault>
     ensures step { IfOk result (λ reply.
         Reacts B.moves (Ok (asked_in event.now)) (B.seat backend.old) reply (B.seat backend.new)) }
-    ensures puts { All B.accepts (puts_of (B.seat backend.old).made) → All B.accepts (puts_of (B.seat backend.new).made) }
+    ensures puts { All B.accepts (puts_of (log_in (B.seat backend.old).made))
+        → All B.accepts (puts_of (log_in (B.seat backend.new).made)) }
     ensures fits { IfOk result (λ reply. FitMessages reply.payloads) }
     ensures err { IfErr result (λ fault. fault ≡ OutOfMemory) }
 {

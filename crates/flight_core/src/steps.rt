@@ -12,6 +12,7 @@ ghost use Rattle.flight_core.specs.Answered.{ReactsBy, HasVersion, FitsMessages,
 ghost use Rattle.flight_core.specs.Asked.{Asked, put, info, tables, schema, fetch, expire};
 ghost use Rattle.flight_core.specs.Machine.{OpensIn, AsShown, FetchShown};
 ghost use Rattle.flight_core.specs.Operation.{StandsFor};
+ghost use Rattle.flight_core.specs.Placed.{log_in};
 ghost use Rattle.flight_core.specs.Puts.{put_glance, put_said};
 ghost use Rattle.flight_core.specs.Reacts.{IsBeyond};
 ghost use Rattle.flight_core.specs.Refusals.{GivesBehind, RefusedBy};
@@ -51,7 +52,8 @@ pub fn step<B: Backend>(alloc: Global, backend: &mut B, operation: Operation<'_>
     ensures accepted { (payloads : List Payload) → StandsFor operation.entry (put payloads) → HasVersion result }
 
     // The puts of the seat stay such as are accepted, and each payload fits a Message.
-    ensures puts { All B.accepts (puts_of (B.seat backend.old).made) → All B.accepts (puts_of (B.seat backend.new).made) }
+    ensures puts { All B.accepts (puts_of (log_in (B.seat backend.old).made))
+        → All B.accepts (puts_of (log_in (B.seat backend.new).made)) }
     ensures fits { FitsMessages result }
 {
     match operation {
@@ -70,7 +72,8 @@ fn step_put<B: Backend>(alloc: Global, backend: &mut B, read: Result<Put, Fault>
         → GivesBehind (put_glance payloads) put_of read (put_said payloads)
         → ReactsBy B.moves (Ok (put payloads)) (B.seat backend.old) result (B.seat backend.new) }
     ensures accepted { HasVersion result }
-    ensures puts { All B.accepts (puts_of (B.seat backend.old).made) → All B.accepts (puts_of (B.seat backend.new).made) }
+    ensures puts { All B.accepts (puts_of (log_in (B.seat backend.old).made))
+        → All B.accepts (puts_of (log_in (B.seat backend.new).made)) }
     ensures fits { FitsMessages result }
 {
     let put = match read {
@@ -241,7 +244,8 @@ fn step_fetch<B: Backend>(alloc: Global, backend: &mut B, ticket: &[u8], workers
 // Answers an expiry. Its answer takes no memory.
 fn step_expiry<B: Backend>(alloc: Global, backend: &mut B, action: &[u8]) -> Answer
     ensures step { ReactsBy B.moves (Ok (expire action.now)) (B.seat backend.old) result (B.seat backend.new) }
-    ensures puts { All B.accepts (puts_of (B.seat backend.old).made) → All B.accepts (puts_of (B.seat backend.new).made) }
+    ensures puts { All B.accepts (puts_of (log_in (B.seat backend.old).made))
+        → All B.accepts (puts_of (log_in (B.seat backend.new).made)) }
     ensures fits { FitsMessages result }
 {
     let version = match read_expiry(action) {

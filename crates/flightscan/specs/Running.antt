@@ -27,7 +27,7 @@ use Rattle.client_calls.specs.declared.putting.Target.{Target}
 use Rattle.client_commands.specs.Commands.{Desk, Expires, ListsTables, Puts, PutsCsv, desk_of}
 use Rattle.client_commands.specs.Queries.{Queries}
 use Rattle.commands.specs.Pipe.{Pipes}
-use Rattle.commands.specs.Port.{Listens}
+use Rattle.commands.specs.Port.{Listens, Sharing}
 use Rattle.commands.specs.Serve.{Pays}
 use Rattle.flightscan.specs.declared.running.Streams.{Streams}
 
@@ -112,7 +112,7 @@ PipesWith (Some seed) options status old new =
 PipesWith None options status old new = LacksSeed status old new
 
 -- with a seed, connections are served, by a listener that hears, accepts and is shared so
-abbrev pub ServesWith : {S L : Type 0} → Option S → Hearing L → Accepting L → (L → Option L → Type 0)
+abbrev pub ServesWith : {S L : Type 0} → Option S → Hearing L → Accepting L → Sharing L
     → Serving → ExitStatus → L → L → Standard → Standard → Type 0
 ServesWith (Some seed) hears accepts shares serving status before behind old new =
     Listens accepts shares (hears before serving.port serving.idle) serving status behind old.out new.out old.faults new.faults
@@ -121,7 +121,7 @@ ServesWith None hears accepts shares serving status before behind old new = Lack
 
 -- What a server does for a request, with the seed of its hashes, if there is one. A request of a client leaves the listener as it
 -- was.
-abbrev pub ServesClients : {S L : Type 0} → Option S → Hearing L → Accepting L → (L → Option L → Type 0)
+abbrev pub ServesClients : {S L : Type 0} → Option S → Hearing L → Accepting L → Sharing L
     → Request → ExitStatus → L → L → Standard → Standard → Type 0
 ServesClients seed hears accepts shares (Serve serving) status before behind old new =
     ServesWith seed hears accepts shares serving status before behind old new

@@ -3,6 +3,7 @@
 ghost use Rattle.std.specs.Prelude.{◌≡◌};
 ghost use Rattle.grpc_frame.specs.Ends.{CanFail};
 ghost use Rattle.version_cell.specs.Rests.{RestAt};
+ghost use Rattle.commands.specs.Port.{IsDueAfter};
 ghost use Rattle.commands.specs.Serve.{AcceptsThenCloses};
 ghost use Rattle.commands.specs.Words.{HasSeats};
 ghost use Rattle.flightscan.specs.Running.{AlwaysPays, CallsServer, PipesWith, PutsForm, QueriesWith, ServesClients, ServesWith, piped_by, standard_of};
@@ -91,6 +92,7 @@ where
     L::Reader: Send,
     L::Writer: Send,
     requires cell { (shown : RestAt) → shown.book ≡ opened → L.cell listener.old shown }
+    requires due { IsDueAfter (L.due listener.old) (W.contents streams.old.output) }
     requires seats { HasSeats (Request.Serve serving) }
     requires writes { CanFail (W.failures streams.old.output) }
     requires prints { CanFail (E.failures streams.old.faults) }
@@ -219,6 +221,9 @@ where
 
     // The listener is shown seats of the cell that was opened.
     requires cell { (shown : RestAt) → shown.book ≡ opened → L.cell network.old.listener shown }
+
+    // It may be asked for an accept once the line of its port was printed on the output.
+    requires due { IsDueAfter (L.due network.old.listener) (W.contents streams.old.output) }
 
     // Each stream can count one failure more.
     requires reads { CanFail (I.failures streams.old.input) }

@@ -156,6 +156,8 @@ pub struct Port<'a, R> {
     listener: Option<TcpListener>,
     // The port that is listened to, or 0 where none is.
     number: u16,
+    // How many further listeners it gave.
+    handed: u64,
     // A read or a write of a connection fails after so long without a byte; `None` is never.
     patience: Option<Duration>,
 }
@@ -167,6 +169,7 @@ impl<'a, R> Port<'a, R> {
             rt,
             listener: None,
             number: 0,
+            handed: 0,
             patience: None,
         }
     }
@@ -234,7 +237,9 @@ where
 
     ghost listens = { λ _ _ _ _ _. Unit {0} };
 
-    ghost shares = { λ _ _. Unit {0} };
+    ghost shares = { λ _ _ _. Unit {0} };
+
+    ghost handed = { λ port. port.handed };
 
     // Nothing was read or written yet.
     ghost accepts = { λ _ made _. IfOk made (λ ends. AreNew ends) };
@@ -251,6 +256,8 @@ where
 
     ghost cell = { λ _ _. Unit {0} };
 
+    ghost due = { λ _ _ _. Unit {0} };
+
     ghost owed = { λ _ _ _ _. Unit {0} };
 
     fn listen(&mut self, port: u16, idle: u16) -> io::Result<u16> {
@@ -266,14 +273,20 @@ where
         Ok(port)
     }
 
-    fn share(&self) -> io::Result<Self> {
+    fn share(&mut self) -> io::Result<Self> {
+        let Some(handed) = self.handed.checked_add(1) else {
+            return Err(io::Error::from(ErrorKind::QuotaExceeded));
+        };
         let Some(listener) = &self.listener else {
             return Err(io::Error::from(ErrorKind::NotConnected));
         };
+        let listener = listener.try_clone()?;
+        self.handed = handed;
         Ok(Port {
             rt: self.rt,
-            listener: Some(listener.try_clone()?),
+            listener: Some(listener),
             number: self.number,
+            handed: 0,
             patience: self.patience,
         })
     }

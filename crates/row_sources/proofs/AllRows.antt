@@ -1,13 +1,14 @@
 -- All rows of what gives them, batch by batch.
-use Rattle.std.proofs.Common.{◌≡◌, ℕ, List, [], ◌∷◌, ◌++◌, length, take, map, refl, sym, ap, ◌∙◌, subst, append_assoc, append-nil, All}
+use Rattle.std.proofs.Common.{◌≡◌, ◌<◌, ℕ, List, [], ◌∷◌, ◌++◌, length, take, map, refl, sym, ap, ◌∙◌, subst, arith, append_assoc, append-nil, length-append, All}
 use Rattle.std.specs.List.{flat_map}
 use Rattle.std.proofs.lemmas.Grind.{flat_map-append}
-use Rattle.std.proofs.lemmas.List.{map-append}
+use Rattle.std.proofs.lemmas.List.{map-append, length-map}
 use Rattle.std.proofs.lemmas.List.Elements.{All-push}
 use Rattle.arrays.specs.Batch.{BatchAt, rows_of}
 use Rattle.arrays.specs.Typed.{AreOf}
 use Rattle.arrow_schema.specs.declared.data_type.DataType.{DataType}
 use Rattle.table_versions.specs.Table.{Row}
+use Rattle.table_versions.proofs.Rowing.{length-rows_of}
 use Rattle.row_sources.specs.declared.piece.Piece.{Piece}
 use Rattle.row_sources.specs.Collected.{plain_rows, IsBatchOf, AreCollected}
 use Rattle.row_sources.specs.Running.{RowsAt, GoesOn, FindsPiece, Ends}

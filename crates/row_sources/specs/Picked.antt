@@ -1,5 +1,5 @@
 -- Batches of the rows of a source that are given.
-use Rattle.std.specs.Prelude.{◌≡◌, ◌<◌, ℕ, List, [], length, map, Option, Some, None, Result, Ok, Err}
+use Rattle.std.specs.Prelude.{◌≡◌, ◌<◌, ℕ, IsTrue, All, List, [], length, map, Option, Some, None, Result, Ok, Err}
 use Rattle.std.specs.List.{AllZip, filter}
 use Rattle.std.specs.declared.alloc.AllocError.{AllocError}
 use Rattle.arrow_schema.specs.declared.data_type.DataType.{DataType}
@@ -9,7 +9,7 @@ use Rattle.arrays.specs.Typed.{AreOf, IsOfType}
 use Rattle.table_versions.specs.Table.{Row}
 use Rattle.typed_plan.specs.Typed.{type_at}
 use Rattle.row_sources.specs.declared.part.Part.{Part}
-use Rattle.opened_batches.specs.Chosen.{columns_at}
+use Rattle.opened_batches.specs.Chosen.{are_within, columns_at}
 use Rattle.row_sources.specs.Picking.{PickAt, cells_at, holds}
 
 -- what is given of rows of the source

@@ -1,5 +1,5 @@
 -- Rows that are given piece by piece.
-use Rattle.std.specs.Prelude.{◌≡◌, ◌≢◌, ◌≤◌, ◌<◌, ℕ, List, [], ◌++◌, length, map, take, Some, None, Result, Ok, Err}
+use Rattle.std.specs.Prelude.{◌≡◌, ◌≢◌, ◌≤◌, ◌<◌, ℕ, List, [], ◌++◌, length, map, take, Option, Some, None, Result, Ok, Err}
 use Rattle.std.specs.List.{last_or}
 use Rattle.std.specs.declared.alloc.AllocError.{AllocError}
 use Rattle.arrow_schema.specs.declared.data_type.DataType.{DataType}

@@ -1,5 +1,5 @@
 -- Where the morsels are, step by step.
-use Rattle.std.proofs.Common.{◌≡◌, ◌≢◌, ◌⊎◌, inl, inr, ℕ, zero, suc, ◌+◌, ◌*◌, ◌/◌, ◌%◌, ◌<◌, ◌≤◌, List, length, map, replicate, slice_index_or, slice_set, Option, Some, None, IsSome, refl, sym, ap, ◌∙◌, subst, arith, mod-lt, mul-suc, mul-le-mul_left}
+use Rattle.std.proofs.Common.{◌≡◌, ◌≢◌, ◌⊎◌, inl, inr, ℕ, zero, suc, ◌+◌, ◌*◌, ◌/◌, ◌%◌, ◌<◌, ◌≤◌, List, ◌∷◌, length, map, replicate, slice_index_or, slice_set, Option, Some, None, IsSome, refl, sym, ap, ◌∙◌, subst, arith, mod-lt, mul-suc, mul-le-mul_left}
 use Rattle.std.proofs.Math.Nat.{mod-add-div}
 use Rattle.std.proofs.lemmas.Bool.{cases_lt, cases_order, false≢true}
 use Rattle.std.specs.Option.{option_map}
@@ -229,10 +229,11 @@ taken_out : {T : Type 0} (number : T → ℕ) (count read given begun : ℕ) (sl
 taken_out {T} number count read given begun slots place slot after what k there is e f =
     let numbers : List (Option ℕ) = map (option_map number) slots in
     let lies : slice_index_or numbers place None ≡ Some (number what) = lies_there number slots place slot what there is e in
-    let own : place ≡ number what % length numbers = (k.alone place (number what) lies).0 in
-    (subst (λ (at : ℕ). slice_index_or numbers at None ≡ Some (number what)) own lies,
-    ap (λ (lying : Option T). held_at number count read given begun (slice_set slots place lying)) f
-    ∙ ap (at_slots count read given begun) (changed_slot number slots place None ∙ ap (λ (at : ℕ). slice_set numbers at None) own))
+    let own : place ≡ number what % length numbers = (k.alone place (number what) lies).0 in (
+      subst (λ (at : ℕ). slice_index_or numbers at None ≡ Some (number what)) own lies,
+      ap (λ (lying : Option T). held_at number count read given begun (slice_set slots place lying)) f
+          ∙ ap (at_slots count read given begun) (changed_slot number slots place None ∙ ap (λ (at : ℕ). slice_set numbers at None) own),
+    )
 
 pub take_is : {T : Type 0} (number : T → ℕ) (count read given begun : ℕ) (slots : List (Option T)) (place : ℕ) (slot after : Option T) (what : T) (old : HeldAt) → held_at number count read given begun slots ≡ old → IsHeld (held_at number count read given begun slots) → place < length slots → slot ≡ slice_index_or slots place slot → slot ≡ Some what → after ≡ None → Lies old (number what) × (held_at number count read given begun (slice_set slots place after) ≡ taken old (number what))
 take_is number count read given begun slots place slot after what old is k there read_is e f =
@@ -251,10 +252,12 @@ given_out {T} number count read given begun slots place slot after what k there 
     let own : place ≡ read % length numbers = own_slot number read place slots p in
     let lies : slice_index_or numbers (read % length numbers) None ≡ Some (number what) =
     subst (λ (at : ℕ). slice_index_or numbers at None ≡ Some (number what)) own (lies_there number slots place slot what there is e) in
-    let same : number what ≡ read = lies_next (held_at number count read given begun slots) (number what) k lies in
-    (same, lies ∙ ap (λ (n : ℕ). Some n) same,
-    ap (λ (lying : Option T). held_at number count read (read + 1) begun (slice_set slots place lying)) f
-    ∙ ap (at_slots count read (read + 1) begun) (changed_slot number slots place None ∙ ap (λ (at : ℕ). slice_set numbers at None) own))
+    let same : number what ≡ read = lies_next (held_at number count read given begun slots) (number what) k lies in (
+      same,
+      lies ∙ ap (λ (n : ℕ). Some n) same,
+      ap (λ (lying : Option T). held_at number count read (read + 1) begun (slice_set slots place lying)) f
+          ∙ ap (at_slots count read (read + 1) begun) (changed_slot number slots place None ∙ ap (λ (at : ℕ). slice_set numbers at None) own),
+    )
 
 pub give_is : {T : Type 0} (number : T → ℕ) (count read given begun : ℕ) (slots : List (Option T)) (place : ℕ) (slot after : Option T) (what : T) (old : HeldAt) → held_at number count read given begun slots ≡ old → IsHeld (held_at number count read given begun slots) → place < length slots → slot ≡ slice_index_or slots place slot → slot ≡ Some what → after ≡ None → place ≡ read % length slots → (number what ≡ old.read) × Lies old old.read × (held_at number count read (read + 1) begun (slice_set slots place after) ≡ given_next old)
 give_is number count read given begun slots place slot after what old is k there read_is e f p =

@@ -70,8 +70,10 @@ impl<'a, C: BookName, R> Listen<ShownSeat> for Keeping<'a, C, R>
 where
     R: Net<Listener = TcpListener, Stream = TcpStream> + Wait + Clock,
 {
-    ghost use Rattle.std.specs.Prelude.{◌≡◌};
+    ghost use Rattle.std.specs.Prelude.{◌≡◌, [], Some};
+    ghost use Rattle.std.specs.Io.KnownBytes.{Appends};
     ghost use Rattle.command_ends.specs.Network.{AreNew};
+    ghost use Rattle.command_ends.specs.Printing.{listening_line};
     ghost use Rattle.shared_calls.specs.Sharing.{onward};
     ghost use Rattle.commands.specs.Serve.{IsServedTo};
     ghost use Rattle.server_cases.specs.History.{IsKept, case_options};
@@ -82,7 +84,9 @@ where
 
     ghost listens = { λ _ _ _ _ _. Unit {0} };
 
-    ghost shares = { λ _ _. Unit {0} };
+    ghost shares = { λ _ _ _. Unit {0} };
+
+    ghost handed = { λ keeping. keeping.bound.port.handed };
 
     ghost accepts = { λ _ _ _. Unit {0} };
 
@@ -99,13 +103,16 @@ where
 
     ghost cell = { λ _ seat. seat.book ≡ C.book };
 
+    // The line of the port is all that its output holds.
+    ghost due = { λ _ port held. Appends (Some []) held (listening_line port) };
+
     ghost owed = { IsServedTo onward case_options };
 
     fn listen(&mut self, _port: u16, _idle: u16) -> io::Result<u16> {
         Ok(self.bound.number)
     }
 
-    fn share(&self) -> io::Result<Self> {
+    fn share(&mut self) -> io::Result<Self> {
         Ok(Keeping {
             rt: self.rt,
             kept: self.kept,

@@ -110,7 +110,9 @@ where
 
     ghost listens = { λ _ _ _ _ _. Unit {0} };
 
-    ghost shares = { λ _ _. Unit {0} };
+    ghost shares = { λ _ _ _. Unit {0} };
+
+    ghost handed = { λ bound. bound.port.handed };
 
     // Nothing was read or written yet.
     ghost accepts = { λ _ made _. IfOk made (λ ends. AreNew ends) };
@@ -127,15 +129,17 @@ where
 
     ghost cell = { λ _ _. Unit {0} };
 
+    ghost due = { λ _ _ _. Unit {0} };
+
     ghost owed = { λ _ _ _ _. Unit {0} };
 
     fn listen(&mut self, _port: u16, _idle: u16) -> io::Result<u16> {
         Ok(self.number)
     }
 
-    fn share(&self) -> io::Result<Self> {
+    fn share(&mut self) -> io::Result<Self> {
         Ok(Bound {
-            port: Listen::<ShownSeat>::share(&self.port)?,
+            port: Listen::<ShownSeat>::share(&mut self.port)?,
             number: self.number,
         })
     }

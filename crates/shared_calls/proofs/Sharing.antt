@@ -3,8 +3,8 @@ use Rattle.std.proofs.Common.{◌≡◌, ℕ, [], ◌∷◌, ◌++◌, Result, O
 use Rattle.scan_base.specs.declared.fault.Fault.{Fault}
 use Rattle.table_versions.specs.Database.{Put}
 use Rattle.version_log.specs.Log.{Log, puts_in, Begins}
-use Rattle.version_cell.specs.Expiries.{CountsExpiry, ExpiresBehind}
-use Rattle.version_cell.specs.Puts.{PutsBehind, CountsPut}
+use Rattle.version_cell.specs.Expiries.{ExpiresBehind}
+use Rattle.version_cell.specs.Puts.{PutsBehind}
 use Rattle.version_cell.specs.Seats as cell
 use Rattle.flight_core.specs.Seats.{Seat, Expires, Puts}
 use Rattle.shared_calls.specs.Sharing.{onward, seat_at}
@@ -14,12 +14,12 @@ begins_same : (log same : Log) → same ≡ log → Begins log same
 begins_same log same is = ([], is ∙ sym (append-nil log))
 
 -- a put over a seat of a cell
-pub puts_so : (result : Result ℕ Fault) (seat next : cell.Seat) (old new : Seat) (put : Put) → PutsBehind result seat put next → CountsPut result seat put next → IfOk result (λ number. number ≡ puts_in next.log)
+pub puts_so : (result : Result ℕ Fault) (seat next : cell.Seat) (old new : Seat) (put : Put) → PutsBehind result seat put next → IfOk result (λ number. number ≡ puts_in next.log)
     → Begins seat.log next.log → next.enters ≡ seat.enters → cell.AsksOnce seat next → old ≡ seat_at seat → new ≡ seat_at next → Puts onward result old put new
-puts_so (Ok number) seat next old new put behind counts count kept enters asks old_is new_is = rw (old_is, new_is) (record {
+puts_so (Ok number) seat next old new put behind count kept enters asks old_is new_is = rw (old_is, new_is) (record {
   log = behind.log;
   next = next.log;
-  at = (behind.answered.1, behind.answered.0, counts, count);
+  at = (behind.answered.1, behind.answered.0, behind.counts, count);
   first = behind.first;
   moved = (behind.met, refl);
   kept = kept;
@@ -27,10 +27,10 @@ puts_so (Ok number) seat next old new put behind counts count kept enters asks o
   looks = enters;
   asks = asks;
 })
-puts_so (Err fault) seat next old new put behind counts count kept enters asks old_is new_is = rw (old_is, new_is) (record {
+puts_so (Err fault) seat next old new put behind count kept enters asks old_is new_is = rw (old_is, new_is) (record {
   log = behind.log;
   next = next.log;
-  at = (behind.answered.0, counts, behind.answered.1);
+  at = (behind.answered.0, behind.counts, behind.answered.1);
   first = behind.first;
   moved = (behind.met, refl);
   kept = kept;
@@ -40,24 +40,24 @@ puts_so (Err fault) seat next old new put behind counts count kept enters asks o
 })
 
 -- an expiry over a seat of a cell
-pub expired_so : (result : Result ℕ Fault) (seat next : cell.Seat) (old new : Seat) (version : ℕ) → ExpiresBehind result seat version next → CountsExpiry result seat version next
+pub expired_so : (result : Result ℕ Fault) (seat next : cell.Seat) (old new : Seat) (version : ℕ) → ExpiresBehind result seat version next
     → Begins seat.log next.log → next.enters ≡ seat.enters → cell.AsksOnce seat next → old ≡ seat_at seat → new ≡ seat_at next → Expires onward result old version new
-expired_so (Ok floor) seat next old new version behind counts kept enters asks old_is new_is = rw (old_is, new_is) (record {
+expired_so (Ok floor) seat next old new version behind kept enters asks old_is new_is = rw (old_is, new_is) (record {
   log = behind.log;
   next = next.log;
   at = behind.answered;
-  marks = counts;
+  marks = behind.counts;
   moved = (behind.met, refl);
   kept = kept;
   learnt = begins_same next.log next.log refl;
   looks = enters;
   asks = asks;
 })
-expired_so (Err fault) seat next old new version behind counts kept enters asks old_is new_is = rw (old_is, new_is) (record {
+expired_so (Err fault) seat next old new version behind kept enters asks old_is new_is = rw (old_is, new_is) (record {
   log = behind.log;
   next = next.log;
   at = behind.answered;
-  marks = counts;
+  marks = behind.counts;
   moved = (behind.met, refl);
   kept = kept;
   learnt = begins_same next.log next.log refl;

@@ -1,13 +1,16 @@
 -- The same answer of a put, with another value, and of an expiry.
-use Rattle.std.proofs.Common.{◌≡◌, ℕ, sym, subst, ◌∙◌, Result, Ok, Err}
+use Rattle.std.proofs.Common.{◌≡◌, ℕ, List, [], ◌∷◌, ◌++◌, length, ap, sym, subst, ◌∙◌, Result, Ok, Err}
 use Rattle.scan_base.specs.declared.fault.Fault.{Fault}
 use Rattle.scan_base.specs.Reading.{RefusesFirst}
 use Rattle.table_versions.specs.Database.{Put}
 use Rattle.version_log.specs.Expiry.{IsExpired}
-use Rattle.version_log.specs.Log.{Log, Begins}
+use Rattle.version_log.specs.Log.{Entry, Log, added, expired, Begins}
 use Rattle.version_cell.specs.Expiries.{ExpiresBehind}
+use Rattle.version_cell.specs.Placed.{Placed}
 use Rattle.version_cell.specs.Puts.{IsAnswered, PutsBehind, after_log}
-use Rattle.version_cell.specs.Seats.{Seat}
+use Rattle.version_cell.specs.Seats.{Seat, MakesNone}
+use Rattle.version_cell.specs.Signed.{Signed, log_of}
+use Rattle.version_cell.proofs.Logs.{log_of-length}
 
 first_so : {X Y Z : Type 0} (x : X) (y : Y) (due : Result Z Fault) → RefusesFirst (Ok x) due → RefusesFirst (Ok y) due
 first_so x y (Ok z) first = tt
@@ -17,28 +20,49 @@ refused_first_so : {Z : Type 0} (X Y : Type 0) (fault : Fault) (due : Result Z F
 refused_first_so X Y fault (Ok z) first = tt
 refused_first_so X Y fault (Err cause) first = cc first
 
--- a put that was accepted: the seat has then seen the log behind it
-pub accepted_behind : {X Y : Type 0} (x : X) (y : Y) (old new : Seat) (put : Put) (log next : Log) → Begins old.log log → IsAnswered (Ok x) log put next
-    → RefusesFirst (Ok x) (after_log log put) → new.log ≡ next → PutsBehind (Ok y) old put new
-accepted_behind {X} {Y} x y old new put log next met answered first same = record {
-  log = log;
+-- a log has the same places without the seats of its entries
+at_end : (made more : List Placed) (entries : List Signed) (entry : Entry) → more ≡ made ++ (length entries, entry) ∷ [] → more ≡ made ++ (length (log_of entries), entry) ∷ []
+at_end made more entries entry is = is ∙ ap (λ (place : ℕ). made ++ (place, entry) ∷ []) (sym (log_of-length entries))
+
+-- a put that was accepted: the seat has then seen the log behind it, and made its entry at the end of the log that it met
+pub accepted_behind : {X Y : Type 0} (x : X) (y : Y) (old new : Seat) (put : Put) (entries : List Signed) (next : Log) → Begins old.log (log_of entries)
+    → IsAnswered (Ok x) (log_of entries) put next → RefusesFirst (Ok x) (after_log (log_of entries) put) → new.log ≡ next
+    → new.made ≡ old.made ++ (length entries, added put) ∷ [] → PutsBehind (Ok y) old put new
+accepted_behind {X} {Y} x y old new put entries next met answered first same made = record {
+  log = log_of entries;
   met = met;
   answered = (same ∙ answered.0, answered.1);
-  first = first_so x y (after_log log put) first;
+  first = first_so x y (after_log (log_of entries) put) first;
+  counts = at_end old.made new.made entries (added put) made;
 }
 
 -- a put that was refused
 pub refused_behind : (X Y : Type 0) (fault : Fault) (old new : Seat) (put : Put) (log next : Log) → Begins old.log log → IsAnswered {X = X} (Err fault) log put next
-    → RefusesFirst {X = X} (Err fault) (after_log log put) → new.log ≡ next → PutsBehind {X = Y} (Err fault) old put new
-refused_behind X Y fault old new put log next met answered first same = record {
+    → RefusesFirst {X = X} (Err fault) (after_log log put) → new.log ≡ next → MakesNone old new → PutsBehind {X = Y} (Err fault) old put new
+refused_behind X Y fault old new put log next met answered first same none = record {
   log = log;
   met = met;
   answered = (same ∙ answered.0, answered.1);
   first = refused_first_so X Y fault (after_log log put) first;
+  counts = none;
 }
 
--- an expiry
-pub expired_behind : (result : Result ℕ Fault) (old new : Seat) (version : ℕ) (log next : Log) → Begins old.log log → IsExpired result log version next → new.log ≡ next
-    → ExpiresBehind result old version new
-expired_behind result old new version log next met answered same =
-    record { log = log; met = met; answered = subst (λ (l : Log). IsExpired result log version l) (sym same) answered }
+-- an expiry that was done
+pub expired_behind : (floor : ℕ) (old new : Seat) (version : ℕ) (entries : List Signed) (next : Log) → Begins old.log (log_of entries)
+    → IsExpired (Ok floor) (log_of entries) version next → new.log ≡ next → new.made ≡ old.made ++ (length entries, expired version) ∷ [] → ExpiresBehind (Ok floor) old version new
+expired_behind floor old new version entries next met answered same made = record {
+  log = log_of entries;
+  met = met;
+  answered = subst (λ (l : Log). IsExpired (Ok floor) (log_of entries) version l) (sym same) answered;
+  counts = at_end old.made new.made entries (expired version) made;
+}
+
+-- an expiry that was refused
+pub unexpired_behind : (fault : Fault) (old new : Seat) (version : ℕ) (log next : Log) → Begins old.log log → IsExpired (Err fault) log version next → new.log ≡ next
+    → MakesNone old new → ExpiresBehind (Err fault) old version new
+unexpired_behind fault old new version log next met answered same none = record {
+  log = log;
+  met = met;
+  answered = subst (λ (l : Log). IsExpired (Err fault) log version l) (sym same) answered;
+  counts = none;
+}

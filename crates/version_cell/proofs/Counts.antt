@@ -3,41 +3,43 @@ use Rattle.std.proofs.Common.{◌≢◌, ◌<◌, slice_index_or, slice_set, Boo
 use Rattle.std.proofs.lemmas.Bool.Decides.{nat_tests}
 use Rattle.std.proofs.lemmas.List.{get_or-set_other, length-set}
 use Rattle.std.proofs.lemmas.Grind.{get_or-set_at}
-use Rattle.version_log.specs.Log.{Entry, Log}
+use Rattle.version_log.specs.Log.{Entry}
 use Rattle.version_cell.specs.Counts.{Counted}
+use Rattle.version_cell.specs.Placed.{Placed}
 use Rattle.version_cell.specs.Seats.{Seat, IsNumbered}
-use Rattle.version_cell.specs.Signed.{Signed, signed, log_of, own}
-use Rattle.version_cell.proofs.Parts.{own-append, own_last}
+use Rattle.version_cell.specs.Signed.{Signed, signed, log_of, own, own_of}
+use Rattle.version_cell.proofs.Parts.{own-append, own_more}
 
 -- a log without entries has none with their seats
 pub none_signed : (entries : List Signed) → log_of entries ≡ [] → entries ≡ []
 none_signed [] none = refl
 none_signed (s ∷ entries) none = absurd (omega (arith, ap length none))
 
-own_of_another : (seat by : ℕ) (entry : Entry) (b : Bool) → (by == seat) ≡ b → seat ≢ by → own seat (signed by entry ∷ []) ≡ []
-own_of_another seat by entry true is apart = absurd (apart (grind (arith, nat_tests)))
-own_of_another seat by entry false is apart = rw is refl
+own_of_another : (seat by place : ℕ) (entry : Entry) (b : Bool) → (by == seat) ≡ b → seat ≢ by → own_of seat ((place, signed by entry) ∷ []) ≡ []
+own_of_another seat by place entry true is apart = absurd (apart (grind (arith, nat_tests)))
+own_of_another seat by place entry false is apart = rw is refl
 
 counted_at : (counts : List ℕ) (log : List Signed) (by count seat : ℕ) (entry : Entry) (b : Bool) → (seat == by) ≡ b → Counted counts log → by < length counts
     → count ≡ length (own by log) + 1 → seat < length counts → slice_index_or (slice_set counts by count) seat 0 ≡ length (own seat (log ++ signed by entry ∷ []))
 counted_at counts log by count seat entry true is counted few same within =
     let here : seat ≡ by = grind (arith, nat_tests) in
-    let more : own by (log ++ signed by entry ∷ []) ≡ own by log ++ entry ∷ [] =
-    own-append by log (signed by entry ∷ []) ∙ ap (λ end. own by log ++ end) (own_last by entry) in
-    get_or-set_at counts by seat count 0 here few ∙ (rw here (omega (arith, same, ap length more, length-append (own by log) (entry ∷ []))))
+    let last : Placed = (length log, entry) in
+    let more : own by (log ++ signed by entry ∷ []) ≡ own by log ++ last ∷ [] = own_more by log entry in
+    get_or-set_at counts by seat count 0 here few ∙ (rw here (omega (arith, same, ap length more, length-append (own by log) (last ∷ []))))
 counted_at counts log by count seat entry false is counted few same within =
     let apart : seat ≢ by = grind (arith, nat_tests) in
-    let none : own seat (signed by entry ∷ []) ≡ [] = own_of_another seat by entry (by == seat) refl apart in
+    let none : own_of seat ((length log, signed by entry) ∷ []) ≡ [] = own_of_another seat by (length log) entry (by == seat) refl apart in
     let more : own seat (log ++ signed by entry ∷ []) ≡ own seat log =
     own-append seat log (signed by entry ∷ []) ∙ (ap (λ end. own seat log ++ end) none ∙ append-nil (own seat log)) in
     get_or-set_other counts by seat count 0 apart ∙ (counted seat within ∙ ap length (sym more))
 
 -- what is counted of each seat, behind an entry more
-pub counted_more : (counts : List ℕ) (log after : List Signed) (by count : ℕ) (entry : Entry) (made more : Log) → Counted counts log → by < length counts
-    → length made ≡ length (own by log) → more ≡ made ++ entry ∷ [] → count ≡ length more → after ≡ log ++ signed by entry ∷ [] → Counted (slice_set counts by count) after
+pub counted_more : (counts : List ℕ) (log after : List Signed) (by count : ℕ) (entry : Entry) (made more : List Placed) → Counted counts log → by < length counts
+    → length made ≡ length (own by log) → more ≡ made ++ (length log, entry) ∷ [] → count ≡ length more → after ≡ log ++ signed by entry ∷ [] → Counted (slice_set counts by count) after
 counted_more counts log after by count entry made more counted few same last is on seat within =
+    let end : Placed = (length log, entry) in
     rw on (counted_at counts log by count seat entry (seat == by) refl counted few
-    (omega (arith, same, is, ap length last, length-append made (entry ∷ []))) (omega (arith, within, length-set counts by count)))
+    (omega (arith, same, is, ap length last, length-append made (end ∷ []))) (omega (arith, within, length-set counts by count)))
 
 -- one seat more has the next number
 pub numbered_last : (first : ℕ) (seats : List Seat) (one : Seat) → IsNumbered first seats → one.number ≡ first + length seats → IsNumbered first (seats ++ one ∷ [])

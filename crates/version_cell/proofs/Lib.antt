@@ -4,6 +4,7 @@ pub mod Adding
 pub mod Accepting
 pub mod Entries
 pub mod Merging
+pub mod Placing
 pub mod Numbers
 pub mod Parts
 pub mod Counts

@@ -1,15 +1,14 @@
--- A log that several made, one entry at a time.
+-- A list that several made, one item at a time.
 use Rattle.std.specs.Prelude.{◌≡◌, ◌⊎◌, List, [], ◌∷◌}
-use Rattle.version_log.specs.Log.{Log}
 
--- the entries of one and of another, those of each in their order, are this log
-abbrev pub Merges : Log → Log → Log → Type 0
-Merges one other [] = (one ≡ []) × (other ≡ [])
-Merges one other (entry ∷ log) =
-    ((rest : Log) × (one ≡ entry ∷ rest) × Merges rest other log)
-    ⊎ ((rest : Log) × (other ≡ entry ∷ rest) × Merges one rest log)
+-- the items of one and of another, those of each in their order, are this list
+abbrev pub Merges : {X : Type 0} → List X → List X → List X → Type 0
+Merges {X} one other [] = (one ≡ []) × (other ≡ [])
+Merges {X} one other (x ∷ all) =
+    ((rest : List X) × (one ≡ x ∷ rest) × Merges rest other all)
+    ⊎ ((rest : List X) × (other ≡ x ∷ rest) × Merges one rest all)
 
--- the entries of all of these, those of each in their order, are this log
-abbrev pub MergesAll : List Log → Log → Type 0
-MergesAll [] log = log ≡ []
-MergesAll (one ∷ others) log = (rest : Log) × Merges one rest log × MergesAll others rest
+-- the items of all of these, those of each in their order, are this list
+abbrev pub MergesAll : {X : Type 0} → List (List X) → List X → Type 0
+MergesAll {X} [] all = all ≡ []
+MergesAll {X} (one ∷ others) all = (rest : List X) × Merges one rest all × MergesAll others rest

@@ -1,5 +1,5 @@
 -- What a put is answered.
-use Rattle.std.specs.Prelude.{◌≡◌, ◌≢◌, [], ◌∷◌, ◌++◌, IsOk, Result, Ok, Err}
+use Rattle.std.specs.Prelude.{◌≡◌, ◌≢◌, [], ◌∷◌, ◌++◌, length, IsOk, Result, Ok, Err}
 use Rattle.scan_base.specs.declared.fault.Fault.{Fault}
 use Rattle.scan_base.specs.declared.fault.Fault.TheVariants.{OutOfMemory}
 use Rattle.scan_base.specs.Reading.{RefusesFirst}
@@ -17,6 +17,12 @@ abbrev pub IsAnswered : {X : Type 0} → Result X Fault → Log → Put → Log 
 IsAnswered (Ok receipt) log put next = (next ≡ log ++ added put ∷ []) × IsOk (after_log log put)
 IsAnswered (Err fault) log put next = (next ≡ log) × (fault ≢ OutOfMemory → after_log log put ≡ Err fault)
 
+-- an accepted put that met a log is the last entry that was made through the seat, at the place
+-- behind that log, and a refused one is none of them
+abbrev pub CountsPut : {X : Type 0} → Result X Fault → Seat → Log → Put → Seat → Type 0
+CountsPut (Ok done) old log put new = new.made ≡ old.made ++ (length log, added put) ∷ []
+CountsPut (Err fault) old log put new = MakesNone old new
+
 -- A put of a seat: it met a log that goes on from all that the seat had seen, and the seat has then seen the log behind it,
 -- and no more.
 pub record PutsBehind {X : Type 0} (result : Result X Fault) (old : Seat) (put : Put) (new : Seat) : Type 0 where
@@ -24,8 +30,4 @@ pub record PutsBehind {X : Type 0} (result : Result X Fault) (old : Seat) (put :
   pub met : Begins old.log log
   pub answered : IsAnswered result log put new.log
   pub first : RefusesFirst result (after_log log put)
-
--- an accepted put is the last entry that was made through the seat, and a refused one is none of them
-abbrev pub CountsPut : {X : Type 0} → Result X Fault → Seat → Put → Seat → Type 0
-CountsPut (Ok done) old put new = new.made ≡ old.made ++ added put ∷ []
-CountsPut (Err fault) old put new = MakesNone old new
+  pub counts : CountsPut result old log put new

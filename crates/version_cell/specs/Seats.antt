@@ -1,20 +1,21 @@
 -- What a contract sees of a seat, and what its calls do to it.
 use Rattle.std.specs.Prelude.{◌≡◌, ◌⊎◌, ℕ, ◌+◌, List, [], ◌∷◌}
 use Rattle.version_log.specs.Log.{Log}
+use Rattle.version_cell.specs.Placed.{Placed}
 
 -- the number of the seat, the log that it has seen or was told of, the log that it entered last,
--- how often it entered the cell, the entries that were made through it, in order, and how often it
--- asked the putter
+-- how often it entered the cell, the entries that were made through it, in order, each with its
+-- place in the log, and how often it asked the putter
 pub record Seat : Type 0 where
   pub number : ℕ
   pub log : Log
   pub entered : Log
   pub enters : ℕ
-  pub made : Log
+  pub made : List Placed
   pub asks : ℕ
 
 -- a seat that never asked
-abbrev pub seat : ℕ → Log → Log → ℕ → Log → Seat
+abbrev pub seat : ℕ → Log → Log → ℕ → List Placed → Seat
 seat number log entered enters made =
     record { number = number; log = log; entered = entered; enters = enters; made = made; asks = 0 }
 
@@ -44,12 +45,13 @@ abbrev pub MakesNone : Seat → Seat → Type 0
 MakesNone old new = new.made ≡ old.made
 
 -- Seats that are done with: a log that goes on from all that they had seen, how many they are, how many entries were made
--- through them, and which were made through each, the last one first.
+-- through them, and which were made through each, with their places in the log, the last seat
+-- first.
 pub record GatheredAt : Type 0 where
   pub log : Log
   pub seats : ℕ
   pub made : ℕ
-  pub each : List Log
+  pub each : List (List Placed)
 
-abbrev pub gathered_at : Log → ℕ → ℕ → List Log → GatheredAt
+abbrev pub gathered_at : Log → ℕ → ℕ → List (List Placed) → GatheredAt
 gathered_at log seats made each = record { log = log; seats = seats; made = made; each = each }

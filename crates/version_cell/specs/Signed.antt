@@ -1,7 +1,9 @@
 -- The log of a cell, in which each entry has the number of the seat through which it was made.
 use Rattle.std.specs.Prelude.{◌≡◌, ◌⊎◌, ◌==◌, ◌+◌, ◌^◌, ℕ, List, [], ◌∷◌, ◌++◌, length, map, Option, Some, None, if◌then◌else◌}
+use Rattle.std.specs.List.{enumerate_from}
 use Rattle.version_log.specs.Log.{Entry, Log}
 use Rattle.version_cell.specs.Merges.{Merges}
+use Rattle.version_cell.specs.Placed.{Placed}
 
 -- an entry, and the number of its seat
 pub record Signed : Type 0 where
@@ -15,29 +17,35 @@ signed seat entry = record { seat = seat; entry = entry }
 abbrev pub log_of : List Signed → Log
 log_of entries = map (λ (s : Signed). s.entry) entries
 
--- the entries of one seat
-abbrev pub own : ℕ → List Signed → Log
-own seat [] = []
-own seat (s ∷ more) = if s.seat == seat then s.entry ∷ own seat more else own seat more
+-- the entries of one seat among these, each of which stands behind its place
+abbrev pub own_of : ℕ → List (ℕ × Signed) → List Placed
+own_of seat [] = []
+own_of seat (at ∷ more) =
+    if at.1.seat == seat then (at.0, at.1.entry) ∷ own_of seat more else own_of seat more
+
+-- the entries of one seat, each with its place in the log
+abbrev pub own : ℕ → List Signed → List Placed
+own seat entries = own_of seat (enumerate_from 0 entries)
 
 -- entries go on from others
 abbrev pub GoesOn : List Signed → List Signed → Type 0
 GoesOn entries more = (rest : List Signed) × (more ≡ entries ++ rest)
 
 -- these are among those, in their order
-abbrev pub IsAmong : Log → Log → Type 0
-IsAmong some all = (rest : Log) × Merges some rest all
+abbrev pub IsAmong : {X : Type 0} → List X → List X → Type 0
+IsAmong {X} some all = (rest : List X) × Merges some rest all
 
 -- ---- a maker
 
--- the part of a seat through which entries are made: its number, what it has seen, what was made, and its asks
+-- the part of a seat through which entries are made: its number, what it has seen, what was made,
+-- each entry with its place in the log, and its asks
 pub record MakerAt : Type 0 where
   pub seat : ℕ
   pub seen : List Signed
-  pub made : Log
+  pub made : List Placed
   pub asks : ℕ
 
-abbrev pub maker_at : ℕ → List Signed → Log → ℕ → MakerAt
+abbrev pub maker_at : ℕ → List Signed → List Placed → ℕ → MakerAt
 maker_at seat seen made asks = record { seat = seat; seen = seen; made = made; asks = asks }
 
 -- it has seen the longer of what it had seen and of what it was told, and has asked so often
@@ -49,12 +57,13 @@ pub record Learns (old : MakerAt) (log : List Signed) (asks : ℕ) (new : MakerA
 
 -- ---- seats that are done with
 
--- a seat that is done with: its number, and the entries that were made through it
+-- a seat that is done with: its number, and the entries that were made through it, each with its
+-- place in the log
 pub record Part : Type 0 where
   pub seat : ℕ
-  pub made : Log
+  pub made : List Placed
 
-abbrev pub part_at : ℕ → Log → Part
+abbrev pub part_at : ℕ → List Placed → Part
 part_at seat made = record { seat = seat; made = made }
 
 -- the parts so far, the last one first, and how many times one was added
@@ -63,12 +72,12 @@ pub record PartsAt : Type 0 where
   pub steps : ℕ
 
 -- one seat before what was before, if anything was
-abbrev pub one_before : {X : Type 0} → (X → PartsAt) → Option X → ℕ → Log → PartsAt
+abbrev pub one_before : {X : Type 0} → (X → PartsAt) → Option X → ℕ → List Placed → PartsAt
 one_before f None seat made = record { parts = []; steps = 0 }
 one_before f (Some before) seat made = record { parts = part_at seat made ∷ (f before).parts; steps = (f before).steps + 1 }
 
 -- the entries of each
-abbrev pub made_by_each : List Part → List Log
+abbrev pub made_by_each : List Part → List (List Placed)
 made_by_each parts = map (λ (part : Part). part.made) parts
 
 -- how many entries all of them made

@@ -7,21 +7,21 @@ ghost use Rattle.version_cell.specs.Shares.{shares_at};
 ghost use Rattle.version_cell.specs.Signed.{log_of, part_at};
 
 use crate::book::{CellName, History};
+use crate::made::Made;
 use crate::maker::Maker;
 use crate::scanner::Scanner;
 use crate::tally::Shares;
 use std::marker::Model;
 use std::mem;
 use std::snapshot::Snapshot;
-use version_log::Entries;
 
-// Seats one by one: the number of each, and the entries that were made through it. Contracts alone see them, by snapshots, which
-// take no memory.
+// Seats one by one: the number of each, and the entries that were made through it, with their places
+// in the log. Contracts alone see them, by snapshots, which take no memory.
 #[derive(Drop)]
 pub(crate) struct Parts {
     before: Option<Snapshot<Parts>>,
     seat: u64,
-    made: Snapshot<Entries>,
+    made: Snapshot<Made>,
 }
 
 impl Model for Parts {
@@ -42,12 +42,12 @@ impl Parts {
         Snapshot::of(&Parts {
             before: None,
             seat: 0,
-            made: Entries::none(),
+            made: Made::none(),
         })
     }
 
     // One seat more, before the others.
-    fn with(before: Snapshot<Parts>, seat: u64, made: Snapshot<Entries>) -> Snapshot<Parts>
+    fn with(before: Snapshot<Parts>, seat: u64, made: Snapshot<Made>) -> Snapshot<Parts>
         ensures { result.value.parts ≡ part_at seat made.value.entries ∷ before.value.parts }
     {
         Snapshot::of(&Parts {
@@ -59,7 +59,7 @@ impl Parts {
 }
 
 /// Seats that are done with. Contracts see it as a log that goes on from all that these had seen, how many they are, how many
-/// entries were made through them, and which were made through each.
+/// entries were made through them, and which were made through each, with their places in the log.
 #[derive(Drop)]
 pub struct Gathered<C: CellName> {
     pub(crate) history: History,

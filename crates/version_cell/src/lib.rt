@@ -4,6 +4,7 @@
 mod book;
 pub mod cell;
 pub mod gathered;
+mod made;
 mod maker;
 mod publisher;
 pub mod putter;

@@ -6,20 +6,21 @@ ghost use Rattle.version_cell.specs.Shares.{shares_at};
 ghost use Rattle.version_cell.specs.Signed.{own, signed, maker_at, GoesOn, Learns};
 
 use crate::book::{CellName, History};
+use crate::made::Made;
 use crate::rest::Rest;
 use crate::tally::{Shares, Tally};
 use crate::times::Times;
 use std::marker::Model;
 use std::{mem, snapshot};
-use version_log::{Entries, Entry};
+use version_log::Entry;
 
 // Who makes entries. Contracts see it as the number of its seat, the log that it has seen, with the seat of each entry, the entries
-// that it made, and how often it asked.
+// that it made, each with its place in the log, and how often it asked.
 #[derive(Drop)]
 pub(crate) struct Maker<C: CellName> {
     pub(crate) seat: u64,
     pub(crate) history: History,
-    pub(crate) made: snapshot::Snapshot<Entries>,
+    pub(crate) made: snapshot::Snapshot<Made>,
     // How many these are.
     pub(crate) count: u64,
     // How often it asked, for others to see.
@@ -54,7 +55,7 @@ impl<C: CellName> Maker<C> {
         Maker {
             seat,
             history,
-            made: Entries::none(),
+            made: Made::none(),
             count: 0,
             asked: Times::none(),
             shares,
@@ -123,18 +124,20 @@ impl<C: CellName> Maker<C> {
         Rest::new(self.seat, self.history.again(), self.asked.again())
     }
 
-    // It made the entry that stands behind what it had seen, and that is counted.
+    // It made the entry that stands behind what it had seen, at that place, and that is counted.
     #[tactic(auto, using(crate::proofs::Parts::among_made))]
     pub(crate) fn make(&mut self, tally: &mut Tally<C>, told: &History, entry: &Entry)
         requires book { told.now.seen.book ≡ C.book }
         requires few { length told.now.seen.log ≤ 2 ^ 62 }
         requires behind { told.now.seen.log ≡ self.old.seen ++ signed self.old.seat entry.now ∷ [] }
         ensures tally { tally.new ≡ tally.old + 1 }
-        ensures made { self.new ≡ maker_at self.old.seat told.now.seen.log (self.old.made ++ entry.now ∷ []) self.old.asks }
+        ensures made { self.new ≡ maker_at self.old.seat told.now.seen.log
+            (self.old.made ++ (length self.old.seen, entry.now) ∷ []) self.old.asks }
     {
+        let place = self.history.len();
         self.history = told.again();
-        let before = mem::replace(&mut self.made, Entries::none());
-        self.made = Entries::with(before, entry);
+        let before = mem::replace(&mut self.made, Made::none());
+        self.made = Made::with(before, place, entry);
         self.count += 1;
         tally.count(&mut self.shares);
     }

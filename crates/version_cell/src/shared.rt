@@ -6,9 +6,10 @@ ghost use Rattle.version_log.specs.Log.{puts_in, Begins, IsLog};
 ghost use Rattle.table_versions.specs.Stored.{put_of};
 ghost use Rattle.table_versions.specs.Valid.{IsPut};
 ghost use Rattle.version_cell.specs.Counts.{Counted};
-ghost use Rattle.version_cell.specs.Expiries.{CountsExpiry, ExpiresBehind};
+ghost use Rattle.version_cell.specs.Expiries.{ExpiresBehind};
 ghost use Rattle.version_cell.specs.Merges.{MergesAll};
-ghost use Rattle.version_cell.specs.Puts.{CountsPut, IsAnswered, PutsBehind};
+ghost use Rattle.version_cell.specs.Placed.{placed};
+ghost use Rattle.version_cell.specs.Puts.{IsAnswered, PutsBehind};
 ghost use Rattle.version_cell.specs.Rests.{IsRestOf};
 ghost use Rattle.version_cell.specs.Seats.{AsksOnce, MakesNone};
 ghost use Rattle.version_cell.specs.Signed.{log_of, maker_at, own};
@@ -98,7 +99,6 @@ impl<C: CellName, R: Wait + Drop> Counting<C, R> {
         requires counted { length seat.old.made ≡ length (own seat.old.number self.old.publisher) }
         ensures answered { IsAnswered result (log_of self.old.publisher) (put_of put) (log_of self.new.publisher) }
         ensures put { PutsBehind result seat.old (put_of put) seat.new }
-        ensures made { CountsPut result seat.old (put_of put) seat.new }
         ensures asks { AsksOnce seat.old seat.new }
         ensures seat { seat.new.number ≡ seat.old.number }
         ensures number { IfOk result (λ number. number ≡ puts_in seat.new.log) }
@@ -127,7 +127,6 @@ impl<C: CellName, R: Wait + Drop> Counting<C, R> {
         requires counted { length seat.old.made ≡ length (own seat.old.number self.old.publisher) }
         ensures answered { IsExpired result (log_of self.old.publisher) version (log_of self.new.publisher) }
         ensures expiry { ExpiresBehind result seat.old version seat.new }
-        ensures made { CountsExpiry result seat.old version seat.new }
         ensures asks { AsksOnce seat.old seat.new }
         ensures seat { seat.new.number ≡ seat.old.number }
         ensures begins { Begins seat.old.log seat.new.log }
@@ -165,7 +164,7 @@ impl<C: CellName, R: Wait + Drop> Counting<C, R> {
         ensures same { all.new ≡ all.old }
         ensures begins { IfSome result (λ told. Begins all.old.log told) }
         ensures counted { IfSome result (λ told. length told ≡ all.old.made) }
-        ensures each { IfSome result (λ told. MergesAll all.old.each told) }
+        ensures each { IfSome result (λ told. MergesAll all.old.each (placed 0 told)) }
         ensures is_log { IfSome result (λ told. IsLog told) }
     {
         let Counting {
@@ -238,7 +237,6 @@ impl<C: CellName, R: Wait + Drop> SharedPutter<C, R> {
         put: Put,
     ) -> Result<u64, Fault>
         ensures put { PutsBehind result seat.old (put_of put) seat.new }
-        ensures made { CountsPut result seat.old (put_of put) seat.new }
         ensures asks { AsksOnce seat.old seat.new }
         ensures seat { seat.new.number ≡ seat.old.number }
         ensures number { IfOk result (λ number. number ≡ puts_in seat.new.log) }
@@ -271,7 +269,6 @@ impl<C: CellName, R: Wait + Drop> SharedPutter<C, R> {
         version: u64,
     ) -> Result<u64, Fault>
         ensures expiry { ExpiresBehind result seat.old version seat.new }
-        ensures made { CountsExpiry result seat.old version seat.new }
         ensures asks { AsksOnce seat.old seat.new }
         ensures seat { seat.new.number ≡ seat.old.number }
         ensures begins { Begins seat.old.log seat.new.log }
@@ -323,14 +320,15 @@ impl<C: CellName, R: Wait + Drop> SharedPutter<C, R> {
     }
 
     /// The whole log, where all seats of the cell are done with: it goes on from all that they had seen, and is made up of the
-    /// entries that were made through each. The putter ends with it.
+    /// entries that were made through each, at the places where these were made. So each place is of
+    /// one seat. The putter ends with it.
     ///
     /// No seat is ever ahead of the log, so it is looked at once; were one, this would never end.
     pub fn whole_log(self, rt: &impl Wait, all: Gathered<C>) -> Told<C>
         requires { all.seats ≡ C.parts }
         ensures begins { Begins all.log result }
         ensures counted { length result ≡ all.made }
-        ensures each { MergesAll all.each result }
+        ensures each { MergesAll all.each (placed 0 result) }
         ensures is_log { IsLog result }
     {
         let SharedPutter { counting } = self;

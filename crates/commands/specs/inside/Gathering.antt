@@ -11,8 +11,9 @@ use Rattle.flight_core.specs.Seats.{Seat, seat_of}
 use Rattle.shared_calls.specs.Sharing.{onward, seat_at}
 use Rattle.connection_turns.specs.Drawers.{DrawerAt, drawer_at}
 use Rattle.command_ends.specs.Network.{Accepting, Ends}
+use Rattle.command_ends.specs.Printing.{AnnouncedAt}
 use Rattle.commands.specs.declared.crew.Hired as declared
-use Rattle.commands.specs.Port.{IsFresh}
+use Rattle.commands.specs.Port.{IsFresh, Sharing, SharesEach}
 use Rattle.commands.specs.Shown.{IsNewSeat}
 use Rattle.commands.specs.Serve.{Pays, Work, Worker, ServesUpTo, drawn_by, first_fault, made_by, made_by_each, worker_of}
 
@@ -35,22 +36,28 @@ work_of hired = record { worker = state_of hired; drawn = hired.drawer.drawn; re
 abbrev pub IsNew : {L : Type 0} → TableId → HiredWorker L → Type 0
 IsNew name hired = IsSome hired.scanner × (hired.drawer ≡ drawer_at name 1 0 0)
 
--- Its listener hears this port, and no connection that it gave is open. It may be shown the seats of the cell with this book, of one
--- that was new.
-pub record IsAtRest {L : Type 0} (at_rest : L → Type 0) (port_of : L → ℕ) (rests known : L → RestAt → Type 0) (port : ℕ) (book : Book)
-    (hired : HiredWorker L) : Type 0 where
+-- Its listener hears the port of the one that gave it, and no connection that it gave is open. It was shown no seat yet, and may be
+-- shown those of the cell with this book. It may be asked for an accept where the other one may.
+pub record IsAtRest {L : Type 0} (at_rest : L → Type 0) (port_of : L → ℕ) (rests known : L → RestAt → Type 0)
+    (due : L → ℕ → Option (List ℕ) → Type 0) (heard : L) (book : Book) (hired : HiredWorker L) : Type 0 where
   pub free : at_rest hired.listener
-  pub port : port_of hired.listener ≡ port
-  pub rests : (new : RestAt) → IsNewSeat new → rests hired.listener new
+  pub port : port_of hired.listener ≡ port_of heard
+  pub stands : (new : RestAt) → IsNewSeat new → rests hired.listener new
   pub knows : (shown : RestAt) → shown.book ≡ book → known hired.listener shown
+  pub dues : (port : ℕ) (held : Option (List ℕ)) → due heard port held → due hired.listener port held
 
--- it may serve: it is new, its listener may accept, its seat has seen nothing, and what is owed for a connection is that it is served
+-- It may serve: it is new, and its seat has seen nothing. Its listener may accept, where the line of its port was printed so. What is
+-- owed for a connection is that it is served.
 pub record MayServe {L : Type 0} (at_rest : L → Type 0) (port_of : L → ℕ) (rests known : L → RestAt → Type 0)
-    (owed : RestAt → Ends → Ends → RestAt → Type 0) (options : Options) (port : ℕ) (book : Book) (name : TableId)
-    (hired : HiredWorker L) : Type 0 where
+    (due : L → ℕ → Option (List ℕ) → Type 0) (owed : RestAt → Ends → Ends → RestAt → Type 0) (options : Options)
+    (announced : AnnouncedAt) (book : Book) (name : TableId) (hired : HiredWorker L) : Type 0 where
   pub new : IsNew name hired
-  pub may : IsAtRest at_rest port_of rests known port book hired
   pub fresh : seat_in hired.scanner ≡ seat_of [] 0
+  pub free : at_rest hired.listener
+  pub port : announced.port ≡ port_of hired.listener
+  pub dues : due hired.listener announced.port announced.held
+  pub stands : (new : RestAt) → IsNewSeat new → rests hired.listener new
+  pub knows : (shown : RestAt) → shown.book ≡ book → known hired.listener shown
   pub pays : Pays onward options owed
 
 -- where it ended well, it was told that no turn is left
@@ -84,13 +91,23 @@ pub record Gathered {L : Type 0} (all left : List (HiredWorker L)) (seats : cell
   pub drawn : hub.drawn ≡ drawn_by (map work_of done)
   pub ended : (0 < hub.ended) ⊎ All (λ work. IsErr work.result) (map work_of done)
 
--- workers were made for the seats that were taken, and the first drawer has a part for each that is left
-pub record Begun {L : Type 0} (shares : L → Option L → Type 0) (at_rest : L → Type 0) (port_of : L → ℕ) (rests known : L → RestAt → Type 0)
-    (heard : L) (book : Book) (name : TableId) (hub : DrawerAt) (workers : List (HiredWorker L)) (left : List cell.Seat) (count : ℕ)
-    : Type 0 where
+-- the listeners of workers, as the code has them
+abbrev pub hired_listeners : {L : Type 0} → List (HiredWorker L) → List L
+hired_listeners workers = map (λ hired. hired.listener) workers
+
+-- Workers were made for the seats that were taken, and the first drawer has a part for each that is left. The network, which was
+-- first this one and then that, gave each of them its listener.
+pub record Begun {L : Type 0} (shares : Sharing L) (at_rest : L → Type 0) (port_of : L → ℕ) (rests known : L → RestAt → Type 0)
+    (due : L → ℕ → Option (List ℕ) → Type 0) (handed : L → ℕ) (heard network : L) (book : Book) (name : TableId) (hub : DrawerAt)
+    (workers : List (HiredWorker L)) (left : List cell.Seat) (count : ℕ) : Type 0 where
   pub counted : length workers + length left ≡ count
-  pub fresh : All (λ hired. IsFresh shares heard (state_of hired)) workers
+  pub given : SharesEach shares heard (hired_listeners workers) network
+  pub counts : handed network ≡ handed heard + length workers
+  pub port : port_of network ≡ port_of heard
+  pub knows : (shown : RestAt) → shown.book ≡ book → known network shown
+  pub dues : (port : ℕ) (held : Option (List ℕ)) → due heard port held → due network port held
+  pub fresh : All (λ hired. IsFresh (state_of hired)) workers
   pub new : All (IsNew name) workers
-  pub may : All (IsAtRest at_rest port_of rests known (port_of heard) book) workers
+  pub may : All (IsAtRest at_rest port_of rests known due heard book) workers
   pub seats : All (λ found. found ≡ cell.seat found.number [] [] 0 []) left
   pub parts : hub ≡ drawer_at name (length left + 1) 0 0

@@ -1,8 +1,9 @@
-use Rattle.std.proofs.Common.{[], refl, sym, ap, subst, ◌∙◌}
+use Rattle.std.proofs.Common.{[], inl, refl, sym, ap, subst, ◌∙◌}
 use Rattle.std.proofs.lemmas.Result.{err_from_is_err_and}
 use Rattle.arrow_schema.specs.declared.schema.Schema.{Schema}
 use Rattle.scan_base.specs.declared.fault.Fault.TheVariants.{OutOfMemory}
 use Rattle.csv_input.specs.Input.{TextAt}
+use Rattle.csv_table.specs.Long.{WhyNoMessage}
 use Rattle.csv_table.specs.Rows.{IsNext}
 use Rattle.client_commands.proofs.RowsSent.{all_sent, batch_sent, batch_splits, batch_unmade, batch_unsent}
 use Rattle.client_commands.proofs.rows_put.send_rows.Goals as goal
@@ -10,7 +11,7 @@ use Rattle.client_commands.proofs.rows_put.send_rows.Goals as goal
 pub returns-in_err-rows : goal.returns-in_err-rows
 returns-in_err-rows g c target begun have =
     let p = err_from_is_err_and c.from_residual.result c.from_residual.ensures.1 in
-    rw (p.1, p.2) (batch_unmade target c.args.text.now begun [] _ [] c.args.putting.now have refl OutOfMemory)
+    rw (p.1, p.2) (batch_unmade target c.args.text.now begun [] _ [] c.args.putting.now have refl OutOfMemory (inl refl))
 
 pub loop-rows-init : goal.loop-rows-init
 loop-rows-init g c = record {
@@ -58,8 +59,12 @@ loop-rows-preserved g c =
 pub returns-in_err-message : goal.returns-in_err-message
 returns-in_err-message g c target begun have =
     let p = err_from_is_err_and c.from_residual-in_err-message.result c.from_residual-in_err-message.ensures.1 in
-    let so = c.loop-rows.invariant.sent target begun have in
-    rw (p.1, p.2) (batch_unmade target c.args.text.now begun so.0 _ [] _ so.2 so.1 c.in_err-message.field-0.0)
+    let i = c.loop-rows.invariant in
+    let so = i.sent target begun have in
+    let rest = c.next.new.self.records in
+    let fault = c.in_err-message.field-0.0 in
+    let why = subst (λ (s : Schema). WhyNoMessage s.fields c.loop-rows.rows.records rest fault) i.schema c.in_err-message.ensures.refused in
+    rw (p.1, p.2) (batch_unmade target c.args.text.now begun so.0 _ rest _ so.2 so.1 fault why)
 
 pub returns-in_err-send : goal.returns-in_err-send
 returns-in_err-send g c target begun have =

@@ -1,5 +1,5 @@
 use Rattle.std.proofs.Common.{List, rules, subst}
-use Rattle.version_log.specs.Log.{Log}
+use Rattle.flight_core.specs.Placed.{Placed, placed}
 use Rattle.version_cell.specs.Merges.{MergesAll}
 use Rattle.commands.specs.Serve.{AcceptsThenCloses}
 use Rattle.commands.proofs.Crews.{all_served, written}
@@ -13,4 +13,4 @@ returns g c =
     c.args.workers.items c.work_side_by_side.new.workers _ c.first_of-first.result.0
     (written c.args.workers.items c.work_side_by_side.new.workers c.args.workers.len (search rules) (search rules)) (search rules) each
     c.first_of-first.result.1.log f.within c.whole_log.ensures.begins c.whole_log.ensures.is_log (search rules)
-    (subst (λ (each : List Log). MergesAll each c.whole_log.result) f.each c.whole_log.ensures.each) f.drawn f.first
+    (subst (λ (each : List (List Placed)). MergesAll each (placed 0 c.whole_log.result)) f.each c.whole_log.ensures.each) f.drawn f.first

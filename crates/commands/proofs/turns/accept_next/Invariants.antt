@@ -1,4 +1,4 @@
-use Rattle.std.proofs.Common.{◌≡◌, ℕ}
+use Rattle.std.proofs.Common.{◌≡◌, ℕ, List, Option}
 use Rattle.version_cell.specs.Rests.{RestAt}
 use Rattle.commands.specs.Shown.{HasLearnt}
 use Rattle.commands.specs.inside.Accepting.{FailsSo}
@@ -12,5 +12,6 @@ invariant-loop g l = record {
   free : g.L.Listen.at_rest l.network;
   port : g.L.Listen.port_of l.network ≡ g.L.Listen.port_of l.initial.network;
   rests : (old : RestAt) × g.L.Listen.rests l.network old × HasLearnt old l.seat;
+  due : (port : ℕ) (held : Option (List ℕ)) → g.L.Listen.due l.initial.network port held → g.L.Listen.due l.network port held;
   cell : (other : RestAt) → g.L.Listen.cell l.initial.network other → g.L.Listen.cell l.network other;
 }

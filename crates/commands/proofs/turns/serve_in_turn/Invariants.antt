@@ -17,5 +17,6 @@ invariant-loop g l = record {
   port : g.L.Listen.port_of l.network ≡ g.L.Listen.port_of l.initial.network;
   shown : IsShownAs l.shown g.B.Resting.book g.B.Resting.number (g.B.Backend.seat l.backend);
   rests : (old : RestAt) × g.L.Listen.rests l.network old × HasLearnt old l.shown;
+  due : g.L.Listen.due l.network l.service.announced.now.port l.service.announced.now.held;
   cell : (seat : RestAt) → seat.book ≡ g.B.Resting.book → g.L.Listen.cell l.network seat;
 }

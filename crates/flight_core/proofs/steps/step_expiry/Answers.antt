@@ -14,7 +14,7 @@ returns-in-Err-expire-clause-step g c =
     rw c.refusal-in-Err-expire.ensures.reply (expiry_refused g.B.Backend.moves _ _ c.args.action.now c.in-Ok.version c.in-Err-expire.fault (rw c.in-Err-expire.is at c.expire.ensures) (rw c.in-Ok.is at c.read_expiry.ensures))
 
 pub returns-in-Ok-expire-clause-puts : goal.returns-in-Ok-expire-clause-puts
-returns-in-Ok-expire-clause-puts g c puts = marked_puts g.B.Backend.accepts c.expire.result _ _ c.in-Ok.version c.expire.ensures.marks puts
+returns-in-Ok-expire-clause-puts g c puts = marked_puts g.B.Backend.accepts c.expire.result _ _ c.expire.ensures.log c.in-Ok.version c.expire.ensures.marks puts
 
 pub returns-in-Err-expire-clause-puts : goal.returns-in-Err-expire-clause-puts
-returns-in-Err-expire-clause-puts g c puts = marked_puts g.B.Backend.accepts c.expire.result _ _ c.in-Ok.version c.expire.ensures.marks puts
+returns-in-Err-expire-clause-puts g c puts = marked_puts g.B.Backend.accepts c.expire.result _ _ c.expire.ensures.log c.in-Ok.version c.expire.ensures.marks puts

@@ -26,7 +26,7 @@ returns-in-Err-put-clause-step g c payloads gives =
 
 pub returns-in-Ok-put-clause-puts : goal.returns-in-Ok-put-clause-puts
 returns-in-Ok-put-clause-puts g c puts =
-    more_puts g.B.Backend.accepts _ _ (put_of c.in-Ok.put) c.in-Ok-put.ensures.puts.at.2 c.in-Ok-put.ensures.typed puts
+    more_puts g.B.Backend.accepts _ _ _ (put_of c.in-Ok.put) c.in-Ok-put.ensures.puts.at.2 c.in-Ok-put.ensures.typed puts
 
 pub returns-in-Err-put-clause-puts : goal.returns-in-Err-put-clause-puts
 returns-in-Err-put-clause-puts g c puts = same_puts g.B.Backend.accepts _ _ c.in-Err-put.ensures.puts.at.1 puts

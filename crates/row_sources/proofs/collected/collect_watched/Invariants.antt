@@ -1,4 +1,4 @@
-use Rattle.std.proofs.Common.{◌≡◌, All, ◌++◌}
+use Rattle.std.proofs.Common.{◌≡◌, All, ◌+◌, ◌++◌, length}
 use Rattle.std.specs.List.{flat_map}
 use Rattle.arrays.specs.Batch.{rows_of}
 use Rattle.row_sources.specs.Collected.{plain_rows, IsBatchOf}

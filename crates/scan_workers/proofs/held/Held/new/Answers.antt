@@ -1,4 +1,3 @@
-use Rattle.std.proofs.Common.{◌≡◌}
 use Rattle.scan_workers.specs.declared.answered.Done.{Done}
 use Rattle.scan_workers.proofs.Holding.{first_held, first_is}
 use Rattle.scan_workers.proofs.held.Held.new.Goals as goal

@@ -4,4 +4,4 @@ use Rattle.shared_calls.proofs.backend.SharedBackend.expire.Goals as goal
 
 pub returns : goal.returns
 returns g c =
-    expired_so c.expire.result _ _ _ _ c.args.version c.expire.ensures.expiry c.expire.ensures.made c.expire.ensures.begins c.expire.ensures.enters.0 c.expire.ensures.asks (sym c.self.view_is) refl
+    expired_so c.expire.result _ _ _ _ c.args.version c.expire.ensures.expiry c.expire.ensures.begins c.expire.ensures.enters.0 c.expire.ensures.asks (sym c.self.view_is) refl

@@ -1,5 +1,8 @@
 use Rattle.std.proofs.Common.{rules}
+use Rattle.std.proofs.lemmas.Result.{err_from_is_err_and}
 use Rattle.version_log.specs.Log.{expired}
+use Rattle.version_cell.specs.Signed.{log_of}
+use Rattle.version_cell.proofs.Answering.{expired_behind, unexpired_behind}
 use Rattle.version_cell.proofs.Counts.{counted_more}
 use Rattle.version_cell.proofs.Logs.{longer_by_one}
 use Rattle.version_cell.proofs.shared.Counting.expire.Goals as goal
@@ -16,3 +19,7 @@ invariant_of-self-2 g c = record {
 
 pub returns-clause-answered : goal.returns-clause-answered
 returns-clause-answered g c = c.in_ok-floor.ensures.answered
+
+pub returns-clause-expiry : goal.returns-clause-expiry
+returns-clause-expiry g c =
+    expired_behind _ _ _ c.args.version c.args.self.now.publisher _ c.requires.within c.in_ok-floor.ensures.answered (search rules) (search rules)

@@ -13,7 +13,7 @@ pub returns-in_err-receipt-clause-put : goal.returns-in_err-receipt-clause-put
 returns-in_err-receipt-clause-put g c =
     let p = err_from_is_err_and c.from_residual.result c.from_residual.ensures.1 in
     rw (p.1, p.2)
-    (refused_behind _ _ _ _ _ (put_of c.args.put) (log_of c.args.self.now.publisher) _ c.requires.within c.in_err-receipt.ensures.answered c.in_err-receipt.ensures.first (search rules))
+    (refused_behind _ _ _ _ _ (put_of c.args.put) (log_of c.args.self.now.publisher) _ c.requires.within c.in_err-receipt.ensures.answered c.in_err-receipt.ensures.first (search rules) (search rules))
 
 pub invariant_of-self : goal.invariant_of-self
 invariant_of-self g c = record { counted = search rules; each = rw c.in_err-receipt.ensures.added c.args.self.now.each }
@@ -30,7 +30,7 @@ returns-clause-answered g c = c.in_ok-receipt.ensures.answered
 
 pub returns-clause-put : goal.returns-clause-put
 returns-clause-put g c =
-    accepted_behind _ _ _ _ (put_of c.args.put) (log_of c.args.self.now.publisher) _ c.requires.within c.in_ok-receipt.ensures.answered c.in_ok-receipt.ensures.first (search rules)
+    accepted_behind _ _ _ _ (put_of c.args.put) c.args.self.now.publisher _ c.requires.within c.in_ok-receipt.ensures.answered c.in_ok-receipt.ensures.first (search rules) (search rules)
 
 pub returns-clause-begins : goal.returns-clause-begins
 returns-clause-begins g c =
