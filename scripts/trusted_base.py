@@ -28,7 +28,8 @@ if not (TOP / "crates.txt").exists():
 STARTS = (("commands", "pipe"), ("commands", "serve"), ("flight_calls", "served_meets_headline"),
           ("commands", "server_meets_headline"), ("flightscan", "run"))
 LEFT_OUT = {"run": {"asks"}}  # clauses of the starts: what is said of a client's request
-LAWS = (("commands", "history_is_told"), ("commands", "puts_are_told"), ("commands", "taken_connections_are_whole"),
+LAWS = (("commands", "history_is_told"), ("commands", "history_is_marked"), ("commands", "puts_are_told"),
+        ("commands", "taken_connections_are_whole"),
         ("flight_calls", "new_connections_are_whole"), ("flight_calls", "seats_meet_joined"))
 # (what these define is a standard's, or the grammar's; what all other crates define is our own machine, and what queries mean)
 FORMATS = {"proto_wire", "flatbuf", "bitmap", "arrow_schema", "arrays", "array_buffers", "ipc_batch", "ipc_stream",
