@@ -6,8 +6,11 @@ mod asking;
 mod at_once;
 mod breaking;
 mod clients;
+mod endless;
 mod expiring;
 mod formats;
+mod history;
+mod keeping;
 mod serving;
 mod side_by_side;
 mod streams;
@@ -15,6 +18,7 @@ mod texts;
 
 use crate::breaking::{STOPPING, told_stream};
 use crate::clients::{PUTS, told_port, told_put};
+use crate::endless::without_end;
 use crate::serving::{Client, beside};
 use crate::side_by_side::{told_ahead, told_order};
 use std::io;
@@ -40,6 +44,8 @@ fn main(rt: HostRuntime) -> io::Result<()> {
     println!(rt; "expired versions: {expired}")?;
     let kept = beside(&rt, 2, Client::PutsBeyondKept)?;
     println!(rt; "kept versions: {kept}")?;
+    let endless = without_end(&rt, 4, Client::Expires)?;
+    println!(rt; "without an end: {endless}")?;
     let port = told_port(&rt)?;
     println!(rt; "nobody listens: {port}")?;
     for case in PUTS.iter() {
