@@ -59,8 +59,7 @@ abbrev pub Pays : Moves → Options → (RestAt → Ends → Ends → RestAt →
 Pays moves options owed =
     (old : RestAt) (made left : Ends) (new : RestAt) → IsServedTo moves options old made left new → owed old made left new
 
--- An accept, and the listener behind it: it failed by what may pass; or the listener broke; or it took a connection of these ends,
--- and serving that ended so
+-- an accept, and the listener after it: it failed by what may pass; it broke; or it took a connection, which was served so
 pub data Accept (L : Type 0) : Type 0 where
   Failed : L → Accept L
   Broke : L → Accept L
@@ -136,10 +135,9 @@ pub record IsPartOf {L : Type 0} (accepts : Accepting L) (options : Options) (hi
   pub within : Begins new.worker.seat.log history
 
 -- These workers served side by side, each the connections that it drew, so many in all. All that their seats have seen
--- is of one history of accepted puts, with as many entries as their connections made. It is made up of these: of the entries
--- of each worker, in their order, and of no others. Each stands at the place where its step made it.
--- So no two steps, of whatever workers, made the entry of one place. The result is the first fault of
--- a worker, if any.
+-- is of one history of accepted puts, with as many entries as their connections made. It is made up of the entries of each
+-- worker, in their order, and of no others. Each stands at the place where its step made it: so no two steps, of whatever
+-- workers, made the entry of one place. The result is the first fault of a worker, if any.
 pub record ServesSideBySide {L : Type 0} (accepts : Accepting L) (options : Options) (most : ℕ)
     (workers : List (Worker L)) (result : Result (Unit {0}) Fault) : Type 0 where
   pub history : Log
