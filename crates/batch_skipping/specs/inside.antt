@@ -1,3 +1,4 @@
 -- What contracts of this crate's private functions alone cite.
 pub mod Between
 pub mod Standing
+pub mod Judged

@@ -4,9 +4,16 @@
 mod between;
 pub mod can;
 mod compare;
+mod conjuncts;
 pub mod laws;
+pub mod opened;
+mod place_filter;
 pub mod possible;
+mod scans;
 mod standing;
+pub mod weight;
 
 pub use crate::can::{Measured, may_hold};
+pub use crate::opened::{OpenedList, opened_lists};
 pub use crate::possible::Possible;
+pub use crate::weight::judging_rows;

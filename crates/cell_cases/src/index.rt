@@ -8,7 +8,7 @@ use hash_seed::HashSeed;
 use scan_base::{Fault, Text};
 use std::alloc::Global;
 use table_versions::apply;
-use version_index::VersionIndex;
+use version_log::VersionIndex;
 
 // The versions so far, and the one behind a put of one row.
 fn longer(alloc: Global, index: &VersionIndex) -> Result<VersionIndex, Fault>

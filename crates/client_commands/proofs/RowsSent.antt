@@ -8,8 +8,8 @@ use Rattle.grpc_frame.specs.Ends.{CanFail}
 use Rattle.flight_info.specs.Payloads.{Payload}
 use Rattle.flight_proto.specs.FlightData.{data_bytes}
 use Rattle.ipc_stream.specs.declared.message.IpcMessage.{IpcMessage}
-use Rattle.csv_table.specs.Long.{WhyNoMessage}
-use Rattle.csv_table.specs.Rows.{IsNext, SaysRecords}
+use Rattle.csv_input.specs.Long.{WhyNoMessage}
+use Rattle.csv_input.specs.Rows.{IsNext, SaysRecords}
 use Rattle.csv_input.specs.Input.{TextAt}
 use Rattle.client_calls.specs.declared.call.Method.TheVariants.{DoPut}
 use Rattle.client_calls.specs.declared.failure.Failure.{Failure}

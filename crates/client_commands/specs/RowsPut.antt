@@ -2,8 +2,8 @@
 use Rattle.std.specs.Prelude.{◌≡◌, ◌⊎◌, ℕ, List, [], ◌++◌, Result, Err}
 use Rattle.scan_base.specs.declared.fault.Fault.{Fault}
 use Rattle.ipc_stream.specs.declared.message.IpcMessage.{IpcMessage}
-use Rattle.csv_table.specs.Long.{WhyNoMessage}
-use Rattle.csv_table.specs.Rows.{SaysRecords}
+use Rattle.csv_input.specs.Long.{WhyNoMessage}
+use Rattle.csv_input.specs.Rows.{SaysRecords}
 use Rattle.csv_input.specs.Input.{TextAt}
 use Rattle.client_calls.specs.declared.call.Method.TheVariants.{DoPut}
 use Rattle.client_calls.specs.declared.failure.Failure.{Failure}

@@ -6,3 +6,10 @@ pub mod Marked
 pub mod Words
 pub mod Parsed
 pub mod Refusing
+pub mod Left
+mod Taken
+pub mod Placed
+mod Ranges
+mod Signs
+pub mod Tried
+pub mod Each

@@ -1,2 +1,5 @@
 -- Inside: what only the contracts of private functions cite.
 pub mod Marks
+-- Inside: what a reader of records has left.
+pub mod Reading
+pub mod Tests

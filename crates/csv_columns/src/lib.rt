@@ -3,11 +3,24 @@
 //! `specs/Spelled.antt` says how, and `specs/Refused.antt` why a text spells none.
 #![tactic(auto)]
 
+mod cell;
+mod columns;
+mod field;
 mod name;
+mod naming;
+mod number;
 mod reading;
+mod records;
+mod said;
+mod seen;
 mod word;
 mod writing;
 
+pub use crate::cell::cell_in;
+pub use crate::columns::found_columns;
+pub use crate::field::field_in;
 pub use crate::name::name_of;
 pub use crate::reading::columns_in;
+pub use crate::records::Records;
+pub use crate::said::value_in;
 pub use crate::writing::columns_text;

@@ -4,16 +4,16 @@ ghost use Rattle.std.specs.Prelude.{◌≡◌, ◌≢◌, ◌<◌, ℕ, None, Al
 ghost use Rattle.csv.specs.Records.{fields_of, trimmed};
 ghost use Rattle.arrow_schema.specs.Schema.{IsField, IsSchema};
 ghost use Rattle.arrow_schema.specs.Written.{encoding_of};
-ghost use Rattle.csv_records.specs.Left.{records_in};
+ghost use Rattle.csv_columns.specs.Left.{records_in};
 ghost use Rattle.csv_columns.specs.Refused.{WhyNoColumn, WhyNoColumns, WhyNoFields};
 ghost use Rattle.csv_columns.specs.Spelled.{AreSpelledAs, Spells, mark_of, spelled};
 ghost use Rattle.csv_columns.specs.inside.Marks.{IsUnmarked};
 
 use crate::name::name_of;
 use crate::word::type_named;
+use crate::{Records, field_in};
 use arrow_schema::{Field, MAX_COLUMNS, Schema};
 use csv::ByteRecord;
-use csv_records::{Records, field_in};
 use scan_base::{Fault, Items};
 use std::alloc::Global;
 

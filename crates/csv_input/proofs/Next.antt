@@ -5,7 +5,7 @@ use Rattle.std.proofs.lemmas.List.{length-append}
 use Rattle.arrow_schema.specs.declared.schema.Schema.{Schema}
 use Rattle.ipc_stream.specs.declared.message.IpcMessage.{IpcMessage}
 use Rattle.scan_base.specs.declared.fault.Fault.{Fault}
-use Rattle.csv_table.specs.Rows.{TakesMessage}
+use Rattle.csv_input.specs.Rows.{TakesMessage}
 
 some_records : (taken : List (List (List ℕ))) → taken ≢ [] → 0 < length taken
 some_records [] some = absurd (some refl)

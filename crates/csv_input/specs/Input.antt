@@ -12,14 +12,14 @@ use Rattle.command_ends.specs.Printing.{Said, Prints, cause_lines, fault_line}
 use Rattle.command_ends.specs.Whole.{Source, Gives, Stops}
 use Rattle.command_ends.specs.declared.exit_status.ExitStatus.{ExitStatus}
 use Rattle.command_ends.specs.declared.exit_status.ExitStatus.TheVariants.{FaultAtThisEnd}
-use Rattle.csv_records.specs.Left.{records_in}
+use Rattle.csv_columns.specs.Left.{records_in}
 use Rattle.csv_columns.specs.Refused.{WhyNoColumns}
 use Rattle.csv_columns.specs.Spelled.{Spells}
 use Rattle.csv_input.specs.Lines.{columns_line, wrong_line}
-use Rattle.csv_types.specs.Found.{AreFound, WhyNoneFound, rows_behind}
-use Rattle.csv_table.specs.Long.{WhyNoneTold}
-use Rattle.csv_table.specs.Rows.{AreRight, IsFirstWrong}
-use Rattle.csv_table.specs.declared.outcome.WrongRecord.{WrongRecord}
+use Rattle.csv_columns.specs.Found.{AreFound, WhyNoneFound, rows_behind}
+use Rattle.csv_input.specs.Long.{WhyNoneTold}
+use Rattle.csv_input.specs.Rows.{AreRight, IsFirstWrong}
+use Rattle.csv_input.specs.declared.outcome.WrongRecord.{WrongRecord}
 
 -- how CSV is read: the text that spells its columns, if there is one, and whether its first record has their names
 pub record Form : Type 0 where

@@ -1,2 +1,5 @@
 pub mod Input
 pub mod Lines
+pub mod Rows
+pub mod Long
+pub mod inside

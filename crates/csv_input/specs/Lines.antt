@@ -4,9 +4,9 @@ use Rattle.std.specs.Fmt.{decimal}
 use Rattle.csv.specs.Writing.{default_writer, row_text}
 use Rattle.arrow_schema.specs.declared.schema.Field.{Field}
 use Rattle.csv_columns.specs.Spelled.{spelled}
-use Rattle.csv_table.specs.declared.outcome.Wrong.{Wrong}
-use Rattle.csv_table.specs.declared.outcome.Wrong.TheVariants.{Fields, Cell}
-use Rattle.csv_table.specs.declared.outcome.WrongRecord.{WrongRecord}
+use Rattle.csv_input.specs.declared.outcome.Wrong.{Wrong}
+use Rattle.csv_input.specs.declared.outcome.Wrong.TheVariants.{Fields, Cell}
+use Rattle.csv_input.specs.declared.outcome.WrongRecord.{WrongRecord}
 
 -- the text that spells the columns
 abbrev pub columns_line : List Field → List ℕ

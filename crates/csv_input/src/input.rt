@@ -2,12 +2,13 @@
 
 ghost use Rattle.std.specs.Prelude.{◌≡◌, IfErr, MatchResult, OnOk};
 ghost use Rattle.grpc_frame.specs.Ends.{CanFail};
-ghost use Rattle.csv_records.specs.Left.{records_in};
+ghost use Rattle.csv_columns.specs.Left.{records_in};
 ghost use Rattle.command_ends.specs.Printing.{Prints, said_of};
 ghost use Rattle.command_ends.specs.Whole.{source_of};
 ghost use Rattle.command_ends.specs.declared.exit_status.ExitStatus.TheVariants.{FaultAtThisEnd};
 ghost use Rattle.csv_input.specs.Input.{ChecksRows, IsTold, IsUntold, ReadsCsv, ReadsText, TellsWrong, form_of};
 
+use crate::WrongRecord;
 use crate::reading::{columns_of, wrong_record};
 use crate::saying::wrong_line;
 use crate::text::CsvText;
@@ -16,7 +17,6 @@ use bytes::Bytes;
 use command_ends::{ExitStatus, end_by_cause, end_by_fault, read_whole};
 use command_line::CsvForm;
 use csv_columns::columns_text;
-use csv_table::WrongRecord;
 use grpc_frame::{Input, Output};
 use scan_base::Fault;
 use std::alloc::{AllocError, Global};

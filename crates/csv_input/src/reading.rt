@@ -3,19 +3,17 @@
 ghost use Rattle.std.specs.Prelude.{◌≡◌, None, All, IfErr, IfOk};
 ghost use Rattle.arrow_schema.specs.Schema.{IsSchema};
 ghost use Rattle.arrow_schema.specs.Written.{encoding_of};
-ghost use Rattle.csv_records.specs.Left.{records_in};
-ghost use Rattle.csv_types.specs.Found.{rows_behind};
-ghost use Rattle.csv_table.specs.Long.{WhyNoneTold};
-ghost use Rattle.csv_table.specs.Rows.{FindsWrong};
+ghost use Rattle.csv_columns.specs.Left.{records_in};
+ghost use Rattle.csv_columns.specs.Found.{rows_behind};
+ghost use Rattle.csv_input.specs.Long.{WhyNoneTold};
+ghost use Rattle.csv_input.specs.Rows.{FindsWrong};
 ghost use Rattle.csv_input.specs.Input.{AreColumnsOf, WhyNoneOf, form_of};
 
+use crate::{WrongRecord, first_wrong};
 use arrow_schema::Schema;
 use command_line::CsvForm;
 use csv::ByteRecord;
-use csv_columns::columns_in;
-use csv_records::Records;
-use csv_table::{WrongRecord, first_wrong};
-use csv_types::found_columns;
+use csv_columns::{Records, columns_in, found_columns};
 use scan_base::Fault;
 use std::alloc::{AllocError, Global};
 

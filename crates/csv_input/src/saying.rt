@@ -4,8 +4,8 @@ ghost use Rattle.std.specs.Prelude.{◌≡◌, ◌<◌, ◌+◌, ◌++◌, ◌^�
 ghost use Rattle.std.specs.Fmt.{decimal};
 ghost use Rattle.csv_input.specs.Lines.{cell_words, head_rows, length_words, wrong_line};
 
+use crate::{Wrong, WrongRecord};
 use arrow_schema::Field;
-use csv_table::{Wrong, WrongRecord};
 use std::alloc::{AllocError, Global};
 
 // How many records stand before those that say rows.

@@ -1,14 +1,14 @@
 //! A text that was read, and its rows.
 
 ghost use Rattle.std.specs.Prelude.{◌≡◌, ◌<◌, ◌∷◌, [], IfErr, IfOk, IfSome, length};
-ghost use Rattle.csv_table.specs.Long.{WhyNoMessage};
-ghost use Rattle.csv_table.specs.Rows.{SaysRecords, TakesMessage};
+ghost use Rattle.csv_input.specs.Long.{WhyNoMessage};
+ghost use Rattle.csv_input.specs.Rows.{SaysRecords, TakesMessage};
 
 use crate::reading::records_behind;
+use crate::{next_message, schema_message};
 use arrow_schema::Schema;
 use bytes::Bytes;
-use csv_records::Records;
-use csv_table::{next_message, schema_message};
+use csv_columns::Records;
 use ipc_stream::IpcMessage;
 use scan_base::Fault;
 use std::alloc::{AllocError, Global};
@@ -26,9 +26,9 @@ impl Model for CsvText {
     ghost use Rattle.std.specs.Prelude.{◌≡◌, None, All};
     ghost use Rattle.arrow_schema.specs.Schema.{IsSchema};
     ghost use Rattle.arrow_schema.specs.Written.{encoding_of};
-    ghost use Rattle.csv_records.specs.Left.{records_in};
-    ghost use Rattle.csv_types.specs.Found.{rows_behind};
-    ghost use Rattle.csv_table.specs.Rows.{AreRight};
+    ghost use Rattle.csv_columns.specs.Left.{records_in};
+    ghost use Rattle.csv_columns.specs.Found.{rows_behind};
+    ghost use Rattle.csv_input.specs.Rows.{AreRight};
     ghost use Rattle.csv_input.specs.Input.{TextAt};
 
     ghost Value = { TextAt };
@@ -78,7 +78,7 @@ impl<'a> Model for CsvRows<'a> {
     ghost use Rattle.std.specs.Prelude.{◌≡◌, None, All};
     ghost use Rattle.arrow_schema.specs.Schema.{IsSchema};
     ghost use Rattle.arrow_schema.specs.Written.{encoding_of};
-    ghost use Rattle.csv_table.specs.Rows.{AreRight};
+    ghost use Rattle.csv_input.specs.Rows.{AreRight};
     ghost use Rattle.csv_input.specs.Input.{TextAt};
 
     ghost Value = { TextAt };

@@ -10,3 +10,7 @@ pub mod Parts
 pub mod Answered
 pub mod AnsweredSoFar
 mod Rows
+pub mod Dressing
+pub mod Lengths
+pub mod Sent
+pub mod Whole

@@ -3,3 +3,4 @@ pub mod Coding
 pub mod Table
 pub mod Packed
 pub mod Blocks
+pub mod Written

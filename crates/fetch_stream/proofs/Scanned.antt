@@ -16,7 +16,7 @@ use Rattle.arrays.specs.Column.{ColumnAt}
 use Rattle.arrays.specs.declared.layout.Layout.{Layout}
 use Rattle.arrays.specs.declared.layout.Layout.TheVariants as layout
 use Rattle.arrays.specs.Typed.{IsOfType, AreOf, AreOfTypes}
-use Rattle.dressed_batches.specs.Dress.{IsNumbered, AreNumbered, HoldsTexts, IsDressable, AreDressable}
+use Rattle.dictionary_answers.specs.Dress.{IsNumbered, AreNumbered, HoldsTexts, IsDressable, AreDressable}
 use Rattle.row_sources.specs.declared.turn.Patience.{Patience}
 use Rattle.row_sources.specs.declared.turn.Turn.{Turn}
 use Rattle.row_sources.specs.declared.turn.Turn.TheVariants.{Given, Working, End}

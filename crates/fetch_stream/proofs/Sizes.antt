@@ -21,7 +21,7 @@ use Rattle.arrays.specs.Firsts.{firsts}
 use Rattle.arrays.specs.Nulls.{null_count, valid_slots}
 use Rattle.arrays.specs.Number.{byte_width}
 use Rattle.array_buffers.specs.Written.{packed_bits, validity_written, values_written, written_by, buffers_written}
-use Rattle.dressed_batches.specs.Lengths.{with_zeros, texts_length, column_length, dressed_length}
+use Rattle.dictionary_answers.specs.Lengths.{with_zeros, texts_length, column_length, dressed_length}
 use Rattle.arrays.specs.Written.{elements, text_bytes, texts_joined, offsets_from}
 use Rattle.arrays.proofs.NullSlots.{length-valid_slots}
 use Rattle.flight_proto.specs.FlightData.{data_bytes, body_head, data_head}

@@ -37,9 +37,9 @@ use Rattle.ipc_batch.specs.Dressed.{Dressing, IsDressed, AreDressed}
 use Rattle.ipc_batch.proofs.Dressing.{dressed_say}
 use Rattle.ipc_batch.proofs.Lengths.{both}
 use Rattle.ipc_batch.proofs.Messages.{joined}
-use Rattle.dressed_batches.specs.declared.dressed.DressedBatch.{DressedBatch}
-use Rattle.dressed_batches.specs.Dress.{IsDressable, AreDressable, IsDressedBatch}
-use Rattle.dressed_batches.specs.Lengths.{bodies_length}
+use Rattle.dictionary_answers.specs.declared.dressed.DressedBatch.{DressedBatch}
+use Rattle.dictionary_answers.specs.Dress.{IsDressable, AreDressable, IsDressedBatch}
+use Rattle.dictionary_answers.specs.Lengths.{bodies_length}
 use Rattle.flight_info.specs.Payloads.{Payload, message_in, PayloadsSay}
 use Rattle.flight_info.proofs.Forms.{schema_plain}
 use Rattle.fetch_stream.specs.Fetches.{HasRow, IsBare, SayDressed}

@@ -14,7 +14,7 @@ use Rattle.table_versions.specs.Table.{Row, Table}
 use Rattle.table_versions.specs.Database.{Database}
 use Rattle.endpoint_split.specs.Handle.{HandleAt}
 use Rattle.flight_proto.specs.FlightData.{DataSaid, data_of}
-use Rattle.dressed_batches.specs.Lengths.{bodies_length}
+use Rattle.dictionary_answers.specs.Lengths.{bodies_length}
 use Rattle.flight_info.specs.Payloads.{Payload, message_in, FitMessages}
 use Rattle.fetch_stream.specs.Fetches.{HandleMeans, MeansNothing, SayDressed, FetchAt}
 

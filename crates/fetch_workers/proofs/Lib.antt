@@ -1,3 +1,6 @@
 pub mod Joining
 pub mod Kept
 pub mod Sent
+pub mod GroupsKept
+pub mod Merged
+pub mod Parting

@@ -1,1 +1,4 @@
 pub mod inside
+pub mod Merging
+pub mod Parts
+pub mod Shared

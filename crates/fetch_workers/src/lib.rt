@@ -3,10 +3,14 @@
 //! `Workers` is an executor: what is read over it is what is read over one worker.
 #![tactic(auto)]
 
+pub mod group_workers;
 pub mod grouped;
 mod joined;
+mod merging;
 mod part;
+mod parts;
 mod work;
 mod workers;
 
+pub use crate::group_workers::{GroupWorkers, StartsGroupWorkers};
 pub use crate::workers::Workers;

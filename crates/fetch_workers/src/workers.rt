@@ -63,7 +63,7 @@ pub trait StartsWorkers {
 }
 
 impl<R: Threads + Wait + Sync> StartsWorkers for R {
-    ghost use Rattle.group_workers.specs.Shared.{MayBeShared};
+    ghost use Rattle.fetch_workers.specs.Shared.{MayBeShared};
 
     ghost shared = { λ _. MayBeShared R.row };
 

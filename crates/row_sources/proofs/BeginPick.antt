@@ -20,7 +20,7 @@ use Rattle.typed_plan.specs.declared.plan.Columns.TheVariants as columns
 use Rattle.typed_plan.specs.Joined.{rows_between}
 use Rattle.typed_plan.specs.Plan.{taken, is_true}
 use Rattle.typed_plan.specs.Typed.{has_columns, type_at, types_taken}
-use Rattle.opened_batches.specs.Chosen.{are_within}
+use Rattle.batch_skipping.specs.Chosen.{are_within}
 use Rattle.row_sources.specs.Chosen.{numbers_at}
 use Rattle.row_sources.specs.Parts.{parts, numbered_rows}
 use Rattle.row_sources.specs.Picking.{PickAt, cells_at, passes, holds, given_numbered}

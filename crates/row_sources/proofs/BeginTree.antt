@@ -7,7 +7,7 @@ use Rattle.arrow_schema.specs.declared.data_type.DataType.TheVariants.{Utf8}
 use Rattle.scan_base.specs.declared.predicate.Predicate.{Predicate}
 use Rattle.scan_base.specs.View.{pred_of}
 use Rattle.row_sources.proofs.Cells.{within_at}
-use Rattle.opened_batches.specs.Chosen.{are_within}
+use Rattle.batch_skipping.specs.Chosen.{are_within}
 use Rattle.std.specs.List.{AllZip, filter, flat_map, range_with_len}
 use Rattle.std.proofs.lemmas.List.Elements.{All-push, length_all_zip}
 use Rattle.arrow_schema.specs.Answer.{LiesAs}
@@ -26,7 +26,7 @@ use Rattle.row_sources.specs.Begun.{IsBegun, tree_given}
 use Rattle.row_sources.specs.Chosen.{numbers_at}
 use Rattle.rewrite.specs.Places.{rows_over}
 use Rattle.row_sources.specs.Parts.{first_batches, further_rows, numbered_parts}
-use Rattle.opened_batches.specs.Opened.{batches_in}
+use Rattle.batch_skipping.specs.Opened.{batches_in}
 use Rattle.row_sources.specs.Picking.{IsPick, given_numbered}
 use Rattle.row_sources.specs.Placed.{Begins, rows_ahead}
 use Rattle.row_sources.specs.Running.{RowsAt, picked_of}

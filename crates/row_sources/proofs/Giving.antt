@@ -5,7 +5,7 @@ use Rattle.std.proofs.lemmas.Simd.{map-map}
 use Rattle.arrays.specs.Batch.{BatchAt, row_of, cut_batch}
 use Rattle.arrays.specs.Column.{ColumnAt}
 use Rattle.row_sources.specs.declared.part.Part.{Part}
-use Rattle.opened_batches.specs.Chosen.{columns_at}
+use Rattle.batch_skipping.specs.Chosen.{columns_at}
 use Rattle.row_sources.specs.Picking.{PickAt, IsPick, cells_at, holds, rows_of_part, chosen_rows}
 use Rattle.row_sources.specs.Picked.{given, HasRowsAt, IsPicked, given_of_part}
 use Rattle.row_sources.proofs.Selecting.{cuts_have, rows_there, all_typed}

@@ -11,10 +11,10 @@ use Rattle.table_versions.specs.Table.{Row}
 use Rattle.table_versions.proofs.Places.{split_at}
 use Rattle.table_versions.proofs.Rowing.{length-rows_of, rows-append, rows-cons}
 use Rattle.typed_plan.specs.Joined.{rows_between}
-use Rattle.opened_batches.specs.Chosen.{are_within}
+use Rattle.batch_skipping.specs.Chosen.{are_within}
 use Rattle.row_sources.specs.Parts.{numbered_parts, parts}
-use Rattle.opened_batches.specs.Narrow.{BeginsInFirst, batches_at, narrowed_from, narrowed_to}
-use Rattle.opened_batches.specs.Opened.{has_row_in, batches_in}
+use Rattle.batch_skipping.specs.Narrow.{BeginsInFirst, batches_at, narrowed_from, narrowed_to}
+use Rattle.batch_skipping.specs.Opened.{has_row_in, batches_in}
 use Rattle.row_sources.proofs.Narrowing.{at_many, filled_each, one_of, there_at}
 use Rattle.row_sources.proofs.Opening.{grows, in_all}
 

@@ -11,8 +11,8 @@ use Rattle.table_versions.specs.Kept.{IsKept, Stands}
 use Rattle.table_versions.proofs.Storable.{first_false, second_false}
 use Rattle.table_versions.specs.Stored.{TableAt, has_rows}
 use Rattle.table_versions.specs.Table.{Row, has_bad_null, is_long_text}
-use Rattle.opened_batches.specs.Chosen.{are_within}
-use Rattle.opened_batches.specs.Narrow.{CanNarrow, batches_at, narrowed}
+use Rattle.batch_skipping.specs.Chosen.{are_within}
+use Rattle.batch_skipping.specs.Narrow.{CanNarrow, batches_at, narrowed}
 
 -- what is there, at a place
 pub there_at : {X : Type 0} (xs : List X) (i : ℕ) → i < length xs → (x : X) × (slice_get xs i ≡ Some x)

@@ -12,8 +12,8 @@ use Rattle.table_versions.specs.Stored.{TableAt, table_of}
 use Rattle.table_versions.specs.Table.{Row}
 use Rattle.table_versions.proofs.Rowing.{length-rows_of, rows-cons}
 use Rattle.typed_plan.specs.Joined.{rows_between}
-use Rattle.opened_batches.specs.Narrow.{BeginsInFirst}
-use Rattle.opened_batches.specs.Opened.{has_row_in, batches_in}
+use Rattle.batch_skipping.specs.Narrow.{BeginsInFirst}
+use Rattle.batch_skipping.specs.Opened.{has_row_in, batches_in}
 use Rattle.row_sources.specs.declared.cursor.Cursor.{Cursor}
 use Rattle.row_sources.specs.Parts.{parts, numbered_parts, numbered_rows}
 use Rattle.row_sources.specs.Parting.{ComeInOrder, of_number, part_of}

@@ -11,7 +11,7 @@ use Rattle.table_versions.proofs.Rowing.{length-rows_of}
 use Rattle.typed_plan.specs.Typed.{types_of}
 use Rattle.row_sources.specs.declared.cursor.Cursor.{Cursor}
 use Rattle.row_sources.specs.declared.part.Part.{Part}
-use Rattle.opened_batches.specs.Opened.{batches_in}
+use Rattle.batch_skipping.specs.Opened.{batches_in}
 use Rattle.row_sources.specs.Picking.{PickAt, cells_at, holds, given_numbered}
 use Rattle.row_sources.specs.Picked.{given, given_of_part, IsPicked}
 use Rattle.row_sources.specs.Placed.{IsPlaced, IsPart, Opens, rows_ahead}

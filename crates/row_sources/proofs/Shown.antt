@@ -12,7 +12,7 @@ use Rattle.scan_base.specs.declared.value.Value.TheVariants.{Null}
 use Rattle.scan_base.specs.Predicate.{cell_in}
 use Rattle.table_versions.specs.Table.{Row}
 use Rattle.typed_plan.specs.Typed.{type_at, types_of}
-use Rattle.opened_batches.specs.Chosen.{are_within, listed, columns_at}
+use Rattle.batch_skipping.specs.Chosen.{are_within, listed, columns_at}
 
 -- an item of a list
 item_at : {X : Type 0} (xs : List X) (i : ℕ) → i < length xs → (x : X) × (slice_get xs i ≡ Some x)

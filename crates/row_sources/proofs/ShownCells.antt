@@ -12,7 +12,7 @@ use Rattle.typed_plan.specs.declared.plan.Columns.{Columns}
 use Rattle.typed_plan.specs.declared.plan.Columns.TheVariants as columns
 use Rattle.typed_plan.specs.Typed.{has_columns, type_at, types_taken}
 use Rattle.row_sources.specs.Showing.{shown_of, cells}
-use Rattle.opened_batches.specs.Chosen.{are_within}
+use Rattle.batch_skipping.specs.Chosen.{are_within}
 use Rattle.row_sources.specs.Chosen.{numbers_at}
 use Rattle.row_sources.specs.Picking.{PickAt, cells_at, holds}
 use Rattle.row_sources.specs.Running.{RowsAt, picked_of}

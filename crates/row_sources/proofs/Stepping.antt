@@ -13,8 +13,8 @@ use Rattle.typed_plan.specs.Joined.{rows_between}
 use Rattle.row_sources.specs.declared.cursor.Cursor.{Cursor}
 use Rattle.row_sources.specs.declared.part.Part.{Part}
 use Rattle.array_select.specs.Room.{most_batch_rows}
-use Rattle.opened_batches.specs.Narrow.{BeginsInFirst}
-use Rattle.opened_batches.specs.Opened.{batches_in}
+use Rattle.batch_skipping.specs.Narrow.{BeginsInFirst}
+use Rattle.batch_skipping.specs.Opened.{batches_in}
 use Rattle.row_sources.specs.Placed.{IsPlaced, IsPart, Opens}
 use Rattle.row_sources.proofs.Batched.{rows_next}
 use Rattle.row_sources.proofs.Opening.{in_all, in_few, none_in, opens_one, opens_last}

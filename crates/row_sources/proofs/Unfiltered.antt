@@ -14,7 +14,7 @@ use Rattle.row_sources.specs.declared.build.Sourced.{Sourced}
 use Rattle.row_sources.specs.Sourced.{IsSourced, source_of, sourced_at, unfiltered}
 use Rattle.row_sources.specs.Unfiltered.{IsUnfiltered}
 use Rattle.row_sources.specs.declared.row_source.UnfilteredRows.{UnfilteredRows}
-use Rattle.opened_batches.specs.Chosen.{are_within}
+use Rattle.batch_skipping.specs.Chosen.{are_within}
 use Rattle.row_sources.specs.Collected.{plain_rows}
 use Rattle.row_sources.specs.Joined.{source_at}
 use Rattle.row_sources.specs.Picking.{PickAt, IsPick, cells_at, given_numbered, holds, passes, pick_of}

@@ -8,7 +8,7 @@ use Rattle.typed_plan.specs.Plan.{Tree}
 use Rattle.typed_plan.specs.Typed.{tree_types}
 use Rattle.rewrite.specs.Places.{rows_over}
 use Rattle.row_sources.specs.Parts.{first_batches, further_rows, numbered_parts, numbered_rows}
-use Rattle.opened_batches.specs.Opened.{batches_in}
+use Rattle.batch_skipping.specs.Opened.{batches_in}
 use Rattle.row_sources.specs.Running.{RowsAt}
 
 -- the rows that a tree gives of rows `from` up to, not with, `to` of its first place, each with the number of its batch

@@ -3,7 +3,7 @@ use Rattle.std.specs.Prelude.{ℕ, List, map, slice_index}
 use Rattle.arrays.specs.Batch.{BatchAt}
 use Rattle.typed_plan.specs.declared.plan.Columns.{Columns}
 use Rattle.typed_plan.specs.declared.plan.Columns.TheVariants.{All, These}
-use Rattle.opened_batches.specs.Chosen.{columns_at}
+use Rattle.batch_skipping.specs.Chosen.{columns_at}
 
 -- what stands at these places of a list of numbers
 abbrev pub numbers_at : Columns → List ℕ → List ℕ

@@ -1,8 +1,8 @@
 -- The tables of all places, as they are read.
 use Rattle.std.specs.Prelude.{ℕ, List, [], ◌∷◌}
 use Rattle.table_versions.specs.Stored.{TableAt}
-use Rattle.opened_batches.specs.declared.opened.OpenedList.{OpenedList}
-use Rattle.opened_batches.specs.Narrow.{CanNarrow, narrowed}
+use Rattle.batch_skipping.specs.declared.opened.OpenedList.{OpenedList}
+use Rattle.batch_skipping.specs.Narrow.{CanNarrow, narrowed}
 
 -- tables with these batches alone, place by place
 abbrev pub narrow_all : List (List ℕ) → List TableAt → List TableAt

@@ -9,7 +9,7 @@ use Rattle.arrays.specs.Typed.{AreOf, IsOfType}
 use Rattle.table_versions.specs.Table.{Row}
 use Rattle.typed_plan.specs.Typed.{type_at}
 use Rattle.row_sources.specs.declared.part.Part.{Part}
-use Rattle.opened_batches.specs.Chosen.{are_within, columns_at}
+use Rattle.batch_skipping.specs.Chosen.{are_within, columns_at}
 use Rattle.row_sources.specs.Picking.{PickAt, cells_at, holds}
 
 -- what is given of rows of the source

@@ -8,7 +8,7 @@ use Rattle.table_versions.specs.Table.{Row}
 use Rattle.typed_plan.specs.Plan.{is_true}
 use Rattle.row_sources.specs.declared.part.Part.{Part}
 use Rattle.row_sources.specs.declared.picker.Picker.{Picker}
-use Rattle.opened_batches.specs.Chosen.{are_within}
+use Rattle.batch_skipping.specs.Chosen.{are_within}
 
 -- the filters, the numbers of the columns that they see, and of those that are given
 pub record PickAt : Type 0 where

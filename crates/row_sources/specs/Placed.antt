@@ -11,7 +11,7 @@ use Rattle.typed_plan.specs.Typed.{types_of}
 use Rattle.row_sources.specs.declared.cursor.Cursor.{Cursor}
 use Rattle.row_sources.specs.declared.part.Part.{Part}
 use Rattle.row_sources.specs.Parts.{numbered_parts, numbered_rows}
-use Rattle.opened_batches.specs.Opened.{batches_in}
+use Rattle.batch_skipping.specs.Opened.{batches_in}
 use Rattle.array_select.specs.Room.{most_batch_rows}
 
 -- Where a cursor stands: between the range's ends, in its batch or at its begin, behind the batches that were opened. Each

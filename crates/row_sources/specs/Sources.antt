@@ -2,7 +2,7 @@
 use Rattle.std.specs.Prelude.{◌-◌}
 use Rattle.typed_plan.specs.Typed.{types_of}
 use Rattle.row_sources.specs.declared.place.PlaceRows.{PlaceRows}
-use Rattle.opened_batches.specs.Opened.{batches_in}
+use Rattle.batch_skipping.specs.Opened.{batches_in}
 use Rattle.row_sources.specs.Placed.{rows_ahead}
 use Rattle.row_sources.specs.Running.{RowsAt}
 

@@ -11,8 +11,8 @@ ghost use Rattle.row_sources.specs.Begun.{IsBegun};
 ghost use Rattle.row_sources.specs.Sourced.{IsSourced, sourced_at};
 ghost use Rattle.row_sources.specs.Parts.{first_batches};
 ghost use Rattle.row_sources.specs.Joined.{source_at};
-ghost use Rattle.opened_batches.specs.Narrow.{BeginsInFirst};
-ghost use Rattle.opened_batches.specs.Opened.{batches_in};
+ghost use Rattle.batch_skipping.specs.Narrow.{BeginsInFirst};
+ghost use Rattle.batch_skipping.specs.Opened.{batches_in};
 
 use crate::join_source::{Sides, join_source};
 use crate::opened_table::OpenedTable;

@@ -3,7 +3,7 @@
 ghost use Rattle.std.specs.Prelude.{◌≡◌, ◌≤◌, ◌<◌, All, IfOk, IsTrue, length};
 ghost use Rattle.std.specs.List.{range_with_len};
 ghost use Rattle.typed_plan.specs.Typed.{has_columns};
-ghost use Rattle.opened_batches.specs.Chosen.{are_within};
+ghost use Rattle.batch_skipping.specs.Chosen.{are_within};
 ghost use Rattle.row_sources.specs.Chosen.{numbers_at};
 ghost use Rattle.row_sources.specs.Picking.{rows_of_part};
 ghost use Rattle.row_sources.specs.Picked.{HasRowsAt};

@@ -3,8 +3,8 @@
 ghost use Rattle.std.specs.Prelude.{◌≡◌, ◌≤◌, ◌<◌, length};
 ghost use Rattle.std.specs.List.{range_with_len};
 ghost use Rattle.table_versions.specs.Stored.{table_of};
-ghost use Rattle.opened_batches.specs.Narrow.{BeginsInFirst};
-ghost use Rattle.opened_batches.specs.Opened.{batches_in};
+ghost use Rattle.batch_skipping.specs.Narrow.{BeginsInFirst};
+ghost use Rattle.batch_skipping.specs.Opened.{batches_in};
 ghost use Rattle.row_sources.specs.Placed.{IsPlaced, IsPart, IsNextPart, Begins, Opens};
 
 use crate::opened_table::OpenedTable;

@@ -5,12 +5,12 @@ ghost use Rattle.std.specs.Option.{option_to_list};
 ghost use Rattle.arrays.specs.Typed.{AreOfTypes};
 ghost use Rattle.table_versions.specs.Kept.{IsKept};
 ghost use Rattle.table_versions.specs.Stored.{table_of};
-ghost use Rattle.opened_batches.specs.Narrow.{CanNarrow, narrowed};
+ghost use Rattle.batch_skipping.specs.Narrow.{CanNarrow, narrowed};
 ghost use Rattle.row_sources.specs.OpenedTables.{CanAll, narrow_all};
 
 use arrays::Batch;
 use arrow_schema::Schema;
-use opened_batches::OpenedList;
+use batch_skipping::OpenedList;
 use std::alloc::{AllocError, Global};
 use std::marker::Model;
 use table_versions::TableVersion;
@@ -35,7 +35,7 @@ impl Drop for OpenedTable {
 
 impl Model for OpenedTable {
     ghost use Rattle.table_versions.specs.Stored.{TableAt};
-    ghost use Rattle.opened_batches.specs.Narrow.{CanNarrow, narrowed};
+    ghost use Rattle.batch_skipping.specs.Narrow.{CanNarrow, narrowed};
 
     ghost Value = { TableAt };
 

@@ -2,7 +2,7 @@
 
 ghost use Rattle.std.specs.Prelude.{◌≡◌, IfOk, IsTrue, length};
 ghost use Rattle.typed_plan.specs.Typed.{has_columns};
-ghost use Rattle.opened_batches.specs.Chosen.{are_within};
+ghost use Rattle.batch_skipping.specs.Chosen.{are_within};
 ghost use Rattle.row_sources.specs.Joined.{IsSource, source_at};
 ghost use Rattle.row_sources.specs.Showing.{shown_of};
 ghost use Rattle.row_sources.specs.Sourced.{IsSourced, source_of, sourced_at, unfiltered};

@@ -8,10 +8,10 @@ ghost use Rattle.typed_plan.specs.Plan.{scan};
 ghost use Rattle.typed_plan.specs.Typed.{has_columns, type_at, types_of};
 ghost use Rattle.row_sources.specs.Begun.{IsBegun};
 ghost use Rattle.row_sources.specs.Sourced.{IsSourced, sourced_at};
-ghost use Rattle.opened_batches.specs.Chosen.{are_within};
+ghost use Rattle.batch_skipping.specs.Chosen.{are_within};
 ghost use Rattle.row_sources.specs.Joined.{source_at};
-ghost use Rattle.opened_batches.specs.Narrow.{BeginsInFirst};
-ghost use Rattle.opened_batches.specs.Opened.{batches_in};
+ghost use Rattle.batch_skipping.specs.Narrow.{BeginsInFirst};
+ghost use Rattle.batch_skipping.specs.Opened.{batches_in};
 
 use crate::build::Sourced;
 use crate::columns::{numbers_below, picked};

@@ -6,7 +6,7 @@ use Rattle.scan_base.specs.declared.fault.Fault.TheVariants.{LimitReached, OutOf
 use Rattle.arrow_schema.specs.declared.schema.Schema.{Schema}
 use Rattle.arrays.specs.Batch.{BatchAt, cut_batch}
 use Rattle.grpc_frame.specs.Ends.{CountsFailure, FailsByTransport}
-use Rattle.dressed_batches.specs.Lengths.{dressed_length}
+use Rattle.dictionary_answers.specs.Lengths.{dressed_length}
 use Rattle.row_stream.specs.Stream.{CountsTransport, CountsWrites, HasShortRows, IsCause, WritesCounted}
 use Rattle.row_stream.specs.inside.Cuts.{IsUncut}
 

@@ -15,9 +15,9 @@ use Rattle.ipc_batch.specs.Dressed.{cells_in, coded_from, SaysWhole, AddsRows, D
 use Rattle.ipc_batch.specs.Said.{Sent, Rows}
 use Rattle.ipc_batch.specs.Seen.{written_seen}
 use Rattle.ipc_batch.specs.Written.{most_header_bytes}
-use Rattle.dressed_batches.specs.declared.dressed.DressedBatch.{DressedBatch}
-use Rattle.dressed_batches.specs.Dress.{ClaimsAll, IsDressedBatch}
-use Rattle.dressed_batches.specs.Lengths.{bodies_length}
+use Rattle.dictionary_answers.specs.declared.dressed.DressedBatch.{DressedBatch}
+use Rattle.dictionary_answers.specs.Dress.{ClaimsAll, IsDressedBatch}
+use Rattle.dictionary_answers.specs.Lengths.{bodies_length}
 use Rattle.ipc_stream.specs.declared.message.IpcMessage.{IpcMessage}
 use Rattle.ipc_stream.specs.Stream.{frame, IsMessage}
 use Rattle.row_stream.specs.Stream.{sent_in, most_body_bytes, AreDressedBehind, HasShortBody}

@@ -16,7 +16,7 @@ use Rattle.arrays.specs.declared.layout.Layout.{Layout}
 use Rattle.arrays.specs.declared.layout.Layout.TheVariants as layout
 use Rattle.arrays.specs.Column.{ColumnAt}
 use Rattle.arrays.specs.Typed.{IsOfType, AreOfTypes}
-use Rattle.dressed_batches.specs.Dress.{HoldsTexts, IsDressable, AreDressable, IsNumbered, AreNumbered}
+use Rattle.dictionary_answers.specs.Dress.{HoldsTexts, IsDressable, AreDressable, IsNumbered, AreNumbered}
 use Rattle.row_stream.specs.Stream.{numbered_from, numbered_schema}
 
 -- one column more

@@ -10,7 +10,7 @@ use Rattle.arrow_schema.specs.Answer.{answered_field}
 use Rattle.arrays.specs.Batch.{BatchAt, cut_batch}
 use Rattle.ipc_batch.specs.Said.{Sent, Rows, Says}
 use Rattle.ipc_batch.specs.Dressed.{SaysWhole, AddsRows, AreDressed}
-use Rattle.dressed_batches.specs.Lengths.{dressed_length}
+use Rattle.dictionary_answers.specs.Lengths.{dressed_length}
 use Rattle.ipc_stream.specs.declared.message.IpcMessage.{IpcMessage}
 use Rattle.ipc_stream.specs.Stream.{announced, Framed, IsStream, end_marker}
 use Rattle.grpc_frame.specs.Ends.{AppendsBeginning}

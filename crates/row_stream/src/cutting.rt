@@ -3,7 +3,7 @@
 ghost use Rattle.std.specs.Prelude.{◌≡◌, ◌≤◌, ◌<◌, ◌+◌, ◌^◌, IfNone, IfOk, IfSome, MatchResult};
 ghost use Rattle.arrays.specs.Batch.{cut_batch};
 ghost use Rattle.arrays.specs.Typed.{AreOfTypes};
-ghost use Rattle.dressed_batches.specs.Lengths.{dressed_length};
+ghost use Rattle.dictionary_answers.specs.Lengths.{dressed_length};
 ghost use Rattle.row_stream.specs.inside.Cuts.{IsCut, IsUncut};
 
 use crate::dresser::Dresser;

@@ -22,7 +22,7 @@ pub(crate) struct Dresser {
 impl Model for Dresser {
     ghost use Rattle.arrow_schema.specs.declared.schema.Schema.{Schema};
     ghost use Rattle.arrow_schema.specs.Schema.{IsSchema};
-    ghost use Rattle.dressed_batches.specs.Dress.{AreNumbered};
+    ghost use Rattle.dictionary_answers.specs.Dress.{AreNumbered};
 
     ghost Value = { Schema };
 

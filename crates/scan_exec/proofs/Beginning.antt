@@ -28,7 +28,7 @@ use Rattle.row_sources.specs.Showing.{cells}
 use Rattle.scan_exec.specs.Given.{given_of}
 use Rattle.row_sources.specs.Parts.{first_batches, further_rows, numbered_parts}
 use Rattle.rewrite.specs.Places.{rows_over}
-use Rattle.opened_batches.specs.Opened.{batches_in, first_numbers, first_opened, further_numbers, further_opened, scans_of, where_parts}
+use Rattle.batch_skipping.specs.Opened.{batches_in, first_numbers, first_opened, further_numbers, further_opened, scans_of, where_parts}
 use Rattle.scan_exec.specs.Morsels.{of_first}
 use Rattle.row_sources.specs.Running.{RowsAt}
 use Rattle.scan_exec.specs.Scan.{IsBeginning}

@@ -27,8 +27,8 @@ use Rattle.typed_plan.specs.Typed.{has_columns, type_at, types_of}
 use Rattle.typed_plan.proofs.Numbered.{truth_of-map}
 use Rattle.rewrite.specs.Conjuncts.{all_true, is_between}
 use Rattle.rewrite.specs.Pushed.{moved}
-use Rattle.opened_batches.specs.Chosen.{are_within, columns_at, listed}
-use Rattle.opened_batches.specs.Opened.{batch_can, can_hold, given_columns, given_width}
+use Rattle.batch_skipping.specs.Chosen.{are_within, columns_at, listed}
+use Rattle.batch_skipping.specs.Opened.{batch_can, can_hold, given_columns, given_width}
 use Rattle.row_sources.proofs.Narrowing.{there_at, one_of}
 use Rattle.scan_exec.proofs.NarrowGiven.{through}
 use Rattle.scan_exec.proofs.NarrowLaw.{Holds}

@@ -15,10 +15,10 @@ use Rattle.typed_plan.specs.declared.plan.Columns.TheVariants as columns
 use Rattle.typed_plan.specs.Joined.{rows_between}
 use Rattle.typed_plan.specs.Plan.{taken}
 use Rattle.rewrite.specs.Conjuncts.{all_true}
-use Rattle.opened_batches.specs.Chosen.{are_within}
+use Rattle.batch_skipping.specs.Chosen.{are_within}
 use Rattle.row_sources.specs.Parts.{numbered_parts, parts}
-use Rattle.opened_batches.specs.Narrow.{batches_at, narrowed, narrowed_from, narrowed_to}
-use Rattle.opened_batches.specs.Opened.{has_row_in}
+use Rattle.batch_skipping.specs.Narrow.{batches_at, narrowed, narrowed_from, narrowed_to}
+use Rattle.batch_skipping.specs.Opened.{has_row_in}
 use Rattle.table_versions.proofs.Rowing.{length-rows_of, rows-cons}
 use Rattle.row_sources.proofs.Batched.{none_behind, none_between as no_rows}
 use Rattle.row_sources.proofs.Narrowing.{there_at}

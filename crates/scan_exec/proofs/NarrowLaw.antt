@@ -27,10 +27,10 @@ use Rattle.rewrite.specs.Places.{rows_over}
 use Rattle.scan_exec.specs.Answering.{number_in, renumbered}
 use Rattle.row_sources.specs.Parts.{first_batches, further_rows, numbered_parts}
 use Rattle.scan_exec.specs.Given.{given_of}
-use Rattle.opened_batches.specs.Narrow.{BeginsInFirst, batches_at, narrowed, narrowed_from, narrowed_to}
+use Rattle.batch_skipping.specs.Narrow.{BeginsInFirst, batches_at, narrowed, narrowed_from, narrowed_to}
 use Rattle.row_sources.specs.OpenedTables.{narrow_all}
 use Rattle.rewrite.specs.Same.{StandsFor}
-use Rattle.opened_batches.specs.Opened.{batch_can, batches_in, given_width, has_row_in, numbers_behind, place_opened, scans_of, where_parts}
+use Rattle.batch_skipping.specs.Opened.{batch_can, batches_in, given_width, has_row_in, numbers_behind, place_opened, scans_of, where_parts}
 use Rattle.scan_exec.proofs.NarrowGiven.{all_same, none_in, range_same, through}
 use Rattle.row_sources.proofs.BeginTree.{fields_wide}
 use Rattle.row_sources.proofs.Narrowing.{all_at, at_many, filled_each, one_of, there_at}

@@ -13,13 +13,13 @@ use Rattle.typed_plan.specs.Plan.{Tree, scan, filtered, joined}
 use Rattle.typed_plan.specs.Typed.{IsTypedTree, has_columns}
 use Rattle.typed_plan.specs.View.{BoundAt, tree_of}
 use Rattle.rewrite.specs.Laws.{SkippingKeepsRows}
-use Rattle.opened_batches.specs.declared.opened.OpenedList.{OpenedList}
+use Rattle.batch_skipping.specs.declared.opened.OpenedList.{OpenedList}
 use Rattle.scan_exec.specs.Answering.{renumbered}
 use Rattle.row_sources.specs.Parts.{first_batches}
 use Rattle.scan_exec.specs.Given.{given_of}
-use Rattle.opened_batches.specs.Listed.{AreLists, AreWhole}
-use Rattle.opened_batches.specs.Narrow.{BeginsInFirst, batches_at, narrowed_from, narrowed_to}
-use Rattle.opened_batches.specs.Opened.{batches_in, first_numbers, given_width, first_opened, further_numbers, numbers_behind, opened_numbers, place_opened, scans_of, where_parts}
+use Rattle.batch_skipping.specs.Listed.{AreLists, AreWhole}
+use Rattle.batch_skipping.specs.Narrow.{BeginsInFirst, batches_at, narrowed_from, narrowed_to}
+use Rattle.batch_skipping.specs.Opened.{batches_in, first_numbers, given_width, first_opened, further_numbers, numbers_behind, opened_numbers, place_opened, scans_of, where_parts}
 use Rattle.row_sources.specs.OpenedTables.{CanAll, narrow_all}
 use Rattle.rewrite.specs.Same.{StandsFor}
 use Rattle.scan_exec.proofs.NarrowLaw.{Fit, Holds, batches_law, begins_law, each_law, given_law, narrow_bound, schemas_of}

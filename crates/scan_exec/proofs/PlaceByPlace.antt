@@ -12,7 +12,7 @@ use Rattle.typed_plan.specs.Plan.{Tree, scan, filtered, joined, taken}
 use Rattle.typed_plan.specs.Typed.{is_place, tree_types, types_of, types_taken, type_at}
 use Rattle.rewrite.specs.Conjuncts.{all_true}
 use Rattle.rewrite.specs.Places.{first_rows, tree_width}
-use Rattle.opened_batches.specs.Opened.{given_width, scans_of}
+use Rattle.batch_skipping.specs.Opened.{given_width, scans_of}
 use Rattle.scan_exec.proofs.Through.{IsDeep, PlacesSame, first_need, need_behind, place_columns}
 use Rattle.scan_exec.proofs.Wide.{drop_one}
 

@@ -22,7 +22,7 @@ use Rattle.typed_plan.specs.declared.plan.Output.TheVariants.{Groups}
 use Rattle.typed_plan.specs.Plan.{answered, groups_by}
 use Rattle.typed_plan.specs.Grouped.{Group}
 use Rattle.typed_plan.specs.Typed.{item_type, type_at}
-use Rattle.opened_batches.specs.Chosen.{are_within}
+use Rattle.batch_skipping.specs.Chosen.{are_within}
 use Rattle.row_sources.specs.declared.part.Part.{Part}
 use Rattle.row_sources.specs.declared.picker.Picker.{Picker}
 use Rattle.row_sources.specs.Picked.{Picks, given_of_part}

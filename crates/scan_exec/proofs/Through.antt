@@ -15,7 +15,7 @@ use Rattle.rewrite.specs.Conjuncts.{all_true, conjuncts, is_between}
 use Rattle.rewrite.specs.Laws.{SameThrough}
 use Rattle.rewrite.specs.Places.{first_rows, tree_width}
 use Rattle.rewrite.specs.Pushed.{is_behind, is_left, moved}
-use Rattle.opened_batches.specs.Opened.{where_parts}
+use Rattle.batch_skipping.specs.Opened.{where_parts}
 
 -- ---- tests that more columns pass
 

@@ -3,7 +3,7 @@ use Rattle.std.specs.Prelude.{◌≡◌, ℕ, Bool, true, List, length, map, get
 use Rattle.std.specs.List.{list_all}
 use Rattle.typed_plan.specs.declared.plan.Aggregate.{Aggregate}
 use Rattle.typed_plan.specs.declared.plan.Aggregate.TheVariants.{Key}
-use Rattle.opened_batches.specs.Chosen.{are_within}
+use Rattle.batch_skipping.specs.Chosen.{are_within}
 
 -- the item at a place
 abbrev pub item_at : List Aggregate → ℕ → Aggregate

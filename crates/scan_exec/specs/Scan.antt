@@ -17,7 +17,7 @@ use Rattle.row_sources.specs.declared.turn.Turn.{Turn}
 use Rattle.row_sources.specs.declared.turn.Turn.TheVariants.{Given, Working, End}
 use Rattle.typed_plan.specs.View.{BoundAt}
 use Rattle.scan_exec.specs.Given.{given_of}
-use Rattle.opened_batches.specs.Opened.{further_opened, first_opened}
+use Rattle.batch_skipping.specs.Opened.{further_opened, first_opened}
 
 -- The columns of the result; the types of the columns of its batches; the rows that are still to be given, each with the
 -- number of the batch of the first place of which it comes, if it is one; the batches that are to be opened, each by its

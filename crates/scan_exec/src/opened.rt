@@ -1,9 +1,9 @@
 //! The batches that a scan opens, each by the number of its place and its own.
 
 ghost use Rattle.std.specs.Prelude.{◌≡◌, ◌++◌, IfOk, OnOk, drop, map};
-ghost use Rattle.opened_batches.specs.Opened.{numbered_batches};
+ghost use Rattle.batch_skipping.specs.Opened.{numbered_batches};
 
-use opened_batches::OpenedList;
+use batch_skipping::OpenedList;
 use std::alloc::{AllocError, Global};
 
 // The batches of the further places, place by place, each by the number of its place and its own.

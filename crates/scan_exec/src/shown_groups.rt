@@ -1,7 +1,7 @@
 //! Groups of which each different item is made once.
 
 ghost use Rattle.std.specs.Prelude.{◌≡◌, IsTrue, length, OnOk};
-ghost use Rattle.opened_batches.specs.Chosen.{are_within};
+ghost use Rattle.batch_skipping.specs.Chosen.{are_within};
 ghost use Rattle.scan_exec.specs.Giving.{GivesNext, MakesReady};
 ghost use Rattle.scan_exec.specs.ShownGroups.{with_cells};
 

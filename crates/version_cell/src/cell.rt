@@ -8,7 +8,7 @@ ghost use Rattle.version_cell.specs.Counts.{Counted};
 ghost use Rattle.version_cell.specs.Seats.{seat, IsNumbered};
 ghost use Rattle.version_cell.specs.Shares.{cutter_at};
 ghost use Rattle.version_cell.specs.Signed.{log_of};
-ghost use Rattle.version_index.specs.Versions.{IsIndexOf};
+ghost use Rattle.version_log.specs.Versions.{IsIndexOf};
 
 use crate::book::{CellName, History, Opened};
 use crate::maker::Maker;
@@ -22,7 +22,7 @@ use scan_base::Fault;
 use std::alloc::{AllocError, Global};
 use std::marker::Model;
 use std::sync::{Arc, Wait};
-use version_index::VersionIndex;
+use version_log::VersionIndex;
 
 /// A cell of version 0 alone, which has no name yet. Contracts see it as the book of its log, the ledgers of its entries, of its asks
 /// and of the numbers of its seats, and how many seats it will have.
@@ -38,7 +38,7 @@ impl Model for Blank {
     ghost use Rattle.std.specs.Prelude.{◌≡◌, ◌≤◌, ◌<◌, []};
     ghost use Rattle.std.specs.Arc.{arc_value};
     ghost use Rattle.version_cell.specs.Blanks.{BlankAt, most_seats};
-    ghost use Rattle.version_index.specs.Versions.{IsIndexOf};
+    ghost use Rattle.version_log.specs.Versions.{IsIndexOf};
 
     ghost Value = { BlankAt };
 

@@ -11,7 +11,7 @@ ghost use Rattle.table_versions.specs.Valid.{IsPut};
 ghost use Rattle.version_cell.specs.Puts.{after_log, IsAnswered};
 ghost use Rattle.version_cell.specs.Rules.{head_of, Accepts};
 ghost use Rattle.version_cell.specs.Signed.{log_of, signed};
-ghost use Rattle.version_index.specs.Versions.{IsIndexOf};
+ghost use Rattle.version_log.specs.Versions.{IsIndexOf};
 
 use crate::book::{CellName, Head, History};
 use crate::shown::{Entered, Publishes, Shown, Store};
@@ -24,8 +24,7 @@ use std::marker::{Model, PhantomData};
 use std::sync::{Arc, Wait};
 use std::{snapshot, thread};
 use table_versions::Put;
-use version_index::VersionIndex;
-use version_log::Entry;
+use version_log::{Entry, VersionIndex};
 
 pub(crate) type CellWriter<C> = Writer<Store, Store, Entered, Shown<C>>;
 

@@ -11,7 +11,7 @@ ghost use Rattle.table_versions.specs.Stored.{put_of, tables_of};
 ghost use Rattle.table_versions.specs.Valid.{IsPut};
 ghost use Rattle.version_cell.specs.Puts.{after_log};
 ghost use Rattle.version_cell.specs.Signed.{log_of};
-ghost use Rattle.version_index.specs.Versions.{IsIndexOf};
+ghost use Rattle.version_log.specs.Versions.{IsIndexOf};
 
 use crate::book::{CellName, History, Law};
 use crate::signed::Signed;
@@ -24,7 +24,7 @@ use std::collections::LinkedList;
 use std::marker::PhantomData;
 use std::sync::Arc;
 use table_versions::{Put, Snapshot, apply};
-use version_index::VersionIndex;
+use version_log::VersionIndex;
 
 // All versions of a log, but for those that are expired.
 #[derive(Drop)]

@@ -1,1 +1,3 @@
 pub mod Logs
+pub mod Dropping
+pub mod Versions

@@ -1,3 +1,5 @@
 pub mod Log
 pub mod Expiry
 pub mod Entries
+pub mod Index
+pub mod Versions

@@ -1,7 +1,7 @@
 -- Inside: the rows of a text that were sent so far.
 use Rattle.std.specs.Prelude.{ℕ, List, ◌∷◌}
 use Rattle.ipc_stream.specs.declared.message.IpcMessage.{IpcMessage}
-use Rattle.csv_table.specs.Rows.{SaysRecords}
+use Rattle.csv_input.specs.Rows.{SaysRecords}
 use Rattle.csv_input.specs.Input.{TextAt}
 use Rattle.client_calls.specs.declared.putting.Target.{Target}
 use Rattle.client_calls.specs.Commands.{put_payloads}

@@ -6,7 +6,7 @@ use Rattle.arrow_schema.specs.Answer.{LieBehind}
 use Rattle.arrow_schema.specs.Schema.{IsSchema}
 use Rattle.arrays.specs.Batch.{BatchAt, rows_of, cut_batch}
 use Rattle.arrays.specs.Column.{ColumnAt}
-use Rattle.dressed_batches.specs.Dress.{AreDressable, AreNumbered}
+use Rattle.dictionary_answers.specs.Dress.{AreDressable, AreNumbered}
 use Rattle.scan_exec.specs.Scan.{left}
 use Rattle.scan_base.specs.declared.fault.Fault.{Fault}
 use Rattle.scan_base.specs.Limits.{most_answer_rows}

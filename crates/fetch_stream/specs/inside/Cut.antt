@@ -2,7 +2,7 @@
 use Rattle.std.specs.Prelude.{◌≡◌, ◌≤◌, ◌<◌, ◌⊎◌, ℕ, ◌+◌, ◌*◌, ◌-◌, min}
 use Rattle.arrow_schema.specs.declared.schema.Schema.{Schema}
 use Rattle.arrays.specs.Batch.{cut_batch, rows_of}
-use Rattle.dressed_batches.specs.Lengths.{dressed_length}
+use Rattle.dictionary_answers.specs.Lengths.{dressed_length}
 use Rattle.flight_info.specs.Payloads.{FitMessages}
 use Rattle.fetch_stream.specs.Streams.{Parcel, most_message_rows, most_body_bytes}
 use Rattle.fetch_stream.specs.declared.cutter.Cutter.{Cutter}

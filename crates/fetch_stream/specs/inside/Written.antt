@@ -7,7 +7,7 @@ use Rattle.flight_proto.specs.FlightData.{DataSaid, data_of}
 use Rattle.ipc_batch.specs.Said.{Sent, Rows, news_of}
 use Rattle.ipc_batch.specs.Written.{body_length, most_header_bytes, SaysBatch}
 use Rattle.ipc_batch.specs.Dressed.{IsDressed}
-use Rattle.dressed_batches.specs.Lengths.{bodies_length}
+use Rattle.dictionary_answers.specs.Lengths.{bodies_length}
 use Rattle.flight_info.specs.Forms.{IsPlain}
 use Rattle.flight_info.specs.Payloads.{Payload, message_in}
 use Rattle.fetch_stream.specs.Fetches.{IsBare}

@@ -6,7 +6,7 @@ use Rattle.arrow_schema.specs.declared.schema.Schema.{Schema}
 use Rattle.arrays.specs.Batch.{BatchAt, cut_batch, rows_of}
 use Rattle.ipc_batch.specs.Dressed.{IsDressed}
 use Rattle.ipc_batch.specs.Written.{SaysBatch}
-use Rattle.dressed_batches.specs.Lengths.{bodies_length}
+use Rattle.dictionary_answers.specs.Lengths.{bodies_length}
 use Rattle.ipc_stream.specs.declared.message.IpcMessage.{IpcMessage}
 use Rattle.ipc_stream.specs.Stream.{IsMessage}
 use Rattle.row_stream.specs.Stream.{sent_in, HasShortBody, HasShortRows}

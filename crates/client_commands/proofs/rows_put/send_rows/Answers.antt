@@ -3,8 +3,8 @@ use Rattle.std.proofs.lemmas.Result.{err_from_is_err_and}
 use Rattle.arrow_schema.specs.declared.schema.Schema.{Schema}
 use Rattle.scan_base.specs.declared.fault.Fault.TheVariants.{OutOfMemory}
 use Rattle.csv_input.specs.Input.{TextAt}
-use Rattle.csv_table.specs.Long.{WhyNoMessage}
-use Rattle.csv_table.specs.Rows.{IsNext}
+use Rattle.csv_input.specs.Long.{WhyNoMessage}
+use Rattle.csv_input.specs.Rows.{IsNext}
 use Rattle.client_commands.proofs.RowsSent.{all_sent, batch_sent, batch_splits, batch_unmade, batch_unsent}
 use Rattle.client_commands.proofs.rows_put.send_rows.Goals as goal
 

@@ -1,7 +1,7 @@
 use Rattle.std.proofs.Common.{inl}
-use Rattle.csv_records.specs.Left.{records_in}
-use Rattle.csv_types.specs.Found.{rows_behind}
-use Rattle.csv_table.specs.Rows.{IsFirstWrong}
+use Rattle.csv_columns.specs.Left.{records_in}
+use Rattle.csv_columns.specs.Found.{rows_behind}
+use Rattle.csv_input.specs.Rows.{IsFirstWrong}
 use Rattle.csv_input.proofs.input.check_rows.Goals as goal
 
 pub returns-in-Ok-Some-clause-checks : goal.returns-in-Ok-Some-clause-checks

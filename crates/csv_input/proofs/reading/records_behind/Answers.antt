@@ -1,6 +1,6 @@
 use Rattle.std.proofs.Common.{◌≡◌, ◌∙◌, [], ap₂, sym}
-use Rattle.csv_types.specs.Found.{rows_behind}
-use Rattle.csv_table.proofs.Taken.{none_in}
+use Rattle.csv_columns.specs.Found.{rows_behind}
+use Rattle.csv_input.proofs.Taken.{none_in}
 use Rattle.csv_input.proofs.reading.records_behind.Goals as goal
 
 pub returns-then-not-branch : goal.returns-then-not-branch

@@ -21,8 +21,8 @@ use Rattle.row_sources.specs.Begun.{IsBegun}
 use Rattle.row_sources.specs.Sourced.{sourced_at}
 use Rattle.row_sources.specs.Parts.{first_batches}
 use Rattle.row_sources.specs.Joined.{source_at}
-use Rattle.opened_batches.specs.Narrow.{BeginsInFirst}
-use Rattle.opened_batches.specs.Opened.{batches_in}
+use Rattle.batch_skipping.specs.Narrow.{BeginsInFirst}
+use Rattle.batch_skipping.specs.Opened.{batches_in}
 use Rattle.row_sources.specs.Picking.{IsPick}
 use Rattle.row_sources.specs.Running.{picked_of}
 use Rattle.row_sources.proofs.BeginPick.{pick_with}

@@ -3,7 +3,7 @@ use Rattle.std.specs.List.{AllZip}
 use Rattle.std.proofs.lemmas.List.{take_all}
 use Rattle.std.proofs.lemmas.List.FromFn.{length-range_with_len}
 use Rattle.arrays.specs.Batch.{AreLong}
-use Rattle.opened_batches.specs.Chosen.{columns_at}
+use Rattle.batch_skipping.specs.Chosen.{columns_at}
 use Rattle.row_sources.specs.Picking.{rows_of_part}
 use Rattle.row_sources.specs.Picked.{HasSlotsAt}
 use Rattle.row_sources.proofs.Cells.{columns_more}

@@ -1,6 +1,6 @@
 use Rattle.std.proofs.Common.{take}
 use Rattle.std.specs.List.{AllZip}
-use Rattle.opened_batches.specs.Chosen.{columns_at}
+use Rattle.batch_skipping.specs.Chosen.{columns_at}
 use Rattle.row_sources.specs.Picking.{rows_of_part}
 use Rattle.row_sources.specs.Picked.{HasSlotsAt}
 use Rattle.row_sources.proofs.columns.slice_of.Given as goal

@@ -2,7 +2,7 @@ use Rattle.std.proofs.Common.{◌≡◌, ◌<◌, ℕ, List, [], true, length, r
 use Rattle.std.specs.Arc.{arc_value}
 use Rattle.arrow_schema.specs.declared.data_type.DataType.{DataType}
 use Rattle.join_batches.specs.Joiner.{joined_types, GivesJoined, GivesShown}
-use Rattle.opened_batches.specs.Chosen.{are_within}
+use Rattle.batch_skipping.specs.Chosen.{are_within}
 use Rattle.table_versions.specs.Stored.{TableAt}
 use Rattle.typed_plan.specs.Typed.{types_of}
 use Rattle.row_sources.specs.Choices.{IsChoice}

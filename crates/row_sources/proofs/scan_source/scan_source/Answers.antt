@@ -5,7 +5,7 @@ use Rattle.arrow_schema.specs.declared.schema.Schema.{Schema}
 use Rattle.typed_plan.specs.Plan.{scan}
 use Rattle.typed_plan.specs.Typed.{has_columns, types_of, type_at}
 use Rattle.row_sources.specs.Begun.{IsBegun}
-use Rattle.opened_batches.specs.Chosen.{are_within}
+use Rattle.batch_skipping.specs.Chosen.{are_within}
 use Rattle.row_sources.specs.Chosen.{numbers_at}
 use Rattle.row_sources.specs.Picking.{PickAt, IsPick}
 use Rattle.row_sources.specs.Placed.{Begins}
@@ -13,7 +13,7 @@ use Rattle.row_sources.specs.Running.{picked_of}
 use Rattle.row_sources.proofs.Batched.{from_few}
 use Rattle.row_sources.proofs.BeginPick.{numbers_within}
 use Rattle.row_sources.proofs.BeginTree.{scan_begun, scan_pick, pick_is}
-use Rattle.opened_batches.specs.Opened.{batches_in}
+use Rattle.batch_skipping.specs.Opened.{batches_in}
 use Rattle.row_sources.proofs.Opening.{in_clamped}
 use Rattle.row_sources.proofs.Piecing.{place_of}
 use Rattle.std.proofs.lemmas.List.FromFn.{length-range_with_len}

@@ -1,7 +1,7 @@
 use Rattle.std.proofs.Common.{IfOk, IfSome, sym, subst, arith}
 use Rattle.arrow_schema.specs.declared.schema.Schema.{Schema}
 use Rattle.arrays.specs.Typed.{AreOfTypes}
-use Rattle.dressed_batches.specs.Dress.{IsDressedBatch}
+use Rattle.dictionary_answers.specs.Dress.{IsDressedBatch}
 use Rattle.row_stream.specs.inside.Cuts.{HasBodyWithin, SayBatch}
 use Rattle.row_stream.proofs.Dressed.{found_dressed}
 use Rattle.row_stream.proofs.Numbers.{few_columns, typed_dressable}

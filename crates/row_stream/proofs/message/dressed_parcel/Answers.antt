@@ -2,7 +2,7 @@ use Rattle.std.proofs.Common.{◌≡◌, ◌≤◌, ◌+◌, length, map, refl, 
 use Rattle.ipc_batch.specs.declared.writer.WrittenMessage.{WrittenMessage}
 use Rattle.ipc_batch.specs.Seen.{written_seen}
 use Rattle.ipc_batch.specs.Written.{SaysBatch}
-use Rattle.dressed_batches.specs.Lengths.{bodies_length}
+use Rattle.dictionary_answers.specs.Lengths.{bodies_length}
 use Rattle.ipc_stream.specs.Stream.{IsMessage}
 use Rattle.row_stream.specs.Stream.{sent_in}
 use Rattle.row_stream.proofs.Dressed.{short_behind}

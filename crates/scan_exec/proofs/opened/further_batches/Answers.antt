@@ -1,6 +1,6 @@
 use Rattle.std.proofs.Common.{◌+◌, ℕ, List, ◌++◌, map, drop, ap, sym, ◌∙◌}
-use Rattle.opened_batches.specs.declared.opened.OpenedList.{OpenedList}
-use Rattle.opened_batches.specs.Opened.{numbered_batches}
+use Rattle.batch_skipping.specs.declared.opened.OpenedList.{OpenedList}
+use Rattle.batch_skipping.specs.Opened.{numbered_batches}
 use Rattle.scan_exec.proofs.OpenedLists.{numbers_of, place_more, places_all}
 use Rattle.scan_exec.proofs.opened.further_batches.Goals as goal
 

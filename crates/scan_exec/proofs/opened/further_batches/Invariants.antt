@@ -1,6 +1,6 @@
 use Rattle.std.proofs.Common.{◌≡◌, ◌++◌, map, drop}
-use Rattle.opened_batches.specs.declared.opened.OpenedList.{OpenedList}
-use Rattle.opened_batches.specs.Opened.{numbered_batches}
+use Rattle.batch_skipping.specs.declared.opened.OpenedList.{OpenedList}
+use Rattle.batch_skipping.specs.Opened.{numbered_batches}
 use Rattle.scan_exec.proofs.opened.further_batches.Given as goal
 
 -- those of the places so far, and then those of the others

@@ -1,7 +1,7 @@
 use Rattle.std.proofs.Common.{◌≡◌, [], ◌∷◌, rules}
-use Rattle.version_index.specs.Index.{IndexAt, index_at}
-use Rattle.version_index.specs.Versions.{IsIndexOf}
-use Rattle.version_index.proofs.Versions.{first_index}
+use Rattle.version_log.specs.Index.{IndexAt, index_at}
+use Rattle.version_log.specs.Versions.{IsIndexOf}
+use Rattle.version_log.proofs.Versions.{first_index}
 use Rattle.version_cell.proofs.cell.open.Goals as goal
 
 first_index_is : (index : IndexAt) → index ≡ index_at 0 ([] ∷ []) → IsIndexOf index []

@@ -1,7 +1,7 @@
 use Rattle.std.proofs.Common.{ap, subst}
 use Rattle.std.specs.Prelude.{IfErr, IfOk}
-use Rattle.csv_table.specs.Long.{WhyNoMessage}
-use Rattle.csv_table.specs.Rows.{TakesMessage}
+use Rattle.csv_input.specs.Long.{WhyNoMessage}
+use Rattle.csv_input.specs.Rows.{TakesMessage}
 use Rattle.csv_input.specs.Input.{TextAt}
 use Rattle.csv_input.proofs.Next.{fewer}
 use Rattle.csv_input.proofs.text.CsvRows.next.Goals as goal

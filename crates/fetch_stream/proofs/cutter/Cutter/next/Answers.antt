@@ -2,7 +2,7 @@ use Rattle.std.proofs.Common.{◌<◌, ◌+◌, length, sym, ap, subst, ◌∙�
 use Rattle.std.proofs.lemmas.List.{length-map}
 use Rattle.arrays.specs.Batch.{BatchAt, cut_batch}
 use Rattle.arrays.specs.Column.{ColumnAt, cut}
-use Rattle.dressed_batches.specs.Lengths.{dressed_length}
+use Rattle.dictionary_answers.specs.Lengths.{dressed_length}
 use Rattle.fetch_stream.specs.Streams.{most_body_bytes}
 use Rattle.fetch_stream.specs.declared.cutter.Cutter.{Cutter}
 use Rattle.fetch_stream.specs.inside.Ahead.{AnsweredAs}

@@ -2,7 +2,7 @@ use Rattle.std.proofs.Common.{◌≡◌, ℕ, List, true, length, map, ap, sym, 
 use Rattle.scan_base.specs.View.{pred_of}
 use Rattle.typed_plan.specs.declared.plan.Columns.{Columns}
 use Rattle.row_sources.specs.Sourced.{sourced_pick}
-use Rattle.opened_batches.specs.Chosen.{are_within}
+use Rattle.batch_skipping.specs.Chosen.{are_within}
 use Rattle.row_sources.specs.Chosen.{numbers_at}
 use Rattle.row_sources.specs.Joined.{source_at}
 use Rattle.row_sources.specs.declared.picker.Picker.{Picker}

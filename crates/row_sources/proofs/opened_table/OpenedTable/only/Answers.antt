@@ -5,7 +5,7 @@ use Rattle.std.proofs.lemmas.Bool.{and_from, lt-ltb}
 use Rattle.arrays.specs.Batch.{BatchAt, rows_of}
 use Rattle.table_versions.specs.Stored.{TableAt}
 use Rattle.table_versions.proofs.Rowing.{rows-cons}
-use Rattle.opened_batches.specs.Narrow.{CanNarrow, batches_at, narrowed}
+use Rattle.batch_skipping.specs.Narrow.{CanNarrow, batches_at, narrowed}
 use Rattle.row_sources.proofs.Cells.{within_at}
 use Rattle.row_sources.proofs.NarrowRange.{before_next}
 use Rattle.row_sources.proofs.Narrowing.{at_any, at_many, at_number}

@@ -13,15 +13,15 @@ use Rattle.typed_plan.specs.Held.{tree_schemas}
 use Rattle.typed_plan.specs.Typed.{HasOutput, IsTyped, is_grouping, is_place}
 use Rattle.typed_plan.specs.View.{BoundAt, plan_of, tree_of}
 use Rattle.rewrite.specs.Laws.{SkippingKeepsRows}
-use Rattle.opened_batches.specs.declared.opened.OpenedList.{OpenedList}
+use Rattle.batch_skipping.specs.declared.opened.OpenedList.{OpenedList}
 use Rattle.scan_exec.specs.Answering.{IsScan, answer_for, giving_at, scan_at}
 use Rattle.row_sources.specs.Begun.{IsBegun}
 use Rattle.row_sources.specs.Running.{RowsAt}
 use Rattle.scan_exec.specs.Giving.{GivingAt}
 use Rattle.row_sources.specs.Parts.{first_batches}
-use Rattle.opened_batches.specs.Listed.{AreLists}
-use Rattle.opened_batches.specs.Narrow.{BeginsInFirst}
-use Rattle.opened_batches.specs.Opened.{batches_in, first_opened, further_opened, opened_numbers, numbered_batches, where_parts}
+use Rattle.batch_skipping.specs.Listed.{AreLists}
+use Rattle.batch_skipping.specs.Narrow.{BeginsInFirst}
+use Rattle.batch_skipping.specs.Opened.{batches_in, first_opened, further_opened, opened_numbers, numbered_batches, where_parts}
 use Rattle.row_sources.specs.OpenedTables.{CanAll, narrow_all}
 use Rattle.rewrite.specs.Pruned.{IsPruned}
 use Rattle.rewrite.specs.Same.{StandsFor}

@@ -1,8 +1,8 @@
 use Rattle.std.proofs.Common.{◌≡◌, Ok}
 use Rattle.std.proofs.lemmas.Result.{err_from_is_err_and}
 use Rattle.table_versions.specs.Stored.{put_of, tables_of}
-use Rattle.version_index.specs.Versions.{IsIndexOf}
-use Rattle.version_index.proofs.Versions.{has_room, kept_more}
+use Rattle.version_log.specs.Versions.{IsIndexOf}
+use Rattle.version_log.proofs.Versions.{has_room, kept_more}
 use Rattle.version_cell.specs.Puts.{after_log}
 use Rattle.version_cell.specs.Signed.{log_of}
 use Rattle.version_cell.proofs.Accepting.{few_before, first_for}

@@ -1,5 +1,5 @@
 use Rattle.std.proofs.Common.{◌∙◌}
-use Rattle.version_index.specs.Versions.{IsIndexOf}
+use Rattle.version_log.specs.Versions.{IsIndexOf}
 use Rattle.version_cell.specs.Signed.{log_of}
 use Rattle.version_cell.proofs.shown.Store.floor.Goals as goal
 

@@ -1,5 +1,5 @@
-use Rattle.version_index.specs.Versions.{IsIndexOf}
-use Rattle.version_index.proofs.Versions.{newest_number, newest_tables}
+use Rattle.version_log.specs.Versions.{IsIndexOf}
+use Rattle.version_log.proofs.Versions.{newest_number, newest_tables}
 use Rattle.std.proofs.Common.{arith}
 use Rattle.version_cell.specs.Signed.{log_of}
 use Rattle.version_cell.proofs.shown.Store.newest.Goals as goal

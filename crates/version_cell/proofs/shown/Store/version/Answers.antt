@@ -1,5 +1,5 @@
-use Rattle.version_index.specs.Versions.{IsIndexOf}
-use Rattle.version_index.proofs.Versions.{is_there, version_found}
+use Rattle.version_log.specs.Versions.{IsIndexOf}
+use Rattle.version_log.proofs.Versions.{is_there, version_found}
 use Rattle.version_cell.specs.Signed.{log_of}
 use Rattle.version_cell.proofs.shown.Store.version.Goals as goal
 

@@ -1,8 +1,8 @@
 use Rattle.std.proofs.Common.{rules, arith, ◌≡◌, ◌≤◌}
 use Rattle.std.specs.Arc.{arc_value}
 use Rattle.version_log.specs.Log.{puts_in, floor_of}
-use Rattle.version_index.specs.Versions.{IsIndexOf}
-use Rattle.version_index.proofs.Versions.{is_there, kept_cut, kept_so}
+use Rattle.version_log.specs.Versions.{IsIndexOf}
+use Rattle.version_log.proofs.Versions.{is_there, kept_cut, kept_so}
 use Rattle.version_cell.specs.Signed.{log_of}
 use Rattle.version_cell.proofs.shown.Store.without.Goals as goal
 

@@ -1,3 +1,0 @@
-mod Elements
-mod Alike
-mod Dates

@@ -1,3 +1,0 @@
-pub mod Left
-mod Taken
-pub mod Placed

@@ -1,2 +1,0 @@
--- Inside: what a reader of records has left.
-pub mod Reading

@@ -1,8 +1,0 @@
-mod Begun
-mod Placed
-mod Transposed
-mod Joined
-mod Faulty
-mod Columnar
-mod Lengthy
-pub mod Taken

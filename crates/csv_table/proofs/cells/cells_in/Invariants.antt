@@ -1,5 +1,0 @@
-use Rattle.csv_table.specs.inside.Cells.{AreCells}
-use Rattle.csv_table.proofs.cells.cells_in.Given as goal
-
-abbrev pub invariant-loop-row : goal.invariant-loop-row
-invariant-loop-row l = AreCells l.chunk l.column l.number l.cells.items l.row

@@ -1,2 +1,0 @@
--- Inside: what only the contracts of private functions cite.
-pub mod Tests

@@ -1,2 +1,0 @@
-mod Ranges
-mod Signs

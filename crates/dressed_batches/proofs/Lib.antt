@@ -1,4 +1,0 @@
-pub mod Dressing
-pub mod Lengths
-pub mod Sent
-pub mod Whole

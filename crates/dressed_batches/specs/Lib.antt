@@ -1,3 +1,0 @@
-pub mod Dress
-pub mod Lengths
-pub mod inside

@@ -1,3 +1,0 @@
-pub mod Merging
-pub mod Parts
-pub mod Shared

@@ -1,2 +1,0 @@
--- What contracts of this crate's private functions alone cite.
-pub mod Judged

@@ -1,2 +1,0 @@
-pub mod Dropping
-pub mod Versions

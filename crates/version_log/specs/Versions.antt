@@ -1,0 +1,19 @@
+-- Inside: the versions of a log, and those that an index has.
+use Rattle.std.specs.Prelude.{◌≡◌, ℕ, ◌+◌, List, [], ◌∷◌, drop, map}
+use Rattle.table_versions.specs.Database.{Database, Put, after, accepted}
+use Rattle.version_log.specs.Log.{Log, puts_of, floor_of}
+use Rattle.table_versions.specs.Stored.{tables_of}
+use Rattle.version_log.specs.Index.{IndexAt}
+
+-- this database, and those after each of these puts, where n were accepted before them
+abbrev pub versions_from : Database → ℕ → List Put → List Database
+versions_from database n [] = database ∷ []
+versions_from database n (put ∷ puts) = database ∷ versions_from (accepted database (after database n put)) (n + 1) puts
+
+unfoldable pub versions_of : List Put → List Database
+versions_of puts = versions_from [] 0 puts
+
+-- the versions of a log from its floor on
+pub record IsIndexOf (index : IndexAt) (log : Log) : Type 0 where
+  pub floor : index.floor ≡ floor_of log
+  pub tables : map tables_of index.versions ≡ drop (floor_of log) (versions_of (puts_of log))
