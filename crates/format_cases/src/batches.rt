@@ -4,7 +4,7 @@ ghost use Rattle.std.specs.Prelude.{◌≡◌, IfOk, length};
 
 use crate::row::Row;
 use crate::schemas::kind_name;
-use crate::words::{Word, push_part, told};
+use crate::words::{Word, push_part, push_words, told};
 use arrays::{Batch, Cells, Column, Dictionary, Slots};
 use arrow_schema::{IntegerType, Schema, read_message};
 use bytes::Bytes;
@@ -77,15 +77,16 @@ fn sized(alloc: Global, bytes: &[u8]) -> Result<String, Fault> {
     sized.append_body(&mut body)?;
     let header = sized.write_header(alloc)?;
     let message = read_message(&header)?;
-    told(
-        alloc,
-        &[
-            Word::Number(sized.body_length() as i128),
-            Word::Bytes(&body),
-            Word::Text(kind_name(message.kind)),
-            Word::Number(i128::from(message.body_length()?)),
-        ],
-    )
+    let said = Word::Number(i128::from(message.body_length()?));
+    let mut text = String::new(alloc);
+    push_part(&mut text, &[Word::Number(sized.body_length() as i128)])?;
+    push_part(&mut text, &[Word::Bytes(&body)])?;
+    push_words(
+        &mut text,
+        &[Word::Text(kind_name(message.kind)), said],
+        ", ",
+    )?;
+    Ok(text)
 }
 
 // `ROWS FROM TO`: how many rows and columns a slice of a batch without columns has.
@@ -104,12 +105,15 @@ fn no_columns(alloc: Global, row: &Row) -> Result<String, Fault> {
 // A dictionary of no value: whether it is empty, has none at 0, and may have nulls.
 fn no_values(alloc: Global) -> Result<String, Fault> {
     let none = Dictionary::new(alloc);
-    let flags = [
-        none.is_empty(),
-        none.get(0).is_none(),
-        none.may_have_nulls(),
-    ];
-    told(alloc, &flags.map(Word::Flag))
+    let is_unknown = none.get(0).is_none();
+    told(
+        alloc,
+        &[
+            Word::Flag(none.is_empty()),
+            Word::Flag(is_unknown),
+            Word::Flag(none.may_have_nulls()),
+        ],
+    )
 }
 
 /// What becomes of batches.

@@ -85,17 +85,17 @@ fn options(alloc: Global, options: Option<TableDefinitionOptions>) -> Result<Str
 fn statement(alloc: Global, bytes: &[u8]) -> Result<String, Fault> {
     let statement = CommandStatementIngest::read(bytes)?;
     let options = options(alloc, statement.table_definition_options)?;
-    told(
-        alloc,
-        &[
-            Word::Text(options.as_str()),
-            Word::Text(statement.table),
-            Word::Text(statement.schema),
-            Word::Text(statement.catalog),
-            Word::Flag(statement.temporary),
-            Word::Bytes(statement.transaction_id),
-        ],
-    )
+    let mut text = String::new(alloc);
+    push_part(&mut text, &[Word::Text(options.as_str())])?;
+    let words = [
+        Word::Text(statement.table),
+        Word::Text(statement.schema),
+        Word::Text(statement.catalog),
+        Word::Flag(statement.temporary),
+        Word::Bytes(statement.transaction_id),
+    ];
+    push_words(&mut text, &words, ", ")?;
+    Ok(text)
 }
 
 fn ingest(alloc: Global, bytes: &[u8]) -> Result<String, Fault> {
@@ -170,9 +170,8 @@ fn info(alloc: Global, bytes: &[u8]) -> Result<String, Fault> {
     for endpoint in &info.endpoints {
         push_part(&mut text, &words_of(endpoint))?;
     }
-    let records = Word::Number(i128::from(info.total_records));
-    let bytes = Word::Number(i128::from(info.total_bytes));
-    push_words(&mut text, &[records, bytes, Word::Flag(info.ordered)], ", ")?;
+    let (records, bytes, ordered) = (info.total_records, info.total_bytes, info.ordered);
+    write!(text, "{records}, {bytes}, {ordered}")?;
     Ok(text)
 }
 

@@ -9,12 +9,12 @@ use Rattle.format_cases.proofs.values.chain_truths.Goals as goal
 abbrev covers : Pred ℕ → List Value → Type 0
 covers predicate row = IsTrue (names_only (λ column. nat_lt column (length row)) predicate)
 
-pub truth-requires : goal.truth-requires
-truth-requires g c =
+pub truth-all-requires : goal.truth-all-requires
+truth-all-requires c =
     subst (covers (pred_of c.loop.all)) (sym (c.in_ok-push.ensures.ok ∙ ap (λ row. row ++ Int (pos 3) ∷ []) c.new-row.ensures))
     c.loop.invariant.all
 
-pub truth-requires-2 : goal.truth-requires-2
-truth-requires-2 g c =
+pub truth-any-requires : goal.truth-any-requires
+truth-any-requires c =
     subst (covers (pred_of c.loop.any)) (sym (c.in_ok-push.ensures.ok ∙ ap (λ row. row ++ Int (pos 3) ∷ []) c.new-row.ensures))
     c.loop.invariant.any
