@@ -4,9 +4,10 @@
     python3 scripts/pages.py           writes the parts that are made, and tells what is amiss
     python3 scripts/pages.py --check   writes nothing; ends with 1 where a part is stale or something is amiss
 
-Made: the column "Stands on" of docs/ARCHITECTURE.md, from crates.txt; and the list of files in docs/SEMANTICS.md, from
-what scripts/trusted_base.py counts and what public contracts cite. Looked at, in each page: that the files and headings
-that links lead to are there; that a name in a link to a source file stands in that file; that files and wrong bodies
+Made: the sentences and the links of the crates in docs/ARCHITECTURE.md, from crates.txt; and the list of files in
+docs/SEMANTICS.md, from what scripts/trusted_base.py counts and what public contracts cite. Looked at: that each crate of
+crates.txt has its row in its section, and stands on none of a later one. And in each page: that the files and headings that
+links lead to are there; that a name in a link to a source file stands in that file; that files and wrong bodies
 named in backticks are there; that each wrong body has its row in the README of its crate, with a link to where it
 stands, and fits the code; that each crate with plants has its line in plants/README.md; that code which is shown stands
 so in a source file; that the tour of docs/SEMANTICS.md leaves out no file to believe; that no sentence and no cell of a
@@ -34,38 +35,54 @@ SENTENCE_END = re.compile(r"(?<=[.!?])(?<!\.\.)[)*_\"]*\s+")
 BEGIN, END = "<!-- made by scripts/pages.py -->", "<!-- end -->"
 
 
-def stands_on():
-    """What each crate of crates.txt stands on."""
-    found = {}
+def sections():
+    """By section of crates.txt: the sentence that says what its crates promise together, and what each of them stands on."""
+    section = {"says": "", "crates": {}}
+    found = {"no section": section}
     for line in (TOP / "crates.txt").read_text().splitlines():
-        if line.strip() and not line.startswith("#"):
+        said = line.lstrip("#").strip()
+        if line.startswith("#") and re.fullmatch(r"\w+", said):
+            section = found.setdefault(said, {"says": "", "crates": {}})
+        elif line.startswith("#"):
+            section["says"] = f"{section['says']} {said}".strip()
+        elif said:
             name, _, below = line.partition(":")
-            found[name.split()[0]] = below.split()
+            section["crates"][name.split()[0]] = below.split()
     return found
 
 
-def with_stands_on(text, amiss):
-    """ARCHITECTURE with the links of its first column, and its second one as crates.txt has it."""
-    below, lines, inside, seen = stands_on(), [], False, set()
+def stands_on():
+    """What each crate of crates.txt stands on."""
+    return {name: below for section in sections().values() for name, below in section["crates"].items()}
+
+
+def with_sections(text, amiss):
+    """ARCHITECTURE with the sentence of each section as crates.txt has it, and the links of the first column."""
+    listed, lines, at, rows = sections(), [], None, {}
     for line in text.split("\n"):
-        cells = line.split("|")
-        if line.startswith("| Crate | Stands on |"):
-            inside = True
-        elif inside and not line.startswith("|"):
-            inside = False
-        elif inside and not line.startswith("|---"):
-            name = cells[1].strip().strip("`").split("]")[0].lstrip("[")
-            if name in below:
-                seen.add(name)
-                page = f"../crates/{name}/README.md"
-                cells[1] = f" [{name}]({page}) " if (CRATES / name / "README.md").exists() else f" {name} "
-                cells[2] = f" {', '.join(below[name])} " if below[name] else " "
-                line = "|".join(cells)
-            else:
-                amiss.append(f"docs/ARCHITECTURE.md: {name} is not in crates.txt")
+        head, row = re.match(r"\*\*(\w+)\*\*: ", line), re.match(r"\| \[?(\w+)[^|]*", line)
+        if head and head[1] in listed:
+            at = head[1]
+            line = head[0] + listed[at]["says"]
+        elif line.startswith("#"):
+            at = None
+        elif at and row and row[1] != "Crate":
+            rows.setdefault(row[1], []).append(at)
+            line = f"| [{row[1]}](../crates/{row[1]}/README.md) {line[row.end():]}"
         lines.append(line)
-    amiss.extend(f"docs/ARCHITECTURE.md: no row for {name}" for name in below if name not in seen)
+    wanted = {name: [at] for at, section in listed.items() for name in section["crates"]}
+    for name in sorted(wanted | rows):
+        had, want = (" and ".join(found.get(name, ["no section"])) for found in (rows, wanted))
+        if rows.get(name) != wanted.get(name):
+            amiss.append(f"docs/ARCHITECTURE.md: {name} has its row in {had}, and its line of crates.txt stands in {want}")
     return "\n".join(lines)
+
+
+def look_at_sections(amiss):
+    """Tells which crates stand on one of a later section."""
+    place = {name: number for number, section in enumerate(sections().values()) for name in section["crates"]}
+    amiss.extend(f"crates.txt: {name} stands on {one}, of a later section" for name, below in stands_on().items()
+                 for one in below if place.get(one, 0) > place[name])
 
 
 def exported(crate):
@@ -303,7 +320,7 @@ def pages():
 
 def main(words):
     amiss, stale = [], []
-    for name, renewed in (("docs/ARCHITECTURE.md", with_stands_on), ("docs/SEMANTICS.md", with_files)):
+    for name, renewed in (("docs/ARCHITECTURE.md", with_sections), ("docs/SEMANTICS.md", with_files)):
         path = TOP / name
         old = path.read_text()
         new = renewed(old, amiss)
@@ -321,6 +338,7 @@ def main(words):
         look_at_links(page, text, amiss)
         look_at_names(page, text, amiss)
         look_at_lengths(page, text, amiss)
+    look_at_sections(amiss)
     look_at_wrong_bodies(amiss)
     look_at_edits(amiss)
     look_at_plants(amiss)
