@@ -240,10 +240,12 @@ def look_at_wrong_bodies(amiss):
 
 
 def look_at_plants(amiss):
-    """Tells which crates with plants have no line in the table of plants/README.md, and which lines have no plants."""
-    lines = set(re.findall(r"(?m)^\| (\w+) \| (?:not tried|\d{4}-)", (TOP / "plants/README.md").read_text()))
+    """Tells which crates with plants have no line in plants/README.md, and which lines no plants."""
+    page = (TOP / "plants/README.md").read_text()
+    lines = set(re.findall(r"(?m)^\| (\w+) \| (?:not tried|\d{4}-)", page))
     crates = {path.parent.name for path in TOP.glob("plants/*/*.edit")}
-    amiss.extend(f"plants/README.md: no line for {crate}: | {crate} | not tried | | | | | | |" for crate in sorted(crates - lines))
+    amiss.extend(f"plants/README.md: no line '| {crate} | not tried | | | | | | |'"
+                 for crate in sorted(crates - lines))
     amiss.extend(f"plants/README.md: no plants of {crate}" for crate in sorted(lines - crates))
 
 
