@@ -9,9 +9,10 @@ docs/PROMISE.md, from what scripts/trusted_base.py counts and what public contra
 crates.txt has its row in its section, and stands on none of a later one. And in each page: that the files and headings that
 links lead to are there; that a name in a link to a source file stands in that file; that files and wrong bodies
 named in backticks are there; that each wrong body has its row in the README of its crate, with a link to where it
-stands, and fits the code; that code which is shown stands so in a source file; that the definitions of docs/PROMISE.md
-leave out no file to believe, and that what a row says of its files stands in them; that no sentence and no cell of a table
-has more than 35 words, where a code span is one word and quotations are left out; and that README.md has at most 9,216 bytes.
+stands, and fits the code; that each crate with plants has its line in plants/README.md; that code which is shown stands
+so in a source file; that the definitions of docs/PROMISE.md leave out no file to believe, and that what a row says of its
+files stands in them; that no sentence and no cell of a table has more than 35 words, where a code span is one word and
+quotations are left out; and that README.md has at most 9,216 bytes.
 """
 
 import pathlib
@@ -21,6 +22,7 @@ import sys
 sys.dont_write_bytecode = True
 
 import trusted_base  # noqa: E402
+from wrong_bodies import misfits, wrong_bodies  # noqa: E402
 
 TOP = pathlib.Path(__file__).resolve().parent.parent
 CRATES = TOP / "crates"
@@ -234,22 +236,19 @@ def look_at_wrong_bodies(amiss):
     amiss.extend(f"crates/{crate}/README.md: no wrong body {folder}/{name}" for crate, folder, name in sorted(named - found))
 
 
+def look_at_plants(amiss):
+    """Tells which crates with plants have no line in plants/README.md, and which lines no plants."""
+    page = (TOP / "plants/README.md").read_text()
+    lines = set(re.findall(r"(?m)^\| (\w+) \| (?:not tried|\d{4}-)", page))
+    crates = {path.parent.name for path in TOP.glob("plants/*/*.edit")}
+    amiss.extend(f"plants/README.md: no line '| {crate} | not tried | | | | | | |'"
+                 for crate in sorted(crates - lines))
+    amiss.extend(f"plants/README.md: no plants of {crate}" for crate in sorted(lines - crates))
+
+
 def look_at_edits(amiss):
-    """Tells which wrong bodies no longer fit the code: each text that one takes away has to stand once in its file."""
-    for edit in [*sorted(CRATES.glob("*/must-fail/*.edit")), *sorted(TOP.glob("plants/*/*.edit"))]:
-        crate = CRATES / edit.relative_to(CRATES if CRATES in edit.parents else TOP / "plants").parts[0]
-        texts, file, old = {}, None, ""
-        for line in edit.read_text().splitlines():
-            kind, _, said = line.partition(": ")
-            if kind == "file":
-                file = crate / said.strip()
-                texts.setdefault(file, file.read_text() if file.exists() else "")
-            elif kind == "old":
-                old = said
-                if texts.get(file, "").count(old) != 1:
-                    amiss.append(f"{edit.relative_to(TOP)}: its text stands {texts.get(file, '').count(old)} times: {old.strip()}")
-            elif line.startswith("new:") and file in texts:
-                texts[file] = texts[file].replace(old, line[len("new:"):].removeprefix(" "))
+    """Tells which wrong bodies no longer fit the code."""
+    amiss.extend(f"{edit.relative_to(TOP)}: {why}" for edit in wrong_bodies() for why in misfits(edit))
 
 
 def look_at_definitions(page, text, amiss):
@@ -337,6 +336,7 @@ def main(words):
     look_at_sections(amiss)
     look_at_wrong_bodies(amiss)
     look_at_edits(amiss)
+    look_at_plants(amiss)
     listed = stands_on()
     of_kit = {name for below in listed.values() for name in below} - set(listed)
     said = (TOP / "docs/ARCHITECTURE.md").read_text()

@@ -9,7 +9,7 @@ the file SOURCE, and follows each name through the imports of its file. A ghost 
 leads to all clauses of that trait. So does the record of a trait's ghost members (`Ghosts`).
 
 It counts the nonblank lines of the definitions without their comments, and how many have no comment right above. The clauses of
-the contracts and traits themselves are counted apart. So are the laws that ARCHITECTURE 1 names beside (LAWS). Types that the code
+the contracts and traits themselves are counted apart. So are six more laws (LAWS). Types that the code
 declares are named apart, and the kit's own words are not followed. A name counts as cited where it stands in a definition, so the
 count errs, if at all, towards more.
 
