@@ -24,8 +24,8 @@ from built import ROOT, program  # noqa: E402
 ANY = "/usr/include/google/protobuf/any.proto"  # Debian has it apart from protoc
 OF_TOOLS = {"vectors/arrow/make.py": ["flatc"], "vectors/flight/make.py": ["protoc", ANY],
             "vectors/puts/make.py": ["flatc", "protoc", ANY]}
-MADE_ANEW = ["vectors/arrow/to_cases.py", "vectors/calls/make.py", "vectors/client/make.py", "vectors/flight/to_cases.py",
-             "vectors/queries/make.py", "vectors/streams/make.py"]
+MADE_ANEW = ["vectors/arrow/to_cases.py", "vectors/calls/make.py", "vectors/client/make.py", "vectors/formats/make.py",
+             "vectors/queries/make.py"]
 TOLD_LINES = 40  # of what a step that failed printed
 PYTHONS = [sys.executable, "/usr/bin/python3"]  # the second one has Debian's packages
 

@@ -1,4 +1,4 @@
-"""The lines of crates/call_cases: connections with their calls, and what each call is answered.
+"""The room "connections" of crates/call_cases: connections with their calls, and what each call is answered.
 
 The records and the messages are laid out by scripts/wire.py and arrow/layout.py."""
 import pathlib
@@ -7,8 +7,7 @@ import sys
 
 sys.dont_write_bytecode = True
 ROOT = pathlib.Path(__file__).resolve().parent.parent.parent
-sys.path += [str(ROOT / "scripts"), *(str(ROOT / "vectors" / folder) for folder in ("arrow", "flight", "queries"))]
-PROGRAM = ROOT / "crates/call_cases"
+sys.path += [str(ROOT / "scripts"), *(str(ROOT / "vectors" / folder) for folder in ("", "arrow", "flight", "queries"))]
 
 import trees  # noqa: E402
 import wire  # noqa: E402

@@ -1,11 +1,12 @@
 #!/usr/bin/env python3
-"""Writes stdin and stdout of crates/call_cases: connections, and what each of their calls is answered.
+"""Writes the room "connections" of crates/call_cases: connections, and what each of their calls is answered.
 
 The answers of this file are worked out by hand, and those of joins_and_groups.py by a plain model."""
-from lines import (ANSWERS, APPEND, CREATE, DONE, INT64, LINES, PROGRAM, REPLACE, UTF8, fetch, info, note, numbers, of_query, pairs, pipe,
+from lines import (ANSWERS, APPEND, CREATE, DONE, INT64, LINES, REPLACE, UTF8, fetch, info, note, numbers, of_query, pairs, pipe,
                    put, refuse, refused, rows_of, schema, whole_numbers, words)
 
 import joins_and_groups
+import rooms
 import wire
 from first_run import first_run, of_length
 from random_calls.refused import SELECT, TABLES, WITH_INFOS
@@ -130,5 +131,4 @@ pipe("", refuse(b"DoAction", [chunk(1, b"scan.expire")], "F4"), refuse(b"DoActio
      refuse(b"DoGet", [ticket(query_handle(1, 2, 1, ALL))], "F17"), fetch(at(1, 5), A, *whole_numbers(1, 2, 3, 4, 5)))
 
 if __name__ == "__main__":
-    (PROGRAM / "stdin").write_text("".join(f"{line}\n" for line in LINES))
-    (PROGRAM / "stdout").write_text("".join(f"{line}\n" for line in ANSWERS))
+    rooms.write("connections", LINES, ANSWERS)

@@ -1,12 +1,17 @@
 #!/usr/bin/env python3
-"""Writes stdin and stdout of crates/client_cases: infos, statuses, and streams of answers and what they say once they
+"""Writes the room "streams" of crates/call_cases: infos, statuses, and streams of answers and what they say once they
 are joined. The infos are those of flight/, and the messages flatc's, of arrow/, in FlightData that is laid out here, by
 hand. The answers are by hand too."""
 import pathlib
+import sys
 
+sys.dont_write_bytecode = True
 HERE = pathlib.Path(__file__).parent
 ARROW, FLIGHT = HERE.parent / "arrow", HERE.parent / "flight"
-PROGRAM = HERE.parent.parent / "crates/client_cases"
+sys.path.append(str(HERE.parent))
+
+import rooms  # noqa: E402
+
 LINES, ANSWERS = [], []
 
 
@@ -179,5 +184,4 @@ join(["schema_Int64 bad_header_absent batch_Int64_two batch_Utf8" + DONE], "F8 B
 join(["bad_version_V4" + DONE], "F7 UnsupportedArrow, F8 BadBatch")
 join(["bad_version_V4 = 3 F17 BadTicket"], "F7 UnsupportedArrow, F17 BadTicket")
 
-for name, lines in ("stdin", LINES), ("stdout", ANSWERS):
-    (PROGRAM / name).write_text("\n".join(lines) + "\n")
+rooms.write("streams", LINES, ANSWERS)

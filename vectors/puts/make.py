@@ -1,5 +1,5 @@
 #!/usr/bin/env python3
-"""Writes stdin and stdout of crates/put_cases: a script of puts and fetches, and what each is answered.
+"""Writes the room "puts" of crates/call_cases: a script of puts and fetches, and what each is answered.
 Needs protoc and flatc (see README.md)."""
 import importlib.util
 import json
@@ -10,9 +10,9 @@ import tempfile
 sys.dont_write_bytecode = True
 HERE = pathlib.Path(__file__).parent
 ARROW, FLIGHT = HERE.parent / "arrow", HERE.parent / "flight"
-PROGRAM = HERE.parent.parent / "crates/put_cases"
 sys.path += [str(HERE.parent), str(ARROW)]
 import cases
+import rooms
 from literals import dots
 
 
@@ -497,8 +497,7 @@ def main():
     with tempfile.TemporaryDirectory() as folder:
         known = [name for name in [*cases.MESSAGES, *OWN] if name in used]
         LINES[begin:begin] = [f"bytes {name} {dots(message(pathlib.Path(folder), name))}" for name in known]
-    (PROGRAM / "stdin").write_text("\n".join(LINES) + "\n")
-    (PROGRAM / "stdout").write_text("\n".join(ANSWERS) + "\n")
+    rooms.write("puts", LINES, ANSWERS)
     print(f"{len(known)} messages, {len(puts)} puts of other tools, {len(ANSWERS)} answers")
 
 

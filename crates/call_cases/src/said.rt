@@ -1,30 +1,21 @@
-//! What messages say, in words.
+//! What payloads say, in words.
 
 use arrays::{Batch, Cells};
-use arrow_schema::read_schema;
 use bytes::Bytes;
-use flight_proto::{FlightData, FlightInfo, read_wrapped};
-use ipc_batch::Reader;
-use proto_wire::put_bytes;
+use flight_client::{Rows, Stream, join};
 use scan_base::Fault;
 use std::alloc::{AllocError, Global};
-use told_rows::push_schema;
+use told_rows::{push_schema, push_value};
 
-// A row: its values by their kinds, each with a comma behind, and a semicolon.
-fn push_row(told: &mut String, batch: &Batch, row: usize) -> Result<(), AllocError> {
-    for column in batch.columns() {
-        if row < column.len() {
-            write!(told, "{:?},", column.value_at(row))?;
-        }
-    }
-    told.push(';')
-}
-
-fn push_batch(told: &mut String, batch: &Batch) -> Result<(), AllocError> {
-    for row in 0..batch.rows() {
-        push_row(told, batch, row)?;
-    }
-    Ok(())
+/// How the values of a row are told. A semicolon stands after them.
+#[derive(Clone, Copy)]
+pub enum Form {
+    /// With a comma between them.
+    Between,
+    /// With a comma after each.
+    After,
+    /// By their kinds, as `Int(1)`, with a comma after each.
+    Kinds,
 }
 
 /// Adds the bytes, each by two digits.
@@ -33,66 +24,50 @@ pub fn push_digits(alloc: Global, told: &mut String, bytes: &[u8]) -> Result<(),
     told.push_str(&digits)
 }
 
-// The header in a schema's IPC form: FF FF FF FF, its length and its bytes.
-fn header_in(form: &[u8]) -> Result<&[u8], Fault> {
-    let rest = form
-        .strip_prefix(b"\xff\xff\xff\xff")
-        .ok_or(Fault::BadFlatbuffer)?;
-    let header = rest.get(4..).ok_or(Fault::BadFlatbuffer)?;
-    let length = (header.len() as u64).to_le_bytes();
-    if header.len() % 8 != 0 || !rest.starts_with(&length[..4]) {
-        return Err(Fault::BadFlatbuffer);
+/// The rows that the payloads of one stream say.
+pub fn rows_of(alloc: Global, payloads: &[Bytes]) -> Result<Rows, Fault> {
+    let mut stream = Stream::new(alloc);
+    for payload in payloads {
+        stream.message(alloc, payload)?;
     }
-    Ok(header)
+    stream.end(0, "");
+    let mut streams = Vec::new(alloc);
+    streams.push(stream)?;
+    join(streams)
 }
 
-// Adds the columns of a schema in IPC form, which is the message's first field, and the bytes behind that field.
-fn push_described(
-    alloc: Global,
-    told: &mut String,
-    message: &[u8],
-    form: &[u8],
-) -> Result<(), Fault> {
-    let mut first = Vec::new(alloc);
-    put_bytes(&mut first, 1, form)?;
-    let rest = message
-        .strip_prefix(first.as_slice())
-        .ok_or(Fault::BadProto)?;
-    let schema = read_schema(alloc, header_in(form)?)?;
-    push_schema(told, &schema)?;
-    told.push(' ')?;
-    Ok(push_digits(alloc, told, rest)?)
-}
-
-/// Adds the columns of a FlightInfo, and its bytes behind them.
-pub fn push_info(alloc: Global, told: &mut String, message: &[u8]) -> Result<(), Fault> {
-    let info = FlightInfo::read(alloc, message)?;
-    push_described(alloc, told, message, info.schema)
-}
-
-/// Adds the columns of a SchemaResult, and its bytes behind them.
-pub fn push_schema_result(alloc: Global, told: &mut String, message: &[u8]) -> Result<(), Fault> {
-    let form = read_wrapped(message)?;
-    push_described(alloc, told, message, form)
-}
-
-/// Adds the body of a FlightData, each byte by two digits.
-pub fn push_body(alloc: Global, told: &mut String, message: &Bytes) -> Result<(), Fault> {
-    let data = FlightData::read(message)?;
-    Ok(push_digits(alloc, told, data.data_body.as_slice())?)
-}
-
-/// Adds the columns that FlightData say, and their rows.
-pub fn push_rows(alloc: Global, told: &mut String, messages: &[Bytes]) -> Result<(), Fault> {
-    let mut reader = Reader::new();
-    let mut rows = String::new(alloc);
-    for message in messages {
-        let data = FlightData::read(message)?;
-        if let Some(batch) = reader.message(alloc, data.data_header, data.data_body)? {
-            push_batch(&mut rows, &batch)?;
+// Adds a row with a comma after each value.
+fn push_row(told: &mut String, batch: &Batch, row: usize, form: Form) -> Result<(), AllocError> {
+    for column in batch.columns() {
+        if row < column.len() {
+            let value = column.value_at(row);
+            match form {
+                Form::Kinds => write!(told, "{value:?}")?,
+                Form::Between | Form::After => push_value(told, value)?,
+            }
         }
+        told.push(',')?;
     }
-    push_schema(told, reader.schema().ok_or(Fault::BadBatch)?)?;
+    told.push(';')
+}
+
+/// Adds the rows of a batch.
+pub fn push_batch(told: &mut String, batch: &Batch, form: Form) -> Result<(), AllocError> {
+    if matches!(form, Form::Between) {
+        return told_rows::push_rows(told, batch);
+    }
+    for row in 0..batch.rows() {
+        push_row(told, batch, row, form)?;
+    }
+    Ok(())
+}
+
+/// Adds the columns, a space, and the rows.
+pub fn push_rows(told: &mut String, rows: &Rows, form: Form) -> Result<(), AllocError> {
+    push_schema(told, rows.schema())?;
     told.push(' ')?;
-    Ok(told.push_str(&rows)?)
+    for batch in rows.batches() {
+        push_batch(told, batch, form)?;
+    }
+    Ok(())
 }

@@ -1,4 +1,4 @@
-//! A run with ample memory. What is refused, and columns of every type, are rows of the program `put_cases`.
+//! A run with ample memory. What is refused, and columns of every type, are rows of the program `call_cases`.
 
 use bytes::Bytes;
 use flight_core::laws::{

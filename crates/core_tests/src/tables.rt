@@ -1,5 +1,5 @@
 //! Limits that take many puts or much memory, and what a version shows of its tables. What refuses a put, with columns
-//! of every type, are rows of the program `put_cases`.
+//! of every type, are rows of the program `call_cases`.
 
 use crate::first_run::{joined, part, rest};
 use crate::steps::{FIRST, SECOND};

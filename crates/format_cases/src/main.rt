@@ -1,46 +1,80 @@
-//! Reads cases, one a line: a kind and bytes in hex. Prints what the bytes are, one line a case.
-//!
-//! `vectors/flight/to_cases.py` writes the cases and the answers, from what other tools and hands say of them.
+//! Reads rows, one a line, and prints the answer of each. `README.md` describes the rows, and `vectors/formats/make.py`
+//! writes them and their answers, from what other tools and hands say of them.
 #![tactic(auto)]
 
-mod bytes_text;
+mod batches;
+mod bits;
+mod dates;
+mod ends;
+mod faults;
+mod fields;
+mod flat_buffers;
 mod messages;
 mod records;
+mod row;
+mod schemas;
+mod streams;
 mod values;
-mod wire;
+mod words;
 mod written;
 
+use crate::row::Row;
 use scan_base::Fault;
 use std::alloc::Global;
 use std::io;
 
-// What a case of this kind prints. A kind is looked for in one group after the other.
-fn answer(alloc: Global, kind: &str, bytes: &[u8]) -> Result<String, Fault> {
+// What a row of this room and case says.
+fn answer_in_room(alloc: Global, room: &str, case: &str, row: &Row) -> Result<String, Fault> {
+    match room {
+        "values" => values::answer(alloc, case, row),
+        "fields" => fields::answer(alloc, case, row),
+        "buffers" => flat_buffers::answer(alloc, case, row),
+        "messages" => messages::large(alloc, case, row),
+        "ends" => ends::answer(alloc, case, row),
+        "bits" => bits::answer(alloc, case, row),
+        "schemas" => schemas::answer(alloc, case, &row.bytes),
+        "batches" => batches::answer(alloc, case, row),
+        _ => Err(Fault::UnknownMethod),
+    }
+}
+
+// What a row of this kind says, that has bytes and numbers.
+fn answer_row(alloc: Global, kind: &str, row: &Row) -> Result<String, Fault> {
+    if let Some((room, case)) = kind.split_once('.') {
+        return answer_in_room(alloc, room, case, row);
+    }
+    let bytes = row.bytes.as_slice();
     if kind.starts_with("write_") {
         return written::answer(alloc, kind, bytes);
     }
     match kind {
-        "fault" => values::fault(alloc, bytes),
-        "status" => values::status(alloc, bytes),
-        "text" => values::text(alloc, bytes),
-        "fields" => wire::fields(alloc, bytes),
+        "fault" => faults::fault(alloc, bytes),
+        "status" => faults::status(alloc, bytes),
+        "text" => faults::text(alloc, bytes),
+        "fields" => fields::fields(alloc, bytes),
         "calls" => records::calls(alloc, bytes),
         "answers" => records::answers(alloc, bytes),
         _ => messages::answer(alloc, kind, bytes),
     }
 }
 
-// What a line prints.
-fn answer_line(alloc: Global, line: &str) -> Result<String, Fault> {
-    let (kind, digits) = line.split_once(' ').ok_or(Fault::BadFrame)?;
-    let bytes = hex::decode(alloc, digits).map_err(|_| Fault::BadFrame)?;
-    answer(alloc, kind, &bytes)
+// What a line prints. A note is printed again, and a line of one word is a stream.
+fn answer(alloc: Global, line: &str) -> Result<String, Fault> {
+    let Some((kind, words)) = line.split_once(' ') else {
+        return streams::messages(alloc, line);
+    };
+    match kind {
+        "#" => Ok(String::from_str(alloc, line)?),
+        "day" => dates::day(alloc, words),
+        "shown" => dates::shown(alloc, words),
+        _ => answer_row(alloc, kind, &Row::read(alloc, words)?),
+    }
 }
 
 fn main(rt: HostRuntime) -> io::Result<()> {
     for line in rt.lines(rt.alloc()) {
         let line = line?;
-        match answer_line(rt.alloc(), line.as_str()) {
+        match answer(rt.alloc(), line.as_str()) {
             Ok(text) => println!(rt; "{text}")?,
             Err(fault) => println!(rt; "{fault}")?,
         }

@@ -1,6 +1,6 @@
 //! The records of a connection, of which one byte comes at a time.
 
-use crate::bytes_text::Hex;
+use crate::words::{Word, push_part};
 use grpc_frame::{Inbox, Record};
 use scan_base::Fault;
 use std::alloc::{AllocError, Global};
@@ -16,29 +16,23 @@ pub fn answers(alloc: Global, bytes: &[u8]) -> Result<String, Fault> {
 }
 
 // Adds a record to a text.
-fn add_record(text: &mut String, record: &Record) -> Result<(), AllocError> {
+fn push_record(text: &mut String, record: &Record) -> Result<(), AllocError> {
     match record {
-        Record::Open(path) => {
-            let path = Hex(path.as_slice());
-            write!(text, "Open {path}, ")
-        }
-        Record::Message(message) => {
-            let message = Hex(message.as_slice());
-            write!(text, "Message {message}, ")
-        }
-        Record::End => text.push_str("End, "),
+        Record::Open(path) => push_part(text, &[Word::Text("Open"), Word::Bytes(path)]),
+        Record::Message(message) => push_part(text, &[Word::Text("Message"), Word::Bytes(message)]),
+        Record::End => push_part(text, &[Word::Text("End")]),
         Record::Status { code, text: told } => {
-            let (code, told) = (*code, told.as_str());
-            write!(text, "Status {code} {told}, ")
+            let (code, told) = (Word::Number(i128::from(*code)), Word::Text(told.as_str()));
+            push_part(text, &[Word::Text("Status"), code, told])
         }
     }
 }
 
 // Takes in a byte, and adds the record that is whole then.
-fn add_next(text: &mut String, inbox: &mut Inbox, byte: u8) -> Result<(), Fault> {
+fn push_next(text: &mut String, inbox: &mut Inbox, byte: u8) -> Result<(), Fault> {
     inbox.feed(&[byte])?;
     if let Some(record) = inbox.next()? {
-        add_record(text, &record)?;
+        push_record(text, &record)?;
     }
     Ok(())
 }
@@ -48,8 +42,8 @@ fn records(alloc: Global, inbox: Inbox, bytes: &[u8]) -> Result<String, Fault> {
     let mut inbox = inbox;
     let mut text = String::new(alloc);
     for byte in bytes {
-        if let Err(fault) = add_next(&mut text, &mut inbox, *byte) {
-            write!(text, "{fault}")?;
+        if let Err(fault) = push_next(&mut text, &mut inbox, *byte) {
+            text.push_str(fault.text().as_str())?;
             return Ok(text);
         }
     }

@@ -1,62 +1,95 @@
-//! Faults and texts.
+//! Values in memory, and predicates of many levels.
 
-use crate::bytes_text::Hex;
-use grpc_frame::{MemoryOutput, Outbox};
-use scan_base::{Fault, read_text};
+ghost use Rattle.std.specs.Prelude.{◌≡◌};
+ghost use Rattle.scan_base.specs.declared.comparison.Comparison.TheVariants.{Equal};
+ghost use Rattle.scan_base.specs.declared.predicate.Operand.TheVariants.{Column, Literal};
+ghost use Rattle.scan_base.specs.declared.value.Value.TheVariants.{Int};
+ghost use Rattle.scan_base.specs.Predicate.{comparing};
+ghost use Rattle.scan_base.specs.View.{pred_of};
+
+use crate::row::Row;
+use crate::words::{Word, told};
+use scan_base::{
+    Comparison, Fault, Items, Operand, Predicate, Text, Truth, Value, ValueRef, read_text,
+};
 use std::alloc::Global;
 
-static FAULTS: [Fault; 22] = [
-    Fault::BadFrame,
-    Fault::MessageTooLarge,
-    Fault::UnknownMethod,
-    Fault::BadProto,
-    Fault::UnknownCommand,
-    Fault::BadFlatbuffer,
-    Fault::UnsupportedArrow,
-    Fault::BadBatch,
-    Fault::TableMissing,
-    Fault::TableExists,
-    Fault::SchemaMismatch,
-    Fault::LimitReached,
-    Fault::BadSql {
-        position: 4294967295,
-    },
-    Fault::UnknownName,
-    Fault::TypeClash,
-    Fault::NotInSubset,
-    Fault::BadTicket,
-    Fault::VersionUnknown,
-    Fault::VersionExpired,
-    Fault::ResultTooLarge,
-    Fault::OutOfMemory,
-    Fault::Transport,
-];
-
-// The fault at a place of the table.
-fn fault_at(place: &[u8]) -> Option<Fault> {
-    let place = place.first()?;
-    FAULTS.get(usize::from(*place)).copied()
-}
-
-/// The text of the fault at a place, and its gRPC number.
-pub fn fault(alloc: Global, place: &[u8]) -> Result<String, Fault> {
-    let fault = fault_at(place).ok_or(Fault::BadFrame)?;
-    let code = fault.code().number();
-    Ok(format!(in alloc; "{fault}, {code}")?)
-}
-
-/// The record that answers a call with the fault at a place, or with none.
-pub fn status(alloc: Global, place: &[u8]) -> Result<String, Fault> {
-    let mut out = MemoryOutput::new(alloc);
-    let mut outbox = Outbox::new(alloc);
-    outbox.send_status(&mut out, fault_at(place))?;
-    outbox.flush(&mut out)?;
-    let out = Hex(out.as_slice());
-    Ok(format!(in alloc; "{out}")?)
-}
-
-/// The text that bytes are.
-pub fn text(alloc: Global, bytes: &[u8]) -> Result<String, Fault> {
+// `HEX`: a text that is copied, by each call that copies, and whether the copies are the same.
+fn copied(alloc: Global, bytes: &[u8]) -> Result<String, Fault> {
     let text = read_text(bytes, Fault::BadProto)?;
-    Ok(format!(in alloc; "{text}")?)
+    let value = Value::Text(Text::new(alloc, text)?.clone()?).copy()?;
+    let is_same = value.same(&ValueRef::Text(text).to_value(alloc)?);
+    let word = match value.borrowed() {
+        ValueRef::Text(copy) => Word::Text(copy),
+        _ => Word::Text("no text"),
+    };
+    told(alloc, &[word, Word::Flag(is_same)])
+}
+
+// A list of so many items: its length, and whether it is empty.
+fn list(alloc: Global, len: usize) -> Result<String, Fault> {
+    let mut list = Items::new(alloc);
+    for number in 0..len {
+        list.push(number)?;
+    }
+    told(
+        alloc,
+        &[
+            Word::Number(list.len() as i128),
+            Word::Flag(list.is_empty()),
+        ],
+    )
+}
+
+// `$0 = number`
+fn first_equals(number: i128) -> Predicate<usize>
+    ensures { pred_of result ≡ comparing Equal (Column 0) (Literal (Int number)) }
+{
+    Predicate::Compare {
+        comparison: Comparison::Equal,
+        left: Operand::Column(0),
+        right: Operand::Literal(Value::Int(number)),
+    }
+}
+
+// A tree of so many levels to the left is dropped, which needs no more stack than a short one.
+fn long_chain(alloc: Global, levels: usize) -> Result<String, Fault> {
+    let mut all = first_equals(2);
+    for _ in 0..levels {
+        all = Predicate::And(Box::new(alloc, all)?, Box::new(alloc, first_equals(3))?);
+    }
+    drop(all);
+    told(alloc, &[Word::Text("dropped")])
+}
+
+// Trees of so many levels to the left are looked at as far as the leftmost: whether `$0 = 2 AND $0 = 3 AND ..` is false
+// and `$0 = 3 OR $0 = 2 OR ..` true where the column is 3.
+fn chain_truths(alloc: Global, levels: usize) -> Result<String, Fault> {
+    let mut all = first_equals(2);
+    let mut any = first_equals(3);
+    for _ in 0..levels {
+        all = Predicate::And(Box::new(alloc, all)?, Box::new(alloc, first_equals(3))?);
+        any = Predicate::Or(Box::new(alloc, any)?, Box::new(alloc, first_equals(2))?);
+    }
+    let mut row = Items::new(alloc);
+    row.push(Value::Int(3))?;
+    let (all, any) = (all.truth(&row), any.truth(&row));
+    told(
+        alloc,
+        &[
+            Word::Flag(all == Truth::False),
+            Word::Flag(any == Truth::True),
+        ],
+    )
+}
+
+/// Values that are copied, and what is as large as a row says.
+pub fn answer(alloc: Global, case: &str, row: &Row) -> Result<String, Fault> {
+    match (case, row.numbers.as_slice()) {
+        ("copied", []) => copied(alloc, &row.bytes),
+        ("list", [len]) => list(alloc, *len),
+        ("long_chain", [levels]) => long_chain(alloc, *levels),
+        ("chain_truths", [levels]) => chain_truths(alloc, *levels),
+        _ => Err(Fault::UnknownMethod),
+    }
 }

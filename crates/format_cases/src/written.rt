@@ -1,6 +1,6 @@
 //! Messages that are read and written again.
 
-use crate::bytes_text::Hex;
+use crate::words::{Word, told};
 use bytes::Bytes;
 use flight_proto::{
     Action, Any, CommandGetTables, CommandStatementIngest, CommandStatementQuery, FlightData,
@@ -17,8 +17,7 @@ use std::alloc::Global;
 pub fn answer(alloc: Global, kind: &str, bytes: &[u8]) -> Result<String, Fault> {
     let mut out = Vec::new(alloc);
     write(&mut out, kind, bytes)?;
-    let out = Hex(&out);
-    Ok(format!(in alloc; "{out}")?)
+    told(alloc, &[Word::Bytes(&out)])
 }
 
 fn write(out: &mut Vec<u8>, kind: &str, bytes: &[u8]) -> Result<(), Fault> {
