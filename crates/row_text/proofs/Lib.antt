@@ -1,0 +1,11 @@
+pub mod Parts
+pub mod Escapes
+pub mod Cells
+pub mod Lined
+pub mod WorkedLines
+pub mod Quoting
+pub mod Recorded
+pub mod WorkedRecords
+pub mod Laid
+pub mod Widest
+pub mod WorkedTable

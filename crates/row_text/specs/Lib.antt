@@ -1,0 +1,4 @@
+pub mod Lines
+pub mod Records
+pub mod inside
+pub mod Tables
