@@ -1,11 +1,9 @@
 pub mod Parts
 pub mod Escapes
-pub mod Cells
-pub mod Lined
-pub mod WorkedLines
+pub mod Numbered
+pub mod Rows
 pub mod Quoting
-pub mod Recorded
-pub mod WorkedRecords
-pub mod Laid
 pub mod Widest
+pub mod WorkedLines
+pub mod WorkedRecords
 pub mod WorkedTable

@@ -7,7 +7,8 @@ use Rattle.arrow_schema.specs.declared.data_type.DataType.TheVariants.{Utf8, Dec
 use Rattle.arrow_schema.specs.declared.schema.Field.{Field}
 use Rattle.arrow_schema.specs.declared.schema.Schema.{Schema}
 use Rattle.calendar.proofs.Rows.{row_shown, before_shown}
-use Rattle.row_text.specs.Lines.{shown, line_of, row_line, lines_of, name_line}
+use Rattle.row_text.specs.Rows.{names_row, values_row}
+use Rattle.row_text.specs.Lines.{line_format, lines_of, name_line, quoted}
 
 -- ---- groups of a text, with their counts
 
@@ -30,19 +31,19 @@ no_rows = refl
 
 -- ---- values
 
-truths : row_line [] (Flag true ∷ Flag false ∷ Null ∷ []) ≡ codes "TRUE\tFALSE\tNULL\n"
+truths : values_row (line_format []) (Flag true ∷ Flag false ∷ Null ∷ []) ≡ codes "TRUE\tFALSE\tNULL\n"
 truths = refl
 
-numbers : row_line [] (Int (pos 0) ∷ Int (negsuc 127) ∷ Int (pos 36893488147419103230) ∷ []) ≡ codes "0\t-128\t36893488147419103230\n"
+numbers : values_row (line_format []) (Int (pos 0) ∷ Int (negsuc 127) ∷ Int (pos 36893488147419103230) ∷ []) ≡ codes "0\t-128\t36893488147419103230\n"
 unfolding digits
 numbers = refl
 
 -- it's, a tab, LF, CR and a backslash
-escapes : shown (Text (codes "it's\t\n\r\\")) ≡ codes "'it''s\\t\\n\\r\\\\'"
+escapes : quoted (codes "it's\t\n\r\\") ≡ codes "'it''s\\t\\n\\r\\\\'"
 escapes = refl
 
 -- a text that spells an escape, a text that is empty, and one that spells NULL
-spelled : row_line [] (Text (codes "\\n") ∷ Text [] ∷ Text (codes "NULL") ∷ []) ≡ codes "'\\\\n'\t''\t'NULL'\n"
+spelled : values_row (line_format []) (Text (codes "\\n") ∷ Text [] ∷ Text (codes "NULL") ∷ []) ≡ codes "'\\\\n'\t''\t'NULL'\n"
 spelled = refl
 
 -- ---- dates: a number of a column of dates is a day
@@ -50,13 +51,13 @@ spelled = refl
 abbrev dates : List Field
 dates = record { name = codes "d"; nullable = true; data_type = Date } ∷ []
 
-date : row_line dates (Int (pos 8766) ∷ []) ≡ codes "DATE '1994-01-01'\n"
+date : values_row (line_format dates) (Int (pos 8766) ∷ []) ≡ codes "DATE '1994-01-01'\n"
 date = ap (λ (text : List ℕ). text ++ codes "\n") row_shown
 
-before_the_years : row_line dates (Int (negsuc 719162) ∷ []) ≡ codes "DATE(-719163)\n"
+before_the_years : values_row (line_format dates) (Int (negsuc 719162) ∷ []) ≡ codes "DATE(-719163)\n"
 before_the_years = ap (λ (text : List ℕ). text ++ codes "\n") before_shown
 
-no_date : row_line dates (Null ∷ []) ≡ codes "NULL\n"
+no_date : values_row (line_format dates) (Null ∷ []) ≡ codes "NULL\n"
 no_date = refl
 
 -- ---- names: quotes stand as they are
@@ -65,5 +66,5 @@ name : name_line (codes "it's\ta\\b") ≡ codes "it's\\ta\\\\b\n"
 name = refl
 
 -- no column
-none : line_of [] ≡ codes "\n"
+none : names_row (line_format []) [] ≡ codes "\n"
 none = refl

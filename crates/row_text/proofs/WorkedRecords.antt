@@ -9,7 +9,8 @@ use Rattle.arrow_schema.specs.declared.data_type.DataType.TheVariants.{Utf8, Dec
 use Rattle.arrow_schema.specs.declared.schema.Field.{Field}
 use Rattle.arrow_schema.specs.declared.schema.Schema.{Schema}
 use Rattle.calendar.proofs.Rows.{row_within, before_within}
-use Rattle.row_text.specs.Records.{row_record, records_of}
+use Rattle.row_text.specs.Rows.{values_row}
+use Rattle.row_text.specs.Records.{csv_format, records_of}
 
 -- ---- groups of a text, with their counts
 
@@ -33,28 +34,28 @@ no_rows = refl
 
 -- ---- values
 
-truths : row_record [] (Flag true ∷ Flag false ∷ Null ∷ []) ≡ codes "true,false,\r\n"
+truths : values_row (csv_format []) (Flag true ∷ Flag false ∷ Null ∷ []) ≡ codes "true,false,\r\n"
 truths = refl
 
-numbers : row_record [] (Int (pos 0) ∷ Int (negsuc 127) ∷ Int (pos 36893488147419103230) ∷ []) ≡ codes "0,-128,36893488147419103230\r\n"
+numbers : values_row (csv_format []) (Int (pos 0) ∷ Int (negsuc 127) ∷ Int (pos 36893488147419103230) ∷ []) ≡ codes "0,-128,36893488147419103230\r\n"
 unfolding digits
 numbers = refl
 
 -- a quote, a comma, CR and LF
-quotes : row_record [] (Text (codes "say \"no\"") ∷ Text (codes "a,b") ∷ Text (codes "a\r\nb") ∷ []) ≡ codes "\"say \"\"no\"\"\",\"a,b\",\"a\r\nb\"\r\n"
+quotes : values_row (csv_format []) (Text (codes "say \"no\"") ∷ Text (codes "a,b") ∷ Text (codes "a\r\nb") ∷ []) ≡ codes "\"say \"\"no\"\"\",\"a,b\",\"a\r\nb\"\r\n"
 unfolding escaped
 quotes = refl
 
 -- a null that stands alone, and an empty text
-alone : row_record [] (Null ∷ []) ≡ codes "\"\"\r\n"
+alone : values_row (csv_format []) (Null ∷ []) ≡ codes "\"\"\r\n"
 alone = refl
 
-empty : row_record [] (Text [] ∷ []) ≡ codes "\"\"\r\n"
+empty : values_row (csv_format []) (Text [] ∷ []) ≡ codes "\"\"\r\n"
 unfolding escaped
 empty = refl
 
 -- two nulls
-nulls : row_record [] (Null ∷ Null ∷ []) ≡ codes ",\r\n"
+nulls : values_row (csv_format []) (Null ∷ Null ∷ []) ≡ codes ",\r\n"
 nulls = refl
 
 -- ---- dates: a number of a column of dates is a day
@@ -62,14 +63,14 @@ nulls = refl
 abbrev dates : List Field
 dates = record { name = codes "d"; nullable = true; data_type = Date } ∷ record { name = codes "k"; nullable = true; data_type = Utf8 } ∷ []
 
-date : row_record dates (Int (pos 8766) ∷ Null ∷ []) ≡ codes "1994-01-01,\r\n"
+date : values_row (csv_format dates) (Int (pos 8766) ∷ Null ∷ []) ≡ codes "1994-01-01,\r\n"
 unfolding digits
 date = ap (λ (date : Option (List ℕ)). unwrap_or date (codes "8766") ++ codes ",\r\n") row_within
 
-before_the_years : row_record dates (Int (negsuc 719162) ∷ Null ∷ []) ≡ codes "-719163,\r\n"
+before_the_years : values_row (csv_format dates) (Int (negsuc 719162) ∷ Null ∷ []) ≡ codes "-719163,\r\n"
 unfolding digits
 before_the_years = ap (λ (date : Option (List ℕ)). unwrap_or date (codes "-719163") ++ codes ",\r\n") before_within
 
-no_date : row_record dates (Null ∷ Int (pos 1) ∷ []) ≡ codes ",1\r\n"
+no_date : values_row (csv_format dates) (Null ∷ Int (pos 1) ∷ []) ≡ codes ",1\r\n"
 unfolding digits
 no_date = refl

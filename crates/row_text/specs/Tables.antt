@@ -1,25 +1,28 @@
 -- What is printed of a table for people: its columns, aligned between bars, and how many rows it has.
-use Rattle.std.specs.Prelude.{ℕ, ◌+◌, ◌-◌, ◌==◌, ◌||◌, Bool, true, false, List, [], ◌∷◌, ◌++◌, map, length, take, max, min, get_or, codes, chars, unwrap_or, if◌then◌else◌}
+use Rattle.std.specs.Prelude.{ℕ, ◌+◌, ◌-◌, ◌==◌, ◌||◌, Bool, true, false, List, [], ◌∷◌, ◌++◌, map, length, take, max, min, get_or, codes, chars, if◌then◌else◌}
 use Rattle.std.specs.List.{count_by, flat_map}
-use Rattle.std.specs.Fmt.{decimal, signed_decimal}
+use Rattle.std.specs.Fmt.{decimal}
 use Rattle.unicode_width.specs.Width.{str_width}
-use Rattle.calendar.specs.Shown.{date_within}
 use Rattle.scan_base.specs.declared.value.Value.{Value}
-use Rattle.scan_base.specs.declared.value.Value.TheVariants.{Null, Int, Text}
+use Rattle.scan_base.specs.declared.value.Value.TheVariants.{Null, Text}
 use Rattle.arrow_schema.specs.declared.data_type.DataType.{DataType}
-use Rattle.arrow_schema.specs.declared.data_type.DataType.TheVariants.{Integer, Decimal128, Date}
+use Rattle.arrow_schema.specs.declared.data_type.DataType.TheVariants.{Integer, Decimal128}
 use Rattle.arrow_schema.specs.declared.schema.Field.{Field}
 use Rattle.arrow_schema.specs.declared.schema.Schema.{Schema}
-use Rattle.row_text.specs.Lines.{escaped, shown}
-use Rattle.row_text.specs.declared.table_cells.Shape.{Shape}
+use Rattle.row_text.specs.Rows.{Format, Notation, names_row, plain_day, type_shown, value_text, values_row}
+use Rattle.row_text.specs.Lines.{escaped, line_notation}
+use Rattle.row_text.specs.declared.shape.Shape.{Shape}
 
 -- ---- what stands in a cell
 
--- a value: as in a line, but a date and a text stand without quotes
-abbrev pub cell_text : DataType → Value → List ℕ
-cell_text Date (Int day) = unwrap_or (date_within day) (signed_decimal day)
-cell_text _ (Text text) = escaped text
-cell_text _ value = shown value
+-- values: as in a line, but a text and a date stand without quotes
+abbrev pub table_notation : Notation
+table_notation = record {
+  null = line_notation.null;
+  truth = line_notation.truth;
+  text = escaped;
+  day = plain_day;
+}
 
 -- ---- how wide it is
 
@@ -38,7 +41,7 @@ text_width text = min most_width (str_width false (chars text)) + min most_width
 -- how many a value takes
 abbrev pub value_width : DataType → Value → ℕ
 value_width _ (Text text) = text_width text
-value_width data_type value = length (cell_text data_type value)
+value_width data_type value = length (value_text table_notation data_type value)
 
 -- the greatest of a number and of these
 abbrev pub greatest : ℕ → List ℕ → ℕ
@@ -81,42 +84,41 @@ before shape taken = if stands_right shape.data_type then blanks (shape.width - 
 abbrev pub behind : Shape → ℕ → List ℕ
 behind shape taken = if stands_right shape.data_type then [] else blanks (shape.width - taken)
 
--- a text that takes so many columns, behind a bar
-abbrev pub cell : Shape → ℕ → List ℕ → List ℕ
-cell shape taken text = (codes "| " ++ before shape taken) ++ (text ++ (behind shape taken ++ codes " "))
+-- a text that takes so many columns, in the width of its column
+abbrev pub padded : Shape → ℕ → List ℕ → List ℕ
+padded shape taken text = before shape taken ++ (text ++ behind shape taken)
 
--- the cell of a value
+-- a value
 abbrev pub value_cell : Shape → Value → List ℕ
-value_cell shape value = cell shape (value_width shape.data_type value) (cell_text shape.data_type value)
+value_cell shape value = padded shape (value_width shape.data_type value) (value_text table_notation shape.data_type value)
 
--- the cell of a column's name
-abbrev pub name_cell : Field → ℕ → List ℕ
-name_cell field width = cell (record { data_type = field.data_type; width = width }) (text_width field.name) (escaped field.name)
+-- a column's name
+abbrev pub name_cell : Shape → List ℕ → List ℕ
+name_cell shape name = padded shape (text_width name) (escaped name)
+
+-- ---- rows
+
+-- the column of a number: its type and its width
+abbrev pub shape_of : List Field → List ℕ → ℕ → Shape
+shape_of fields widths number = record { data_type = type_shown fields number; width = get_or widths number 0 }
+
+-- rows in columns of these widths: a bar before each cell and after the last
+abbrev pub table_format : List Field → List ℕ → Format
+table_format fields widths = record {
+  start = codes "| ";
+  between = codes " | ";
+  end = codes " |\n";
+  name = λ number field. name_cell (shape_of fields widths number) field.name;
+  value = λ number count. value_cell (shape_of fields widths number);
+}
 
 -- dashes under a name
 abbrev pub rule_cell : ℕ → List ℕ
 rule_cell width = codes "|-" ++ (dashes width ++ codes "-")
 
--- ---- lines
-
--- cells in a line
-abbrev pub line_of : List (List ℕ) → List ℕ
-line_of cells = flat_map (λ cell. cell) cells ++ codes "|\n"
-
--- the cells of the names
-abbrev pub name_cells : List Field → List ℕ → List (List ℕ)
-name_cells (field ∷ fields) (width ∷ widths) = name_cell field width ∷ name_cells fields widths
-name_cells _ _ = []
-
--- the cells of a row
-abbrev pub value_cells : List Field → List ℕ → List Value → List (List ℕ)
-value_cells (field ∷ fields) (width ∷ widths) (value ∷ row) =
-    value_cell (record { data_type = field.data_type; width = width }) value ∷ value_cells fields widths row
-value_cells _ _ _ = []
-
--- the line of a row
-abbrev pub row_line : List Field → List ℕ → List Value → List ℕ
-row_line fields widths row = line_of (value_cells fields widths row)
+-- the line of them
+abbrev pub rule_line : List ℕ → List ℕ
+rule_line widths = flat_map rule_cell widths ++ codes "|\n"
 
 -- how many rows there are
 abbrev pub count_line : ℕ → List ℕ
@@ -125,8 +127,8 @@ count_line rows = decimal rows ++ codes " rows\n"
 -- the names, dashes, the rows and their count, in columns of these widths
 abbrev pub table_by : List Field → List ℕ → List (List Value) → List ℕ
 table_by fields widths rows =
-    line_of (name_cells fields widths)
-    ++ (line_of (map rule_cell widths) ++ (flat_map (row_line fields widths) rows ++ count_line (length rows)))
+    names_row (table_format fields widths) fields
+    ++ (rule_line widths ++ (flat_map (values_row (table_format fields widths)) rows ++ count_line (length rows)))
 
 -- all that is printed of a table
 abbrev pub table_of : Schema → List (List Value) → List ℕ

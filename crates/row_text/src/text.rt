@@ -1,45 +1,39 @@
-//! Texts and names, as they are printed.
+//! Texts, as they are spelled.
 
-ghost use Rattle.std.specs.Prelude.{◌≡◌, ◌∷◌, [], MatchOption};
+ghost use Rattle.std.specs.Prelude.{◌≡◌, ◌∷◌, [], ℕ, List, MatchOption};
 ghost use Rattle.std.specs.List.{flat_map};
 ghost use Rattle.grpc_frame.specs.Ends.{CanFail, CountsFailure, FailsByTransport};
 ghost use Rattle.grpc_frame.specs.Sending.{Sends};
-ghost use Rattle.row_text.specs.Lines.{escaped_byte, spelled_byte};
 
 use grpc_frame::{Outbox, Output};
 use scan_base::Fault;
 
-/// How a text is spelled.
-#[derive(Clone, Copy, Debug, PartialEq, Eq)]
-pub(crate) enum Spelling {
-    /// A backslash, a tab, LF and CR are written as a backslash and a letter.
-    Escaped,
-    /// So are they, and single quotes are doubled.
-    Quoted,
+/// How the bytes of a text are spelled.
+pub(crate) trait Spelling {
+    // What is written in the place of a byte.
+    ghost spelled: { ℕ → List ℕ };
+
+    /// What is written in the place of a byte, where it is not the byte itself.
+    fn escape(&self, byte: u8) -> Option<&'static [u8]>
+        ensures { MatchOption result (spelled byte ≡ byte ∷ []) (λ escape. spelled byte ≡ escape.now) };
 }
 
-// What is printed in the place of a byte of a name, where it is not the byte itself.
-fn escape_in_name(byte: u8) -> Option<&'static [u8]>
-    ensures { MatchOption result (escaped_byte byte ≡ byte ∷ []) (λ escape. escaped_byte byte ≡ escape.now) }
-{
-    match byte {
-        b'\\' => Some(b"\\\\"),
-        b'\t' => Some(b"\\t"),
-        b'\n' => Some(b"\\n"),
-        b'\r' => Some(b"\\r"),
-        _ => None,
-    }
-}
+/// A backslash, a tab, LF and CR are written as a backslash and a letter.
+pub(crate) struct Escaped;
 
-// What is printed in the place of a byte of a text, where it is not the byte itself.
-fn escape(byte: u8, spelling: Spelling) -> Option<&'static [u8]>
-    ensures { MatchOption result (spelled_byte spelling byte ≡ byte ∷ [])
-        (λ escape. spelled_byte spelling byte ≡ escape.now) }
-{
-    match spelling {
-        Spelling::Escaped => escape_in_name(byte),
-        Spelling::Quoted if byte == b'\'' => Some(b"''"),
-        Spelling::Quoted => escape_in_name(byte),
+impl Spelling for Escaped {
+    ghost use Rattle.row_text.specs.Lines.{escaped_byte};
+
+    ghost spelled = { escaped_byte };
+
+    fn escape(&self, byte: u8) -> Option<&'static [u8]> {
+        match byte {
+            b'\\' => Some(b"\\\\"),
+            b'\t' => Some(b"\\t"),
+            b'\n' => Some(b"\\n"),
+            b'\r' => Some(b"\\r"),
+            _ => None,
+        }
     }
 }
 
@@ -48,22 +42,22 @@ fn escape(byte: u8, spelling: Spelling) -> Option<&'static [u8]>
 /// # Errors
 ///
 /// `Fault::Transport` where a write failed. It is counted.
-pub(crate) fn send_text<W: Output>(
+pub(crate) fn send_spelled<S: Spelling, W: Output>(
+    spelling: &S,
     writer: &mut W,
     outbox: &mut Outbox,
     text: &str,
-    spelling: Spelling,
 ) -> Result<(), Fault>
     requires { CanFail (W.failures writer.old) }
     ensures bytes { Sends result (W.contents writer.old) (W.contents writer.new)
-        outbox.old outbox.new (flat_map (spelled_byte spelling) text.now) }
+        outbox.old outbox.new (flat_map S.spelled text.now) }
     ensures counted { CountsFailure result (W.failures writer.old) (W.failures writer.new) }
     ensures fault { FailsByTransport result }
 {
     let bytes = text.as_bytes();
     let mut from = 0;
     for (at, byte) in bytes.iter().enumerate() {
-        if let Some(escape) = escape(*byte, spelling) {
+        if let Some(escape) = spelling.escape(*byte) {
             outbox.send_parts(writer, &bytes[from..at], escape)?;
             from = at + 1;
         }

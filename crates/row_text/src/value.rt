@@ -1,105 +1,128 @@
-//! Values, as they are printed.
+//! Values, as they are written.
 
+ghost use Rattle.std.specs.Prelude.{◌≡◌};
 ghost use Rattle.scan_base.specs.Value.{value_of};
 ghost use Rattle.grpc_frame.specs.Ends.{CanFail, CountsFailure, FailsByTransport};
 ghost use Rattle.grpc_frame.specs.Sending.{Sends};
-ghost use Rattle.calendar.specs.Shown.{date_shown};
-ghost use Rattle.row_text.specs.Lines.{next_cell, quoted, shown, shown_as};
+ghost use Rattle.row_text.specs.Rows.{Notation, plain_day, type_shown, value_text};
 
-use crate::text::{Spelling, send_text};
-use arrow_schema::DataType;
-use calendar::date_shown;
+use arrow_schema::{DataType, Field};
+use calendar::date_of;
 use grpc_frame::{Outbox, Output};
 use itoa::Buffer;
 use scan_base::{Fault, ValueRef};
 
-// Sends a value.
-fn send_value<W: Output>(
+/// How values are written.
+pub(crate) trait ValueFormat {
+    // How they are.
+    ghost notation: { Notation };
+
+    /// What a null is written as.
+    fn null(&self) -> &'static [u8]
+        ensures { result.now ≡ notation.null };
+
+    /// What a truth value is written as.
+    fn truth(&self, flag: bool) -> &'static [u8]
+        ensures { result.now ≡ notation.truth flag };
+
+    /// Sends a text.
+    ///
+    /// # Errors
+    ///
+    /// `Fault::Transport` where a write failed. It is counted.
+    fn send_text<W: Output>(
+        &self,
+        writer: &mut W,
+        outbox: &mut Outbox,
+        text: &str,
+    ) -> Result<(), Fault>
+        requires { CanFail (W.failures writer.old) }
+        ensures bytes { Sends result (W.contents writer.old) (W.contents writer.new)
+            outbox.old outbox.new (notation.text text.now) }
+        ensures counted { CountsFailure result (W.failures writer.old) (W.failures writer.new) }
+        ensures fault { FailsByTransport result };
+
+    /// Sends a day.
+    ///
+    /// # Errors
+    ///
+    /// `Fault::Transport` where a write failed. It is counted.
+    fn send_day<W: Output>(
+        &self,
+        writer: &mut W,
+        outbox: &mut Outbox,
+        day: i128,
+    ) -> Result<(), Fault>
+        requires { CanFail (W.failures writer.old) }
+        ensures bytes { Sends result (W.contents writer.old) (W.contents writer.new)
+            outbox.old outbox.new (notation.day day) }
+        ensures counted { CountsFailure result (W.failures writer.old) (W.failures writer.new) }
+        ensures fault { FailsByTransport result };
+}
+
+/// A value, and the type of its column.
+#[derive(Clone, Copy)]
+pub(crate) struct TypedValue<'a> {
+    pub data_type: DataType,
+    pub value: ValueRef<'a>,
+}
+
+/// The type of a column, by its number. One without a field is shown as texts are: each value by itself.
+pub(crate) fn type_shown(fields: &[Field], number: usize) -> DataType
+    ensures { result ≡ type_shown fields.now number }
+{
+    match fields.get(number) {
+        Some(field) => field.data_type,
+        None => DataType::Utf8,
+    }
+}
+
+/// Sends a value, as a format writes it.
+///
+/// # Errors
+///
+/// `Fault::Transport` where a write failed. It is counted.
+pub(crate) fn send_value<F: ValueFormat, W: Output>(
+    format: &F,
     writer: &mut W,
     outbox: &mut Outbox,
-    value: ValueRef<'_>,
+    typed: TypedValue<'_>,
 ) -> Result<(), Fault>
     requires { CanFail (W.failures writer.old) }
     ensures bytes { Sends result (W.contents writer.old) (W.contents writer.new)
-        outbox.old outbox.new (shown (value_of value.entry)) }
+        outbox.old outbox.new (value_text F.notation typed.entry.data_type (value_of typed.entry.value)) }
     ensures counted { CountsFailure result (W.failures writer.old) (W.failures writer.new) }
     ensures fault { FailsByTransport result }
 {
-    match value {
-        ValueRef::Null => outbox.send_part(writer, b"NULL"),
-        ValueRef::Bool(true) => outbox.send_part(writer, b"TRUE"),
-        ValueRef::Bool(false) => outbox.send_part(writer, b"FALSE"),
-        ValueRef::Int(number) => {
+    match (typed.data_type, typed.value) {
+        (DataType::Date, ValueRef::Int(day)) => format.send_day(writer, outbox, day),
+        (_, ValueRef::Int(number)) => {
             outbox.send_part(writer, Buffer::new().format(number).as_bytes())
         }
-        ValueRef::Text(text) => send_quoted(writer, outbox, text),
+        (_, ValueRef::Text(text)) => format.send_text(writer, outbox, text),
+        (_, ValueRef::Null) => outbox.send_part(writer, format.null()),
+        (_, ValueRef::Bool(flag)) => outbox.send_part(writer, format.truth(flag)),
     }
 }
 
-// Sends a text in single quotes.
-fn send_quoted<W: Output>(writer: &mut W, outbox: &mut Outbox, text: &str) -> Result<(), Fault>
-    requires { CanFail (W.failures writer.old) }
-    ensures bytes { Sends result (W.contents writer.old) (W.contents writer.new)
-        outbox.old outbox.new (quoted text.now) }
-    ensures counted { CountsFailure result (W.failures writer.old) (W.failures writer.new) }
-    ensures fault { FailsByTransport result }
-{
-    outbox.send_part(writer, b"'")?;
-    send_text(writer, outbox, text, Spelling::Quoted)?;
-    outbox.send_part(writer, b"'")
-}
-
-/// Sends a value of a column of a type.
+/// Sends a day without quotes: its date, or else its number.
 ///
 /// # Errors
 ///
 /// `Fault::Transport` where a write failed. It is counted.
-pub(crate) fn send_cell<W: Output>(
+pub(crate) fn send_plain_day<W: Output>(
     writer: &mut W,
     outbox: &mut Outbox,
-    data_type: DataType,
-    value: ValueRef<'_>,
+    day: i128,
 ) -> Result<(), Fault>
     requires { CanFail (W.failures writer.old) }
     ensures bytes { Sends result (W.contents writer.old) (W.contents writer.new)
-        outbox.old outbox.new (shown_as data_type (value_of value.entry)) }
+        outbox.old outbox.new (plain_day day) }
     ensures counted { CountsFailure result (W.failures writer.old) (W.failures writer.new) }
     ensures fault { FailsByTransport result }
 {
-    match (data_type, value) {
-        (DataType::Date, ValueRef::Int(day)) => send_day(writer, outbox, day),
-        (_, value) => send_value(writer, outbox, value),
+    match date_of(day) {
+        Some(date) => outbox.send_part(writer, date.as_str().as_bytes()),
+        None => outbox.send_part(writer, Buffer::new().format(day).as_bytes()),
     }
-}
-
-// Sends a day as it is printed.
-fn send_day<W: Output>(writer: &mut W, outbox: &mut Outbox, day: i128) -> Result<(), Fault>
-    requires { CanFail (W.failures writer.old) }
-    ensures bytes { Sends result (W.contents writer.old) (W.contents writer.new)
-        outbox.old outbox.new (date_shown day) }
-    ensures counted { CountsFailure result (W.failures writer.old) (W.failures writer.new) }
-    ensures fault { FailsByTransport result }
-{
-    outbox.send_part(writer, date_shown(day).as_str().as_bytes())
-}
-
-/// Sends a tab, and then a value of a column of a type.
-///
-/// # Errors
-///
-/// `Fault::Transport` where a write failed. It is counted.
-pub(crate) fn send_next_cell<W: Output>(
-    writer: &mut W,
-    outbox: &mut Outbox,
-    data_type: DataType,
-    value: ValueRef<'_>,
-) -> Result<(), Fault>
-    requires { CanFail (W.failures writer.old) }
-    ensures bytes { Sends result (W.contents writer.old) (W.contents writer.new)
-        outbox.old outbox.new (next_cell (shown_as data_type (value_of value.entry))) }
-    ensures counted { CountsFailure result (W.failures writer.old) (W.failures writer.new) }
-    ensures fault { FailsByTransport result }
-{
-    outbox.send_part(writer, b"\t")?;
-    send_cell(writer, outbox, data_type, value)
 }
