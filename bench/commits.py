@@ -27,7 +27,7 @@ from measured import Measured  # noqa: E402
 from trees import batch, field, integer, schema  # noqa: E402
 from wire import call, chunk, descriptor, packed, record_message, scalar  # noqa: E402
 
-MEASURED, BEGIN, END = 1_000, "<!-- the table that bench/commits.py prints -->", "<!-- end -->"
+MEASURED = 1_000  # puts
 STATUS_OK = b"\x04\x00\x00\x00"
 CREATE, APPEND = b"\x0a\x02\x08\x01\x12", b"\x0a\x04\x08\x02\x10\x02\x12"
 
@@ -118,11 +118,11 @@ def main():
     parser.add_argument("--runs", type=int, default=5, help="of how many runs the least is taken (5)")
     words = parser.parse_args()
     path, measured = program(words.program), Measured(words.program)
-    print(f"{BEGIN}\n\n| An append of one row | microseconds | bytes held |\n|---|---:|---:|")
+    print("| An append of one row | microseconds | bytes held |\n|---|---:|---:|")
     for name, before in CASES:
         found = [measure(path, before) for _ in range(words.runs)]
         print(f"| {name} | {min(took for took, _ in found) * 1e6:.1f} | {min(more for _, more in found):,.0f} |")
-    print(f"\n{measured.line()}\n\n{END}")
+    print(f"\n{measured.line()}")
 
 
 if __name__ == "__main__":

@@ -10,7 +10,7 @@ x86-64). First it reads both answers, which must be the same in every byte of ea
 it measures both: processor time, the least of N runs (5) or of those that a minute takes, and the most memory held.
 "fetch" is the time with the fetch less that of the puts alone, and "C++" its time with the answer less that of reading
 the columns alone; both write to /dev/null. With --rows the tables have fewer rows, to try the script. A case of colliding keys has keys that fall into one bucket of the C++
-table. The table that is printed is the one of bench/README.md. Build the program first, as for `pipe.py`. It ends with
+table. bench/README.md has a part of the table printed. Build the program first, as for `pipe.py`. It ends with
 1 where the answers of a case differ or one was refused, and says so in place of its figures.
 """
 

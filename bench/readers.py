@@ -11,7 +11,7 @@ throws its answers away, so readers copy none of them. Each case has a server of
 until 60,000 small puts or 2,000 large ones were made, since a server takes 65,536 and keeps them all. All cases are gone
 through N times (5), and of each the run with the most fetches is told, and the least time of a put. It also tells how
 much of the processors the server and the clients took, how much others did beside them, and what the server holds at the end.
-The tables printed are those of bench/README.md. Build the program first, as for pipe.py.
+bench/README.md has a part of the tables printed. Build the program first, as for pipe.py.
 """
 
 import argparse

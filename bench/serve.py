@@ -7,8 +7,8 @@ It measures 10,000 fetches of two rows, and tells their median, beside a plain e
 put of 300 MB (three columns of Int64 in batches of 65,536 rows) and `SELECT *` of it, beside a plain copy of as many bytes
 over a socket, which keeps and looks at none of them. bench/sockets.cpp is the client of both, and the plain server; it
 is compiled with g++. Server and plain server are run in turns, and the least of N runs (3) is told. It also tells what the
-server holds for each byte put, and the most that it held while it answered. The tables printed are those of
-bench/README.md. Build the program first, as for pipe.py.
+server holds for each byte put, and the most that it held while it answered. bench/README.md has the
+table printed. Build the program first, as for pipe.py.
 """
 
 import argparse

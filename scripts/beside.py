@@ -136,7 +136,7 @@ class Vectors:
 
 
 WORKERS = ["--workers", "1,2,4,16"]
-STEPS = [Script("pages", ["--check"], of_program=False), Script("session"), Script("session", ["--page", "docs/CLIENTS.md"]), Script("serving"), Script("each_allocation"),
+STEPS = [Script("pages", ["--check"], of_program=False), Script("session"), Script("serving"), Script("each_allocation"),
          Script("cut_input"), Script("lying_bytes"), Script("large_answers", ["--workers", "1,4"]),
          Script("interleavings", ["--count", "200", "--large", "2", *WORKERS]),
          Script("sqlite_answers", ["--count", "100", "--wide", "1", "--large", "1", "--batched", "5", *WORKERS]),

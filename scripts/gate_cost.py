@@ -4,12 +4,16 @@
     python3 scripts/gate_cost.py --run LOG        runs the gate (.ci/run), its output into LOG
     python3 scripts/gate_cost.py --watch PID LOG  watches a gate that runs already: PID is the process of `rt ci`
     python3 scripts/gate_cost.py LOG              prints the table, in markdown
-    python3 scripts/gate_cost.py --write LOG      sets it into bench/README.md, in the place of the one that is there
+    python3 scripts/gate_cost.py --write LOG      sets it into bench/README.md, in the place of the one that is there,
+                                                  and writes bench/gate.csv
 
 The gate's own output says which crates were proved, which edits were refused and which programs ran, but no time. So
 the first two also look at the gate's processes, three times a second, and write what each cost into LOG.times: first what
 was measured, when and where, then a line for each process, with its crate, its kind, its processor seconds, and when it
-began and ended. They change nothing of what the gate does. Without that file the table has the counts alone, and says so.
+began and ended. They change nothing of what the gate does. Without that file no seconds are known, and the table says so.
+
+The table has the sum of all crates, and the crates that take most (SHOWN_CRATES). bench/gate.csv has each crate, with how
+many functions, test functions and edits it has.
 
 The kinds: `proof` (the crate from nothing), `tests` (the crate once more, with its test functions, and their run),
 `wrong bodies` (each edit of must-fail, and the crate once more over what they left), `programs` (compiling and running
@@ -28,6 +32,7 @@ import re
 import resource
 import subprocess
 import sys
+import textwrap
 import time
 
 sys.dont_write_bytecode = True
@@ -36,6 +41,8 @@ from measured import TOP, Measured  # noqa: E402
 
 KINDS = ("proof", "tests", "wrong bodies", "programs")
 BEGIN, END = "<!-- made by scripts/gate_cost.py -->", "<!-- end -->"
+PAGE_PATH, COSTS, COLUMNS = TOP / "bench/README.md", TOP / "bench/gate.csv", 100
+SHOWN_CRATES = 3  # crates that the page shows: those that take most
 WHOLE_MINUTES = 150  # with all stages that are planned
 PROOF_SECONDS, TEST_SECONDS, MOST_EDITS = 400, 10, 24  # of a crate's proof, of a test function, and wrong bodies in all
 # (a gate that took 327 processor minutes beside others proved these in 830 s; on a quiet machine it took 159 minutes)
@@ -213,18 +220,30 @@ def order_of(names):
     return [name for name in listed if name in names] + sorted(set(names) - set(listed))
 
 
+def cells_of(seconds, names):
+    """What some crates take together, of each kind and in all. Nothing is an empty cell."""
+    costs = [sum(seconds[name, kind] for name in names) for kind in KINDS]
+    return [f"{cost:.0f}" if cost else "" for cost in (*costs, sum(costs))]
+
+
 def rows_of(counts, seconds):
-    """The rows of the table."""
+    """The rows of the page's table: all crates together, and those that take most."""
     names = order_of(set(counts) | {crate for crate, _ in seconds})
-    lines = ["| Crate | " + " | ".join(KINDS) + " | all | functions | tests | edits |", "|---" + "|---:" * (len(KINDS) + 4) + "|"]
+    dearest = sorted(names, key=lambda name: -sum(seconds[name, kind] for kind in KINDS))[:SHOWN_CRATES]
+    lines = [f"| CPU seconds | {' | '.join(KINDS)} | all |", "|---" + "|---:" * (len(KINDS) + 1) + "|"]
+    for title, among in [("**all crates**", names), *((name, [name]) for name in dearest)]:
+        lines.append(re.sub(r"\|  (?=\|)", "| ", f"| {title} | {' | '.join(cells_of(seconds, among))} |"))
+    return lines
 
-    def row(title, among):
-        costs = {kind: sum(seconds[name, kind] for name in among) for kind in KINDS}
-        cells = [f"{costs[kind]:.0f}" if costs[kind] else "" for kind in KINDS] + [f"{sum(costs.values()):.0f}"]
-        cells += [str(sum(counts[name][what] for name in among) or "") for what in ("functions", "tests", "edits")]
-        return re.sub(r"\|  (?=\|)", "| ", f"| {title} | {' | '.join(cells)} |")
 
-    return lines + [row(name, [name]) for name in names] + [row("**all**", names)]
+def csv_of(counts, seconds):
+    """Each crate, as CSV: the seconds of each kind and in all, its functions, test functions and wrong bodies."""
+    names = order_of(set(counts) | {crate for crate, _ in seconds})
+    lines = [",".join(["crate", *(f"{kind} (CPU s)" for kind in (*KINDS, "all")), "functions", "test functions", "edits"])]
+    for name in names:
+        numbers = [str(counts[name][what] or "") for what in ("functions", "tests", "edits")]
+        lines.append(",".join([name, *cells_of(seconds, [name]), *numbers]))
+    return "\n".join(lines) + "\n"
 
 
 def over_budget(counts, seconds, whole, slower):
@@ -237,37 +256,47 @@ def over_budget(counts, seconds, whole, slower):
     return over + (["the whole"] if whole and whole[0] > 60 * WHOLE_MINUTES * slower else [])
 
 
+def wrapped(said, indent=""):
+    """A paragraph in lines of the page."""
+    return textwrap.fill(said, COLUMNS, subsequent_indent=indent, break_long_words=False, break_on_hyphens=False)
+
+
+def notes_of(counts, seconds, whole, last):
+    """What stands after the table."""
+    notes, slower = [], slower_by(seconds)
+    if whole is not None:
+        total, wall, held = whole
+        notes.append(f"{total / 60:.0f} CPU minutes in {wall / 60:.0f} minutes, and at most {held / 1e9:.1f} GB held at once.")
+        notes.append(f"{total - sum(seconds.values()):.0f} seconds of them are in no row: the gate's own reading and layout checks.")
+        notes.append(f"This run was {slower:.2f} times as slow as the quiet machine, by the proofs of {len(YARD)} crates. So it "
+                     f"takes **{total / 60 / slower:.0f} minutes of the quiet machine**.")
+    weak = [f"{name} {counts[name]['only because']}" for name in order_of(counts) if counts[name]["only because"]]
+    notes.append(f"The gate's last line: `{last}`.")
+    notes += [f"Refused only because a written proof no longer fits: {', '.join(weak)}."] if weak else []
+    over = over_budget(counts, seconds, whole, slower)
+    notes += [f"Over the budget: {', '.join(over)}."] if over else ["All of it is within the budget."] if whole else []
+    return [wrapped(f"- {note}", "  ") for note in notes]
+
+
 def table_of(log):
-    """The table, in markdown, with the budget and what was measured above it."""
+    """The part of the page, in markdown: the budget, what was measured, and the table. And each crate, as CSV."""
     counts, last = counts_of(pathlib.Path(log).read_text(errors="replace"))
     path = pathlib.Path(f"{log}.times")
     none = collections.Counter(), None, f"No times: there is no {path}."
     seconds, whole, measured = times_of(path) if path.exists() else none
-    slower = slower_by(seconds)
-    lines = [f"The budget, in processor time of a quiet machine: at most {WHOLE_MINUTES} minutes. The proof of a crate has "
-             f"{PROOF_SECONDS} seconds, and a test function {TEST_SECONDS}. There are at most {MOST_EDITS} wrong bodies.", "", measured, "", *rows_of(counts, seconds), ""]
-    if whole is not None:
-        total, wall, held = whole
-        lines.append(f"{total / 60:.0f} processor minutes in {wall / 60:.0f} minutes, with at most {held / 1e9:.1f} GB held at once. "
-                     f"{total - sum(seconds.values()):.0f} seconds of them are the gate's own reading and layout checks, and what "
-                     "ended between two looks.")
-        lines.append(f"{len(YARD)} crates that hardly change ({', '.join(YARD)}) prove in {YARD_SECONDS} s on the quiet machine. "
-                     f"This run was {slower:.2f} times slower, so its {total / 60:.0f} minutes are "
-                     f"**{total / 60 / slower:.0f} minutes of the quiet machine**.")
-    weak = [f"{name} {counts[name]['only because']}" for name in order_of(counts) if counts[name]["only because"]]
-    lines.append(f"The gate's last line: `{last}`."
-                 + (f" Refused only because a written proof no longer fits: {', '.join(weak)}." if weak else ""))
-    over = over_budget(counts, seconds, whole, slower)
-    lines += [f"Over the budget: {', '.join(over)}."] if over else ["All of it is within the budget."] if whole else []
-    return "\n".join(lines)
+    budget = (f"The budget, in CPU time of a quiet machine: {WHOLE_MINUTES} minutes for the gate, {PROOF_SECONDS} seconds for the "
+              f"proof of a crate, {TEST_SECONDS} for a test function. The gate tries at most {MOST_EDITS} wrong bodies.")
+    lines = [wrapped(budget), "", wrapped(measured), "", *rows_of(counts, seconds), "", *notes_of(counts, seconds, whole, last)]
+    return "\n".join(lines), csv_of(counts, seconds)
 
 
 def write_table(log):
-    """Sets the table into bench/README.md."""
-    page = TOP / "bench/README.md"
-    front, begin, rest = page.read_text().partition(BEGIN)
+    """Sets the table into bench/README.md, and writes bench/gate.csv."""
+    made, costs = table_of(log)
+    front, begin, rest = PAGE_PATH.read_text().partition(BEGIN)
     _, end, behind = rest.partition(END)
-    page.write_text(f"{front}{begin}\n\n{table_of(log)}\n\n{end}{behind}")
+    PAGE_PATH.write_text(f"{front}{begin}\n\n{made}\n\n{end}{behind}")
+    COSTS.write_text(costs)
 
 
 def main():
@@ -275,14 +304,14 @@ def main():
     how = parser.add_mutually_exclusive_group()
     how.add_argument("--run", action="store_true", help="run the gate, its output into LOG")
     how.add_argument("--watch", type=int, metavar="PID", help="watch the gate that runs as PID")
-    how.add_argument("--write", action="store_true", help="set the table into bench/README.md")
+    how.add_argument("--write", action="store_true", help="set the table into bench/README.md, and write bench/gate.csv")
     parser.add_argument("log", metavar="LOG", help="the gate's output")
     words = parser.parse_args()
     if words.run:
         return run_gate(words.log)
     if words.watch:
         return watch_gate(words.watch, words.log)
-    return write_table(words.log) if words.write else print(table_of(words.log))
+    return write_table(words.log) if words.write else print(table_of(words.log)[0])
 
 
 if __name__ == "__main__":

@@ -1,5 +1,5 @@
-"""The line that stands with a table of measurements: which state was measured, when, on what machine, and how much of
-the machine others took meanwhile."""
+"""The line above a table of measurements: which revision was measured, when, on what machine, and how much of the machine
+other processes took."""
 
 import datetime
 import os
@@ -65,5 +65,5 @@ class Measured:
         """The line. Some processor seconds may be those of a process that is no child but is measured."""
         seconds = max(time.monotonic() - self.began, 0.01)
         others = (busy() - self.busy - (own() - self.own) - watched) / seconds
-        load = f"others took {others:.1f} cores beside it" if others >= LEAST_SHARE else "nothing beside it"
+        load = f"others took {others:.1f} cores" if others >= LEAST_SHARE else "nothing else running"
         return f"Measured: revision {self.revision}, {today()}, {machine()}, {load}."

@@ -4,12 +4,14 @@
     python3 scripts/pages.py           writes the parts that are made, and tells what is amiss
     python3 scripts/pages.py --check   writes nothing; ends with 1 where a part is stale or something is amiss
 
-Made: the column "Stands on" of docs/ARCHITECTURE.md, from crates.txt; and the list of files in docs/SEMANTICS.md, from
-what scripts/trusted_base.py counts and what public contracts cite. Looked at, in each page: that the files and headings
-that links lead to are there; that a name in a link to a source file stands in that file; that files and wrong bodies
+Made: the sentences and the links of the crates in docs/ARCHITECTURE.md, from crates.txt; and the list of files in
+docs/PROMISE.md, from what scripts/trusted_base.py counts and what public contracts cite. Looked at: that each crate of
+crates.txt has its row in its section, and stands on none of a later one. And in each page: that the files and headings that
+links lead to are there; that a name in a link to a source file stands in that file; that files and wrong bodies
 named in backticks are there; that each wrong body has its row in the README of its crate, with a link to where it
-stands, and fits the code; that code which is shown stands so in a source file; that the tour of docs/SEMANTICS.md leaves
-out no file to believe; that no sentence and no cell of a table has more than 35 words, where a code span is one word and
+stands, and fits the code; that each crate with plants has its line in plants/README.md; that code which is shown stands
+so in a source file; that the definitions of docs/PROMISE.md leave out no file to believe, and that what a row says of its
+files stands in them; that no sentence and no cell of a table has more than 35 words, where a code span is one word and
 quotations are left out; and that README.md has at most 9,216 bytes.
 """
 
@@ -20,6 +22,7 @@ import sys
 sys.dont_write_bytecode = True
 
 import trusted_base  # noqa: E402
+from wrong_bodies import misfits, wrong_bodies  # noqa: E402
 
 TOP = pathlib.Path(__file__).resolve().parent.parent
 CRATES = TOP / "crates"
@@ -32,38 +35,54 @@ SENTENCE_END = re.compile(r"(?<=[.!?])(?<!\.\.)[)*_\"]*\s+")
 BEGIN, END = "<!-- made by scripts/pages.py -->", "<!-- end -->"
 
 
-def stands_on():
-    """What each crate of crates.txt stands on."""
-    found = {}
+def sections():
+    """By section of crates.txt: the sentence that says what its crates promise together, and what each of them stands on."""
+    section = {"says": "", "crates": {}}
+    found = {"no section": section}
     for line in (TOP / "crates.txt").read_text().splitlines():
-        if line.strip() and not line.startswith("#"):
+        said = line.lstrip("#").strip()
+        if line.startswith("#") and re.fullmatch(r"\w+", said):
+            section = found.setdefault(said, {"says": "", "crates": {}})
+        elif line.startswith("#"):
+            section["says"] = f"{section['says']} {said}".strip()
+        elif said:
             name, _, below = line.partition(":")
-            found[name.split()[0]] = below.split()
+            section["crates"][name.split()[0]] = below.split()
     return found
 
 
-def with_stands_on(text, amiss):
-    """ARCHITECTURE with the links of its first column, and its second one as crates.txt has it."""
-    below, lines, inside, seen = stands_on(), [], False, set()
+def stands_on():
+    """What each crate of crates.txt stands on."""
+    return {name: below for section in sections().values() for name, below in section["crates"].items()}
+
+
+def with_sections(text, amiss):
+    """ARCHITECTURE with the sentence of each section as crates.txt has it, and the links of the first column."""
+    listed, lines, at, rows = sections(), [], None, {}
     for line in text.split("\n"):
-        cells = line.split("|")
-        if line.startswith("| Crate | Stands on |"):
-            inside = True
-        elif inside and not line.startswith("|"):
-            inside = False
-        elif inside and not line.startswith("|---"):
-            name = cells[1].strip().strip("`").split("]")[0].lstrip("[")
-            if name in below:
-                seen.add(name)
-                page = f"../crates/{name}/README.md"
-                cells[1] = f" [{name}]({page}) " if (CRATES / name / "README.md").exists() else f" {name} "
-                cells[2] = f" {', '.join(below[name])} " if below[name] else " "
-                line = "|".join(cells)
-            else:
-                amiss.append(f"docs/ARCHITECTURE.md: {name} is not in crates.txt")
+        head, row = re.match(r"\*\*(\w+)\*\*: ", line), re.match(r"\| \[?(\w+)[^|]*", line)
+        if head and head[1] in listed:
+            at = head[1]
+            line = head[0] + listed[at]["says"]
+        elif line.startswith("#"):
+            at = None
+        elif at and row and row[1] != "Crate":
+            rows.setdefault(row[1], []).append(at)
+            line = f"| [{row[1]}](../crates/{row[1]}/README.md) {line[row.end():]}"
         lines.append(line)
-    amiss.extend(f"docs/ARCHITECTURE.md: no row for {name}" for name in below if name not in seen)
+    wanted = {name: [at] for at, section in listed.items() for name in section["crates"]}
+    for name in sorted(wanted | rows):
+        had, want = (" and ".join(found.get(name, ["no section"])) for found in (rows, wanted))
+        if rows.get(name) != wanted.get(name):
+            amiss.append(f"docs/ARCHITECTURE.md: {name} has its row in {had}, and its line of crates.txt stands in {want}")
     return "\n".join(lines)
+
+
+def look_at_sections(amiss):
+    """Tells which crates stand on one of a later section."""
+    place = {name: number for number, section in enumerate(sections().values()) for name in section["crates"]}
+    amiss.extend(f"crates.txt: {name} stands on {one}, of a later section" for name, below in stands_on().items()
+                 for one in below if place.get(one, 0) > place[name])
 
 
 def exported(crate):
@@ -127,13 +146,9 @@ def list_of_files(amiss):
     believed, types = trusted_base.base_of_promise(files)
     public = {item.path for item in public_base(files).values()}
     among = {item.path for item in believed.values()}
-    machine, formats = trusted_base.size_of(believed.values())
-    rows = [f"{len(believed)} definitions in {len(among)} files: {machine + formats:,} lines of code. Our own machine and the "
-            f"meaning of queries have {trusted_base.against(machine, trusted_base.MACHINE_GOAL)}, formats and grammar "
-            f"{trusted_base.against(formats, trusted_base.FORMATS_GOAL)}.", "",
-            f"{trusted_base.missed_by_form(believed.values())}", "",
-            f"{trusted_base.more_to_read(files, types)}", "",
-            "| Crate | To believe | Of other public calls, and of laws | Inside |", "|---|---|---|---|"]
+    rows = ["| What there is to read | How much | Goal |", "|---|---:|---|"]
+    rows += [f"| {name} | {count:,} | {goal} |" for name, count, goal in trusted_base.counts(files, believed, types)]
+    rows += ["", "| Crate | To believe | For other public calls, and laws | Inside |", "|---|---|---|---|"]
     for crate in stands_on():
         specs = CRATES / crate / "specs"
         kinds = {"believe": [], "stated": [], "inside": []}
@@ -149,16 +164,17 @@ def list_of_files(amiss):
             elif kind == "inside" and not is_marked:
                 amiss.append(f"{path.relative_to(TOP)}: inside, but neither in specs/inside nor begun by 'Inside'")
         if any(kinds.values()):
-            rows.append(f"| {crate} | " + " | ".join(", ".join(names) for names in kinds.values()) + " |")
+            rows.append(f"| [{crate}](../crates/{crate}/README.md) | "
+                        + " | ".join(", ".join(names) for names in kinds.values()) + " |")
     return "\n".join(re.sub(r"\|  (?=\|)", "| ", row) for row in rows)
 
 
 def with_files(text, amiss):
-    """SEMANTICS with its list of files as the count has it."""
+    """PROMISE with its list of files as the count has it."""
     front, begin, rest = text.partition(BEGIN)
     _, end, behind = rest.partition(END)
     if not begin or not end:
-        amiss.append("docs/SEMANTICS.md: no place for the list of files")
+        amiss.append("docs/PROMISE.md: no place for the list of files")
         return text
     return f"{front}{begin}\n\n{list_of_files(amiss)}\n\n{end}{behind}"
 
@@ -220,42 +236,35 @@ def look_at_wrong_bodies(amiss):
     amiss.extend(f"crates/{crate}/README.md: no wrong body {folder}/{name}" for crate, folder, name in sorted(named - found))
 
 
+def look_at_plants(amiss):
+    """Tells which crates with plants have no line in plants/README.md, and which lines no plants."""
+    page = (TOP / "plants/README.md").read_text()
+    lines = set(re.findall(r"(?m)^\| (\w+) \| (?:not tried|\d{4}-)", page))
+    crates = {path.parent.name for path in TOP.glob("plants/*/*.edit")}
+    amiss.extend(f"plants/README.md: no line '| {crate} | not tried | | | | | | |'"
+                 for crate in sorted(crates - lines))
+    amiss.extend(f"plants/README.md: no plants of {crate}" for crate in sorted(lines - crates))
+
+
 def look_at_edits(amiss):
-    """Tells which wrong bodies no longer fit the code: each text that one takes away has to stand once in its file."""
-    for edit in [*sorted(CRATES.glob("*/must-fail/*.edit")), *sorted(TOP.glob("plants/*/*.edit"))]:
-        crate = CRATES / edit.relative_to(CRATES if CRATES in edit.parents else TOP / "plants").parts[0]
-        texts, file, old = {}, None, ""
-        for line in edit.read_text().splitlines():
-            kind, _, said = line.partition(": ")
-            if kind == "file":
-                file = crate / said.strip()
-                texts.setdefault(file, file.read_text() if file.exists() else "")
-            elif kind == "old":
-                old = said
-                if texts.get(file, "").count(old) != 1:
-                    amiss.append(f"{edit.relative_to(TOP)}: its text stands {texts.get(file, '').count(old)} times: {old.strip()}")
-            elif line.startswith("new:") and file in texts:
-                texts[file] = texts[file].replace(old, line[len("new:"):].removeprefix(" "))
+    """Tells which wrong bodies no longer fit the code."""
+    amiss.extend(f"{edit.relative_to(TOP)}: {why}" for edit in wrong_bodies() for why in misfits(edit))
 
 
-def look_at_tour(page, text, amiss):
-    """Tells which files the tour of SEMANTICS names that are not there, and which of those to believe it leaves out."""
-    toured = set()
-    for section in re.split(r"(?m)^## ", text)[1:]:
-        crates = [name for name in re.findall(r"`(\w+)`", section.partition("\n")[0]) if (CRATES / name).exists()]
-        said = "".join(path.read_text() for crate in crates for folder in ("specs", "src")
-                       for path in CRATES.glob(f"{crate}/{folder}/**/*.*t*") if path.is_file())
-        for row, says in re.findall(r"(?m)^\| (`.*?|) ?\| (.*?) \|", section) if crates else []:
-            amiss.extend(f"{page.relative_to(TOP)}: {name} does not stand in {', '.join(crates)}"
-                         for name in re.findall(r"`([A-Za-z_]\w*)[^`.]*`", says) if not re.search(rf"(?<!\w){name}(?!\w)", said))
-            for name in re.findall(r"(\w+)\.antt|, `(\w+)`", row):
-                found = [path for crate in crates for path in CRATES.glob(f"{crate}/specs/**/{name[0] or name[1]}.antt")]
-                toured |= {(path.relative_to(CRATES).parts[0], path.stem) for path in found}
-                if not found:
-                    amiss.append(f"{page.relative_to(TOP)}: no {name[0] or name[1]}.antt in {', '.join(crates)}")
-    for crate, believed in re.findall(r"(?m)^\| (\w+) \| (\w[^|]*) \|[^|]*\|[^|]*\|$", text):
-        amiss.extend(f"{page.relative_to(TOP)}: the tour leaves out {crate}/{name}" for name in believed.split(", ")
-                     if (CRATES / crate / "specs").exists() and (crate, name) not in toured)
+def look_at_definitions(page, text, amiss):
+    """Tells which names a row of PROMISE's definitions says that do not stand in the files of the row, and which files to
+    believe have no row."""
+    where, found = page.relative_to(TOP), set()
+    definitions = text.partition("\n## Definitions")[2].partition("\n## ")[0]
+    for row, says in re.findall(r"(?m)^\| (\[.*?) \| (.*?) \|$", definitions):
+        files = [(page.parent / target).resolve() for _, target in LINK.findall(row)]
+        source = "".join(path.read_text() for path in files if path.exists())
+        found |= {(path.relative_to(CRATES).parts[0], path.stem) for path in files if CRATES in path.parents}
+        amiss.extend(f"{where}: {name} does not stand in {row}" for name in re.findall(r"`([A-Za-z_]\w*)[^`]*`", says)
+                     if not re.search(rf"(?<!\w){name}(?!\w)", source))
+    for crate, believed in re.findall(r"(?m)^\| \[(\w+)\]\([^|]*\) \| (\w[^|]*) \|[^|]*\|[^|]*\|$", text):
+        amiss.extend(f"{where}: the definitions leave out {crate}/{name}" for name in believed.split(", ")
+                     if (crate, name) not in found)
 
 
 def look_at_code(page, text, sources, amiss):
@@ -306,7 +315,7 @@ def pages():
 
 def main(words):
     amiss, stale = [], []
-    for name, renewed in (("docs/ARCHITECTURE.md", with_stands_on), ("docs/SEMANTICS.md", with_files)):
+    for name, renewed in (("docs/ARCHITECTURE.md", with_sections), ("docs/PROMISE.md", with_files)):
         path = TOP / name
         old = path.read_text()
         new = renewed(old, amiss)
@@ -319,13 +328,15 @@ def main(words):
     for page in pages():
         text = page.read_text()
         look_at_code(page, text, sources, amiss)
-        if page.name == "SEMANTICS.md":
-            look_at_tour(page, text, amiss)
+        if page.name == "PROMISE.md":
+            look_at_definitions(page, text, amiss)
         look_at_links(page, text, amiss)
         look_at_names(page, text, amiss)
         look_at_lengths(page, text, amiss)
+    look_at_sections(amiss)
     look_at_wrong_bodies(amiss)
     look_at_edits(amiss)
+    look_at_plants(amiss)
     listed = stands_on()
     of_kit = {name for below in listed.values() for name in below} - set(listed)
     said = (TOP / "docs/ARCHITECTURE.md").read_text()

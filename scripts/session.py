@@ -4,8 +4,9 @@
     python3 scripts/session.py [--page PATH] [--program PATH]
 
 The session is what stands in the page's fences of the language `console`: a line that begins with `$ ` is a command, and
-the lines behind it are what it prints, on standard output and standard error. A command that has the word `serve` goes on
-running until the end, and must have printed its lines by then. It ends with 1 at the first difference, and says which.
+the lines after it are what it prints, on standard output and standard error. A command that has the word `serve` goes on
+running until the next one, or until the end, and must have printed its lines by then. The script ends with 1 at the first
+difference, and says which.
 """
 
 from __future__ import annotations
@@ -43,22 +44,31 @@ def started(command: str, printed: str) -> tuple[subprocess.Popen, str]:
     return child, "".join(child.stdout.readline() for _ in printed.splitlines())
 
 
+def end(running: list[subprocess.Popen]) -> None:
+    """Ends the commands that go on running."""
+    for child in running:
+        os.killpg(child.pid, signal.SIGTERM)
+        child.wait()
+    running.clear()
+
+
 def done(command: str) -> str:
     return subprocess.run(command, timeout=SECONDS, **TYPED).stdout
 
 
 def main() -> int:
     parser = argparse.ArgumentParser(description=__doc__, formatter_class=argparse.RawDescriptionHelpFormatter)
-    parser.add_argument("--page", default=str(ROOT / "docs/SESSION.md"), help="the page (docs/SESSION.md)")
+    parser.add_argument("--page", default=str(ROOT / "docs/USING.md"), help="the page (docs/USING.md)")
     parser.add_argument("--program", help="the built program (that of the repository)")
     words = parser.parse_args()
     path, running = program(words.program), []
-    (ROOT / NAMED).parent.mkdir(exist_ok=True)  # a page may keep files beside the program
+    (ROOT / NAMED).parent.mkdir(exist_ok=True)  # a page may keep files next to the program
     commands = session(pathlib.Path(words.page).read_text())
     try:
         for command, printed in commands:
             typed = command.replace(NAMED, path)
             if " serve " in command:
+                end(running)
                 child, given = started(typed, printed)
                 running.append(child)
             else:
@@ -67,9 +77,7 @@ def main() -> int:
                 print(f"$ {command}\nhas to print\n{printed}and printed\n{given}")
                 return 1
     finally:
-        for child in running:
-            os.killpg(child.pid, signal.SIGTERM)
-            child.wait()
+        end(running)
     print(f"{len(commands)} commands, each printed what {words.page} has")
     return 0 if commands else 1
 

@@ -9,7 +9,7 @@ the file SOURCE, and follows each name through the imports of its file. A ghost 
 leads to all clauses of that trait. So does the record of a trait's ghost members (`Ghosts`).
 
 It counts the nonblank lines of the definitions without their comments, and how many have no comment right above. The clauses of
-the contracts and traits themselves are counted apart. So are the laws that ARCHITECTURE 1 names beside (LAWS). Types that the code
+the contracts and traits themselves are counted apart. So are six more laws (LAWS). Types that the code
 declares are named apart, and the kit's own words are not followed. A name counts as cited where it stands in a definition, so the
 count errs, if at all, towards more.
 
@@ -322,22 +322,30 @@ def size_of(definitions):
 
 
 def against(size, goal):
-    return f"{size:,} lines (the goal of {goal:,} is {'met' if size <= goal else f'missed by {size - goal}'})"
+    return f"{goal:,}: {'met' if size <= goal else f'missed by {size - goal}'}"
 
 
 def missed_by_form(definitions):
-    """How many definitions have no comment, and how many files of theirs are too long, where the goal is none."""
+    """How many definitions have no comment, and how many files of theirs are too long."""
     bare = sum(not item.commented for item in definitions)
     long = sum(len(path.read_text().splitlines()) > LONGEST_FILE for path in {item.path for item in definitions})
-    return f"Without a comment: {bare}. Files above {LONGEST_FILE} lines: {long}. Both have the goal of none."
+    return bare, long
 
 
-def more_to_read(files, types):
-    """What is to be read beside the definitions of the promise: clauses; and how many lines the further laws add."""
-    size, traits = clauses_to_read([start_of(*start) for start in STARTS], types)
+def counts(files, believed, types):
+    """What there is to read, each kind with how much it is and its goal, if it has one."""
+    machine, formats = size_of(believed.values())
+    clauses, traits = clauses_to_read([start_of(*start) for start in STARTS], types)
     laws = sum(size_of(base_with_laws(files)[0].values()))
-    return (f"The clauses of these {len(STARTS)} contracts and of the traits {', '.join(traits)} have {size} lines more. "
-            f"With {len(LAWS)} further laws that stand beside the promise the definitions have {laws:,} lines.")
+    bare, long = missed_by_form(believed.values())
+    among = len({item.path for item in believed.values()})
+    return (("our own machine and the meaning of queries, lines", machine, against(machine, MACHINE_GOAL)),
+            ("formats and the grammar, lines", formats, against(formats, FORMATS_GOAL)),
+            (f"both: {len(believed)} definitions in {among} files, lines", machine + formats, ""),
+            (f"clauses of these {len(STARTS)} contracts and of the traits {', '.join(traits)}, lines", clauses, ""),
+            (f"definitions, with those of {len(LAWS)} other laws, lines", laws, ""),
+            ("definitions without a comment", bare, "none"),
+            (f"files above {LONGEST_FILE} lines", long, "none"))
 
 
 def print_crates(definitions):
@@ -384,7 +392,8 @@ def main():
     reached, types = base_of(starts, files)
     if len(starts) > 1:
         print(f"all of them: {summed(reached, types)}")
-        print(more_to_read(files, types))
+        for name, count, goal in counts(files, reached, types):
+            print(f"  {name}: {count:,}{f' (goal {goal})' if goal else ''}")
     print_crates(reached.values())
     print_long_files()
     for item in sorted(reached.values(), key=lambda item: (item.crate, str(item.path), item.name)):

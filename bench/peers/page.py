@@ -1,23 +1,24 @@
 #!/usr/bin/env python3
-"""Makes the table and the picture of the comparison from the figures of run.py, and sets them into the pages.
+"""Makes the table and the picture of the comparison from the figures of run.py, and sets them into bench/README.md.
 
     /usr/bin/python3 bench/peers/page.py [RESULTS]     needs Debian's python3-matplotlib, for the Python of Debian
 
-It reads bench/peers/results.json, draws bench/peers/peers.svg, and sets the table into its place in bench/README.md and the
-picture into both pages: into README.md behind the paragraph that leads to them. A ratio is the median of the ratios
-of the rounds, each of the peer's seconds by those of the first peer in the same round.
+It reads bench/peers/results.json, draws bench/peers/peers.svg, which README.md shows too, and sets table and picture into
+their place in bench/README.md. A ratio is the median of the ratios of the rounds, each of the peer's seconds by the clock to
+those of the first peer in the same round. The picture has the same ratios.
 """
 
 import json
 import statistics
 import sys
+import textwrap
 from pathlib import Path
 
 HERE = Path(__file__).resolve().parent
-TOP = HERE.parent.parent
 RESULTS, PICTURE = HERE / "results.json", HERE / "peers.svg"
+COLUMNS = 100  # of a line of a page
 BEGIN, END = "<!-- made by bench/peers/page.py -->", "<!-- end -->"
-SHOWN = "![Beside databases](bench/peers/peers.svg)\n"
+SHOWN = "![Next to other databases](peers/peers.svg)\n"
 NAMES = {"ours": "ours", "clickhouse": "ClickHouse", "sorted": "sorted ClickHouse", "postgresql": "PostgreSQL", "sqlite": "SQLite"}
 SAID = {"Q1": "all rows", "Q1d": "a dictionary's column", "Q1k": "an Int32 column", "Q2": "1 row in 100", "Q3": "half of the rows", "Q4": "IN of ten numbers", "Q5": "by a text",
         "Q5d": "by a dictionary's text", "Q6": "1,000 groups", "Q7": "10 groups by a text", "Q7d": "10 groups by a dictionary",
@@ -36,34 +37,34 @@ def title(query):
     return f"{query['name']}: {SAID[query['name']]}"
 
 
-def ratio(query, peer, base, which="seconds"):
+def ratio(query, peer, base):
     """The median of a peer's times by those of the base, round by round."""
     pairs = zip(query["turns"].get(peer, []), query["turns"].get(base, []))
-    found = [one[which] / other[which] for one, other in pairs if one[which] and other[which]]
+    found = [one["seconds"] / other["seconds"] for one, other in pairs if one["seconds"] and other["seconds"]]
     return statistics.median(found) if found else None
 
 
 def base_cell(query, base):
-    """The median seconds of the base."""
+    """The median milliseconds of the base."""
     seconds = statistics.median(one["seconds"] for one in query["turns"][base]) if query["turns"].get(base) else None
-    return "-" if seconds is None else f"{1e3 * seconds:.3g} ms"
+    return "-" if seconds is None else f"{1e3 * seconds:.3g}"
 
 
 def cell(query, peer, base):
-    clock, processor = (ratio(query, peer, base, which) for which in ("seconds", "processor"))
-    said = [f"{number:.2g}" if number < 10 else f"{number:.0f}" for number in (clock, processor) if number]
-    return " / ".join(said) or "-"
+    times = ratio(query, peer, base)
+    return "-" if times is None else f"{times:.2g}" if times < 10 else f"{times:.0f}"
 
 
 def table_of(results):
-    """The base's times, and the ratios of the others: by the clock, and of processor time where it is known."""
+    """What was measured, the base's times, and the ratios of the others."""
     base, *others = results["versions"]
     shown = [label(peer, results["versions"]) for peer in (base, *others)]
-    lines = [f"| | rows | {' | '.join(shown)} |", f"|---|---:|{'---:|' * len(shown)}"]
+    shown[0] += ", ms"
+    lines = [textwrap.fill(results["measured"], COLUMNS), "", f"| | {' | '.join(shown)} |", f"|---|{'---:|' * len(shown)}"]
     for query in results["queries"]:
         cells = [base_cell(query, base), *(cell(query, peer, base) for peer in others)]
-        lines.append(f"| {title(query)} | {query['rows']:,} | {' | '.join(cells)} |")
-    return "\n".join([*lines, "", results["measured"]])
+        lines.append(f"| {title(query)} | {' | '.join(cells)} |")
+    return "\n".join(lines)
 
 
 def draw(results):
@@ -95,17 +96,11 @@ def draw(results):
     figure.savefig(PICTURE, metadata={"Date": None})
 
 
-def write_pages(results):
-    page, first = TOP / "bench/README.md", TOP / "README.md"
+def write_page(results):
+    page = HERE.parent / "README.md"
     front, begin, rest = page.read_text().partition(BEGIN)
     _, end, behind = rest.partition(END)
-    picture = SHOWN.replace("bench/", "")
-    page.write_text(f"{front}{begin}\n\n{picture}\n{table_of(results)}\n\n{end}{behind}")
-    text = first.read_text()
-    if SHOWN not in text:
-        before, link, after = text.partition("(bench/README.md#beside-databases)")
-        rest, gap, behind = after.partition("\n\n")
-        first.write_text(f"{before}{link}{rest}{gap}{SHOWN}\n{behind}")
+    page.write_text(f"{front}{begin}\n\n{SHOWN}\n{table_of(results)}\n\n{end}{behind}")
 
 
 def main(words):
@@ -114,7 +109,7 @@ def main(words):
         sys.exit("there are no figures yet: python3 bench/peers/run.py")
     results = json.loads(path.read_text())
     draw(results)
-    write_pages(results)
+    write_page(results)
     return 0
 
 

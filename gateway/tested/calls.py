@@ -260,11 +260,11 @@ def stock_drivers(run: Run) -> None:
 
 
 def names_of_the_page() -> dict:
-    """What the first Python of docs/CLIENTS.md defines, where a descriptor is the bytes of its command. All of it compiles."""
-    page = (TOP.parent / "docs/CLIENTS.md").read_text()
+    """What the first Python of docs/USING.md defines, where a descriptor is the bytes of its command. All of it compiles."""
+    page = (TOP.parent / "docs/USING.md").read_text()
     code, *more = re.findall(r"^```python\n(.*?)^```$", page, re.DOTALL | re.MULTILINE)
     for block in more:
-        compile(block, "docs/CLIENTS.md", "exec")
+        compile(block, "docs/USING.md", "exec")
     module, names = types.ModuleType("pyarrow"), {}
     module.flight = types.SimpleNamespace(FlightDescriptor=types.SimpleNamespace(for_command=bytes))
     with unittest.mock.patch.dict(sys.modules, {"pyarrow": module, "pyarrow.flight": module.flight}):
@@ -272,7 +272,7 @@ def names_of_the_page() -> dict:
     return names
 
 
-@case("the commands that docs/CLIENTS.md has users write by hand: they are those of protoc")
+@case("the commands that docs/USING.md has users write by hand: they are those of protoc")
 def commands_of_the_page(run: Run) -> None:
     names, text = names_of_the_page(), "SELECT a FROM t WHERE s = '\u00e9'" + " " * 300
     same("a query", query(text).cmd, names["statement"](text))
