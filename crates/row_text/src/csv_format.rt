@@ -6,7 +6,7 @@ ghost use Rattle.csv.specs.Writing.{needs_byte, needs_quotes, quoted};
 ghost use Rattle.arrays.specs.Batch.{rows_of};
 ghost use Rattle.grpc_frame.specs.Ends.{CanFail, CountsFailure, FailsByTransport, Writes};
 ghost use Rattle.grpc_frame.specs.Sending.{Sends};
-ghost use Rattle.row_text.specs.Records.{comma_writer, records_of, stands_in_quotes, text_field};
+ghost use Rattle.row_text.specs.Records.{comma_writer, records_of, stands_in_quotes};
 
 use crate::format::{Cell, RowFormat};
 use crate::text::{Spelling, send_spelled};
@@ -65,7 +65,10 @@ impl<'a> ValueFormat for Records<'a> {
         outbox: &mut Outbox,
         text: &str,
     ) -> Result<(), Fault> {
-        send_text(writer, outbox, text)
+        if stands_in_quotes(text.as_bytes()) {
+            return send_quoted(writer, outbox, text);
+        }
+        outbox.send_part(writer, text.as_bytes())
     }
 
     fn send_day<W: Output>(
@@ -102,7 +105,7 @@ impl<'a> RowFormat for Records<'a> {
         _number: usize,
         field: &Field,
     ) -> Result<(), Fault> {
-        send_text(writer, outbox, field.name.as_str())
+        self.send_text(writer, outbox, field.name.as_str())
     }
 
     fn send_cell<W: Output>(
@@ -168,18 +171,4 @@ fn send_quoted<W: Output>(writer: &mut W, outbox: &mut Outbox, text: &str) -> Re
     outbox.send_part(writer, b"\"")?;
     send_spelled(&Doubled, writer, outbox, text)?;
     outbox.send_part(writer, b"\"")
-}
-
-// Sends a text, in quotes where it needs them or is empty.
-fn send_text<W: Output>(writer: &mut W, outbox: &mut Outbox, text: &str) -> Result<(), Fault>
-    requires { CanFail (W.failures writer.old) }
-    ensures bytes { Sends result (W.contents writer.old) (W.contents writer.new)
-        outbox.old outbox.new (text_field text.now) }
-    ensures counted { CountsFailure result (W.failures writer.old) (W.failures writer.new) }
-    ensures fault { FailsByTransport result }
-{
-    if stands_in_quotes(text.as_bytes()) {
-        return send_quoted(writer, outbox, text);
-    }
-    outbox.send_part(writer, text.as_bytes())
 }

@@ -1,11 +1,10 @@
 //! Rows as lines, and lines of names.
 
-ghost use Rattle.std.specs.Prelude.{◌≡◌};
 ghost use Rattle.std.specs.List.{flat_map};
 ghost use Rattle.arrays.specs.Batch.{rows_of};
 ghost use Rattle.grpc_frame.specs.Ends.{CanFail, CountsFailure, FailsByTransport, Writes};
 ghost use Rattle.grpc_frame.specs.Sending.{Sends};
-ghost use Rattle.row_text.specs.Lines.{lines_of, name_line, quoted};
+ghost use Rattle.row_text.specs.Lines.{lines_of, name_line};
 
 use crate::format::{Cell, RowFormat};
 use crate::text::{Escaped, Spelling, send_spelled};
@@ -96,7 +95,9 @@ impl<'a> ValueFormat for Lines<'a> {
         outbox: &mut Outbox,
         text: &str,
     ) -> Result<(), Fault> {
-        send_quoted(writer, outbox, text)
+        outbox.send_part(writer, b"'")?;
+        send_spelled(&Quoted, writer, outbox, text)?;
+        outbox.send_part(writer, b"'")
     }
 
     fn send_day<W: Output>(
@@ -162,17 +163,4 @@ impl Spelling for Quoted {
             _ => Escaped.escape(byte),
         }
     }
-}
-
-// Sends a text in single quotes.
-fn send_quoted<W: Output>(writer: &mut W, outbox: &mut Outbox, text: &str) -> Result<(), Fault>
-    requires { CanFail (W.failures writer.old) }
-    ensures bytes { Sends result (W.contents writer.old) (W.contents writer.new)
-        outbox.old outbox.new (quoted text.now) }
-    ensures counted { CountsFailure result (W.failures writer.old) (W.failures writer.new) }
-    ensures fault { FailsByTransport result }
-{
-    outbox.send_part(writer, b"'")?;
-    send_spelled(&Quoted, writer, outbox, text)?;
-    outbox.send_part(writer, b"'")
 }

@@ -8,7 +8,7 @@ ghost use Rattle.scan_base.specs.declared.value.Value.TheVariants.{Int};
 ghost use Rattle.arrow_schema.specs.declared.data_type.DataType.TheVariants.{Date};
 ghost use Rattle.arrays.specs.Batch.{rows_of};
 ghost use Rattle.arrays.specs.Column.{values_of};
-ghost use Rattle.row_text.specs.Tables.{column_of, column_width, greatest, is_escaped, most_width};
+ghost use Rattle.row_text.specs.Tables.{column_of, column_width, greatest, is_escaped};
 ghost use Rattle.row_text.specs.Tables.{text_width, value_width, widths_from};
 
 use arrays::{Batch, Cells, Column};

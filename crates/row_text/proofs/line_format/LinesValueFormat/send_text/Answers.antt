@@ -1,6 +1,6 @@
 use Rattle.std.proofs.lemmas.Result.{err_from_is_err_and}
 use Rattle.grpc_frame.proofs.Sending.{head_not_sent, second_not_sent, sent_behind}
-use Rattle.row_text.proofs.line_format.send_quoted.Goals as goal
+use Rattle.row_text.proofs.line_format.LinesValueFormat.send_text.Goals as goal
 
 pub returns-in_err-send_part-clause-bytes : goal.returns-in_err-send_part-clause-bytes
 returns-in_err-send_part-clause-bytes g c =
