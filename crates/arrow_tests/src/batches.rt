@@ -1,5 +1,5 @@
 //! Messages: what a reader learns, and a batch that is sized once. What is read of other writers' messages, and
-//! what is written and read again, is shown by `arrow_cases`.
+//! what is written and read again, is shown by `column_cases`.
 
 ghost use Rattle.std.specs.Prelude.{◌≡◌, IfOk, length};
 

@@ -1,5 +1,5 @@
 //! Schemas: what is copied, answered, written and read again. What is read of other writers' schemas is shown by
-//! `arrow_cases`.
+//! `column_cases`.
 
 use arrow_schema::{
     DataType, DictionaryEncoding, Field, HeaderKind, IntegerType, encapsulate, read_message,
