@@ -364,7 +364,8 @@ def broken(run, indent, further):
 
 # ---- comments and `use` lists
 
-COMMENT = re.compile(r"(?P<indent> *)(?P<mark>//[/!]?|--)(?P<rest>(?: .*)?)$")
+COMMENT = re.compile(r"(?P<indent> *)(?P<mark>//[/!]?|--(?: ----)?)(?P<rest>(?: .*)?)$")
+MARKS = {"//", "///", "//!", "--", "----"}
 ITEM = re.compile(r"(?:[-*]|\d+\.) +")
 STANDS = re.compile(r"[|#]|--| {2}")  # a table, a heading, a rule, or what is laid out by hand
 USE = re.compile(r"(?P<head> *(?:(?:unfoldable|pub|ghost) )*use [^\s{]+\.\{)(?P<names>.*)"
@@ -413,15 +414,20 @@ def narrow_comments(lines):
 
 
 def narrow_use(line):
-    """A list of names in `use` lines that are not too wide; one name that is too long stays."""
-    found, lists = USE.match(line), []
-    room = WIDTH - len(found["head"]) - len(found["tail"])
+    """A list of names in `use` lines that are not too wide. A name that is too long for one of them
+    stands in a line of its own."""
+    found, lists, lines = USE.match(line), [], []
+    head, tail = found["head"], found["tail"]
+    room = WIDTH - len(head) - len(tail)
     for name in found["names"].split(", "):
         if lists and len(lists[-1]) + 2 + len(name) <= room:
             lists[-1] += f", {name}"
         else:
             lists.append(name)
-    return [found["head"] + names + found["tail"] for names in lists]
+    for names in lists:
+        fits = len(names) <= room
+        lines += [head + names + tail] if fits else [head, f"  {names},", tail]
+    return lines
 
 
 # ---- a file
@@ -576,7 +582,7 @@ def read_as(text, tokens):
     for token in [*tokens, Token("", "", len(begins), len(text) - begins[-1], 0)]:
         begin = begins[token.line - 1] + token.start
         words = text[at:begin].split()
-        found += [("", word, "") for word in words if word not in ("//", "///", "//!", "--")]
+        found += [("", word, "") for word in words if word not in MARKS]
         is_first = firsts.get(token.line) == token
         place = ("start" if where[token.line][0] else "further") if is_first else ""
         found.append((token.kind, token.text, place))
