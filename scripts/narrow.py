@@ -35,6 +35,8 @@ MOST_ROUNDS = 12
 
 Token = collections.namedtuple("Token", "text kind line start end")
 Laid = collections.namedtuple("Laid", "indent begin end lead tail", defaults=("", ""))
+Stretch = collections.namedtuple("Stretch", "begin end group level")
+Room = collections.namedtuple("Room", "indent further trail")
 
 # ---- what the kit reads
 
@@ -108,17 +110,17 @@ AFTER = {*ORDER[0], *ORDER[1], ":", "in"}
 OPENS, CLOSES, PARTERS = {"(", "[", "{"}, {")", "]", "}"}, {",", ";", "|"}
 NO_SIGN = set("_◌()[]{}?#«»⊥⊤!∥¬‵.,;:=|")
 # No line ends after these, and none begins with those.
-HOLDS = {"λ", "let", "if", "elim", "record", "¬", "∥", "as", "Type", "unfolding", "module", "abbrev",
-         "pub", "data", "at", "use", "unfoldable", "open", "|", "‵", "then", "else", "ruleset", ".",
-         *OPENS}
+HOLDS = {"λ", "let", "if", "then", "else", "elim", "as", "record", "data", "module", "Type", "pub",
+         "abbrev", "unfoldable", "unfolding", "ruleset", "open", "use", "at", "¬", "∥", "‵", "|",
+         ".", *OPENS}
 HELD = {":", "=", "↦", "←", "in", "where", "∥₁", "as", "[", ".", *PARTERS, *CLOSES}
-# What costs: a line more, a line of a group, a term around a gap, a column too many.
+# What a line more costs, a line of a group, each term around a gap, and a column too many.
 LINE, PART, DEPTH, TOO_WIDE, NEVER = 10, 5, 11, 50, 10 ** 9
-# And a gap: before the body of a λ, in arithmetic, before an argument without brackets, before the
-# first one, after a `:`, in a binder, left of a definition's `=` or between a λ's binders; and a
-# last line of a few letters.
+# What a gap costs besides: before the body of a λ, in arithmetic, before an argument without
+# brackets, before the first argument, after a `:`, in a binder, left of a definition's `=` or
+# between the binders of a λ, and before a last line of a few letters.
 BODY, NUMBERS, PLAIN, FIRST, TYPE, BINDER, LEFT, SHORT = 3, 2, 2, 12, 7, 20, 12, 3
-SEAM = 6  # less where the text has a line's end already
+SEAM = 6  # what a gap costs less where a line of the file ends already
 
 
 class Scope:
@@ -232,11 +234,11 @@ class Run:
         parts = [(cut + 1, stop) for cut, stop in pairs if cut + 1 < stop]
         return (mark, parts) if mark != "," or len(parts) > 1 else None
 
-    def can_open(self, group, begin):
-        """Whether a group may be opened in a line that begins there: `rt fmt` joins the bracket of
-        a tuple to the line above."""
+    def can_open(self, at, begin):
+        """Whether a group begins here that may be opened in a line that begins there: `rt fmt`
+        joins the bracket of a tuple to the line above."""
         is_first = begin == 0 or self.said[begin - 1] in PARTERS | OPENS
-        return group != begin or is_first or self.groups[group][0] != ","
+        return at in self.groups and (at != begin or is_first or self.groups[at][0] != ",")
 
     def owners(self):
         """For each gap the innermost group around it."""
@@ -264,8 +266,9 @@ class Run:
             return False
         if word == "(" and at == len(self.tokens) - 1:
             return False  # rt fmt joins it to the line above
-        is_binder = self.binding[at] and self.opener.get(at - 1) in self.binds and word in ("(", "{")
-        return self.is_body(at) or is_binder or not self.binding[at] and before not in HOLDS
+        if self.binding[at]:
+            return self.opener.get(at - 1) in self.binds and word in ("(", "{")
+        return self.is_body(at) or before not in HOLDS
 
     def cost_of(self, at):
         """What it costs to begin a line with this token, without the terms around."""
@@ -311,53 +314,64 @@ def too_wide(width):
     return TOO_WIDE * (10 + width - WIDTH) if width > WIDTH else 0
 
 
-def broken(run, indent, further):
-    """The lines of a run where they cost least, each as its indent and its text. The first begins
-    at the indent, and those that go on from it further in."""
+class Layout:
+    """The cheapest lines of a run. A stretch of it lies in a group, or in none, and has a depth of
+    its own from which the terms around a gap count. Its room says where its first line begins, and
+    where those that go on, and how many columns stay free at its end."""
 
-    @functools.lru_cache(maxsize=None)
-    def lay(begin, end, indent, further, trail, inside, level):
-        """The cost and the lines of a stretch in a group; trail columns stay free at its end."""
+    def __init__(self, run):
+        self.run, self.lay = run, functools.lru_cache(maxsize=None)(self.cheapest)
+
+    def cheapest(self, stretch, room):
+        """What the lines of a stretch cost, and the lines."""
+        run, (begin, end, group, _) = self.run, stretch
         is_parted = any(begin < at < end for at in run.parted)
-        width = indent + run.width(begin, end) + trail
-        found = NEVER if is_parted else too_wide(width), (Laid(indent, begin, end),)
+        width = room.indent + run.width(begin, end) + room.trail
+        found = NEVER if is_parted else too_wide(width), (Laid(room.indent, begin, end),)
         for at in range(begin + 1, end):
-            width = indent + run.width(begin, at)
-            if width > WIDTH and found[0] < too_wide(WIDTH + 1):
+            over = too_wide(room.indent + run.width(begin, at))
+            if over and found[0] < too_wide(WIDTH + 1):
                 break
-            deeper = too_wide(width) + DEPTH * (run.depth[at] - level)
-            if run.owner[at] == inside and run.cost[at] is not None:
-                cost, lines = lay(at, end, further, further, trail, inside, level)
-                cost += LINE + run.cost[at] + deeper
-                cost += SHORT if len(lines) == 1 and run.width(at, end) < 12 else 0
-                if cost <= found[0]:
-                    found = cost, (Laid(indent, begin, at), *lines)
-            group = at - 1
-            if group in run.groups and run.owner[group] == inside and run.can_open(group, begin):
-                cost, lines = opened(group, indent)
-                rest = lay(run.close[group], end, indent, further, trail, inside, level)
-                cost += rest[0] + too_wide(width) + DEPTH * (run.depth[group] - level)
-                if cost < found[0]:
-                    found = cost, (Laid(indent, begin, at), *lines, *rest[1])
+            first = Laid(room.indent, begin, at)
+            if run.owner[at] == group and run.cost[at] is not None:
+                cost, lines = self.parted(stretch, room, at)
+                if cost + over <= found[0]:
+                    found = cost + over, (first, *lines)
+            if run.owner[at - 1] == group and run.can_open(at - 1, begin):
+                cost, lines = self.opened(stretch, room, at - 1)
+                if cost + over < found[0]:
+                    found = cost + over, (first, *lines)
             if at in run.parted:
                 break
         return found
 
-    def opened(group, indent):
-        """The same of the parts of a group in a line with this indent, each on lines of its own."""
-        mark, parts = run.groups[group]
-        lead, tail = ("| ", "") if mark == "|" else ("", mark)
-        cost, found = PART, []
-        for begin, end in parts:
-            room = (indent + 2 + len(lead), indent + 6, len(tail))
-            more, lines = lay(begin, end, *room, group, run.level(begin, end, group))
-            cost += more + PART
-            lines = [lines[0]._replace(indent=indent + 2, lead=lead), *lines[1:]]
-            found += [*lines[:-1], lines[-1]._replace(tail=tail)]
-        return cost, found
+    def parted(self, stretch, room, at):
+        """The same of what stands behind the first line, where that ends before a gap."""
+        run, behind = self.run, stretch._replace(begin=at)
+        cost, lines = self.lay(behind, room._replace(indent=room.further))
+        cost += LINE + run.cost[at] + DEPTH * (run.depth[at] - stretch.level)
+        return cost + (SHORT if len(lines) == 1 and run.width(at, stretch.end) < 12 else 0), lines
 
+    def opened(self, stretch, room, group):
+        """The same where the first line ends by the bracket of a group, whose parts follow."""
+        run, (mark, parts) = self.run, self.run.groups[group]
+        lead, tail = ("| ", "") if mark == "|" else ("", mark)
+        inside = Room(room.indent + 2 + len(lead), room.indent + 6, len(tail))
+        cost, found = PART + DEPTH * (run.depth[group] - stretch.level), []
+        for begin, end in parts:
+            more, lines = self.lay(Stretch(begin, end, group, run.level(begin, end, group)), inside)
+            cost += more + PART
+            lines = [lines[0]._replace(indent=room.indent + 2, lead=lead), *lines[1:]]
+            found += [*lines[:-1], lines[-1]._replace(tail=tail)]
+        more, lines = self.lay(stretch._replace(begin=run.close[group]), room)
+        return cost + more, (*found, *lines)
+
+
+def broken(run, indent, further):
+    """The lines of a run where they cost least."""
     end = len(run.tokens)
-    _, lines = lay(0, end, indent, further, 0, None, run.level(0, end, None))
+    stretch = Stretch(0, end, None, run.level(0, end, None))
+    _, lines = Layout(run).lay(stretch, Room(indent, further, 0))
     return [" " * line.indent + line.lead + run.words(line.begin, line.end) + line.tail
             for line in lines]
 
@@ -462,67 +476,75 @@ def places(lines):
     return found
 
 
-def narrowed(text, tokens, kept):
-    """The text with its wide lines broken once."""
-    lines, found, out, at = text.split("\n"), by_line(tokens), [], 0
-    where = places(found)
-    while at < len(lines):
-        end = at + 1
-        if at + 1 not in found and COMMENT.match(lines[at]):
-            while end < len(lines) and end + 1 not in found and alike(lines[at], lines[end]):
-                end += 1
-            out += narrow_comments(lines[at:end])
-        elif len(lines[at]) > WIDTH and is_antt(lines[at], found.get(end)):
-            if USE.match(lines[at]):
-                out += [lines[at]] if end in kept else narrow_use(lines[at])
+class Source:
+    """The lines of a file, their tokens, and the columns of them that wrong bodies take away."""
+
+    def __init__(self, text, tokens, kept):
+        self.lines, self.tokens, self.kept = text.split("\n"), by_line(tokens), kept
+        self.places = places(self.tokens)
+
+    def narrowed(self):
+        """The text with its wide lines broken once."""
+        out, line = [], 1
+        while line <= len(self.lines):
+            text, end = self.lines[line - 1], line
+            if self.is_comment(line):
+                while self.is_comment(end + 1) and alike(text, self.lines[end]):
+                    end += 1
+                out += narrow_comments(self.lines[line - 1:end])
+            elif len(text) <= WIDTH or not self.is_antt(line):
+                out.append(text)
+            elif USE.match(text):
+                out += [text] if line in self.kept else narrow_use(text)
             else:
-                end += goes_on(end, lines, found, where, kept)
-                out += narrow_code(range(at + 1, end + 1), found, where, kept)
-        else:
-            out.append(lines[at])
-        at = end
-    return "\n".join(out)
+                end += self.goes_on(line)
+                out += self.narrow(range(line, end + 1))
+            line = end + 1
+        return "\n".join(out)
+
+    def is_comment(self, line):
+        has_tokens = line > len(self.lines) or line in self.tokens
+        return not has_tokens and bool(COMMENT.match(self.lines[line - 1]))
+
+    def is_antt(self, line):
+        """Whether a line has text of antt's, and neither a part of a text of many lines nor a
+        comment at its end."""
+        tokens = self.tokens.get(line)
+        return bool(tokens) and None not in tokens and (
+            tokens[-1].end == len(self.lines[line - 1])
+            and any(token.kind == "Antt" for token in tokens))
+
+    def goes_on(self, line):
+        """Whether what is left of a wide line may stand in one line with the next: that goes on
+        from it, and neither ends a step of a proof nor begins one."""
+        if line + 1 in self.kept or not self.is_antt(line + 1):
+            return False
+        is_start, _ = self.places[line + 1]
+        first, last = self.tokens[line + 1][0], self.tokens[line][-1]
+        is_step = first.text in {"∙", "let", "then", "else", *PARTERS, *CLOSES}
+        is_step |= last.kind != "Antt" or last.text in {"in", "=", "↦", *PARTERS, *OPENS}
+        return not is_start and not is_step and first.start == self.places[line][1]
+
+    def narrow(self, numbers):
+        """A wide line, with the next one where that goes on from it, in lines that are not too
+        wide."""
+        tokens = [token for line in numbers for token in self.tokens[line]]
+        held = {at for at, token in enumerate(tokens)
+                if any(begin < token.start < end for begin, end in self.kept.get(token.line, ()))}
+        firsts = [self.tokens.get(line, ())[:1] for line in (*numbers, numbers[-1] + 1)]
+        leads = any(first and first[0] and first[0].text == "→" for first in firsts)
+        is_start, further = self.places[numbers[0]]
+        run, seam = Run(tokens, held, is_start, leads), len(self.tokens[numbers[0]])
+        is_outer = len(numbers) > 1 and run.depth[seam] < run.level(0, seam, None)
+        if len(numbers) > 1 and (is_outer or run.cost[seam] is None):
+            return [*self.narrow(numbers[:1]), self.lines[numbers[1] - 1]]
+        return broken(run, tokens[0].start, further)
 
 
 def alike(one, other):
-    """Whether two lines are comments of one indent and mark."""
+    """Whether two comments have one indent and mark."""
     a, b = COMMENT.match(one), COMMENT.match(other)
-    return bool(b) and a["indent"] == b["indent"] and a["mark"] == b["mark"]
-
-
-def is_antt(line, tokens):
-    """Whether a line has text of antt's, and neither a part of a text of many lines nor a comment
-    at its end."""
-    return bool(tokens) and None not in tokens and tokens[-1].end == len(line) and any(
-        token.kind == "Antt" for token in tokens)
-
-
-def goes_on(line, lines, found, where, kept):
-    """Whether what is left of a wide line may stand in one line with the next, which goes on from
-    it and from no longer step."""
-    following = found.get(line + 1)
-    if line == len(lines) or line + 1 in kept or not is_antt(lines[line], following):
-        return False
-    is_start, _ = where[line + 1]
-    first, last = following[0], found[line][-1]
-    is_step = first.text in {"∙", "let", "then", "else", *PARTERS, *CLOSES}
-    return (not is_start and first.start == where[line][1] and not is_step and last.kind == "Antt"
-            and last.text not in {"in", "=", "↦", *PARTERS, *OPENS})
-
-
-def narrow_code(numbers, found, where, kept):
-    """A wide line, with the next one where that goes on from it, in lines that are not too wide."""
-    tokens = [token for number in numbers for token in found[number]]
-    held = {at for at, token in enumerate(tokens)
-            if any(begin < token.start < end for begin, end in kept.get(token.line, ()))}
-    firsts = [found.get(number, ())[:1] for number in (*numbers, numbers[-1] + 1)]
-    leads = any(first and first[0] and first[0].text == "→" for first in firsts)
-    is_start, further = where[numbers[0]]
-    run, seam = Run(tokens, held, is_start, leads), len(found[numbers[0]])
-    if len(numbers) > 1 and (run.cost[seam] is None or run.depth[seam] < run.level(0, seam, None)):
-        following = " " * further + run.words(seam, len(tokens))
-        return [*narrow_code(numbers[:1], found, where, kept), following]
-    return broken(run, tokens[0].start, further)
+    return a["indent"] == b["indent"] and a["mark"] == b["mark"]
 
 
 # ---- wrong bodies
@@ -668,7 +690,8 @@ def in_rounds(crate, texts):
     for _ in range(MOST_ROUNDS):
         wide = {path: text for path, text in now.items() if columns_over(text) and path not in done}
         tokens, kept = tokens_of(wide), kept_of(crate, now)
-        made = {path: narrowed(text, tokens[path], kept[path]) for path, text in wide.items()}
+        made = {path: Source(text, tokens[path], kept[path]).narrowed()
+                for path, text in wide.items()}
         made, refused = laid_out({path: text for path, text in made.items() if text != wide[path]})
         said += [refused] if refused else []
         for path in wide:
