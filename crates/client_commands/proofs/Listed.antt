@@ -1,7 +1,7 @@
 -- Names that are told, seen as plain data.
 use Rattle.std.specs.Prelude.{ℕ, List, Option, Some, Result, Ok, Err}
 use Rattle.std.specs.List.{flat_map}
-use Rattle.row_lines.specs.Lines.{name_line}
+use Rattle.row_text.specs.Lines.{name_line}
 use Rattle.client_calls.specs.declared.failure.Failure.{Failure}
 use Rattle.client_calls.specs.Outcome.{Line}
 use Rattle.command_ends.specs.Network.{Ends}

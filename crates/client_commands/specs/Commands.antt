@@ -7,7 +7,7 @@ use Rattle.flight_proto.specs.Expiry.{expiry_bytes}
 use Rattle.flight_proto.specs.Wanted.{tables}
 use Rattle.ipc_stream.specs.declared.message.IpcMessage.{IpcMessage}
 use Rattle.table_versions.specs.Table.{Table}
-use Rattle.row_lines.specs.Lines.{name_line}
+use Rattle.row_text.specs.Lines.{name_line}
 use Rattle.client_calls.specs.declared.call.Method.TheVariants.{DoPut, DoAction}
 use Rattle.client_calls.specs.declared.failure.Failure.{Failure}
 use Rattle.client_calls.specs.declared.failure.Failure.TheVariants.{Found}

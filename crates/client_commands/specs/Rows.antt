@@ -1,9 +1,9 @@
 -- The text of rows, in each format that is printed once all came.
 use Rattle.std.specs.Prelude.{ℕ, List, Option, Some, None}
 use Rattle.table_versions.specs.Table.{Table}
-use Rattle.row_lines.specs.Lines.{lines_of}
-use Rattle.csv_rows.specs.Records.{records_of}
-use Rattle.row_table.specs.Tables.{table_of}
+use Rattle.row_text.specs.Lines.{lines_of}
+use Rattle.row_text.specs.Records.{records_of}
+use Rattle.row_text.specs.Tables.{table_of}
 use Rattle.command_line.specs.declared.request.Format.{Format}
 use Rattle.command_line.specs.declared.request.Format.TheVariants.{Lines, Arrow, Csv, Table as Aligned}
 

@@ -17,12 +17,10 @@ use crate::spreading::fetch_spread;
 use crate::telling::{end_by_failure, end_by_printing};
 use command_ends::{Connect, ExitStatus};
 use command_line::Format;
-use csv_rows::write_csv;
 use flight_client::Rows;
 use grpc_frame::Output;
 use hash_seed::HashSeed;
-use row_lines::write_rows;
-use row_table::write_table;
+use row_text::{write_csv, write_rows, write_table};
 use std::alloc::Global;
 use std::thread::Threads;
 

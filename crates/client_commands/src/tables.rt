@@ -3,7 +3,7 @@
 ghost use Rattle.command_ends.specs.Printing.{said_of};
 ghost use Rattle.std.specs.List.{flat_map};
 ghost use Rattle.grpc_frame.specs.Ends.{CanFail};
-ghost use Rattle.row_lines.specs.Lines.{name_line};
+ghost use Rattle.row_text.specs.Lines.{name_line};
 ghost use Rattle.client_commands.specs.Told.{Tells};
 ghost use Rattle.client_commands.specs.Commands.{FetchesNames, ListsTables, desk_of};
 
@@ -15,7 +15,7 @@ use client_calls::{Connection, Failure};
 use command_ends::{Connect, ExitStatus};
 use flight_proto::Wanted;
 use grpc_frame::{Input, Output};
-use row_lines::write_names;
+use row_text::write_names;
 use scan_base::Text;
 use std::alloc::Global;
 

@@ -7,7 +7,7 @@ use flight_client::{Rows, Stream, join};
 use flight_proto::{FlightEndpoint, Wanted};
 use grpc_frame::{Counted, MemoryOutput};
 use ipc_stream::ipc_messages;
-use row_lines::write_rows;
+use row_text::write_rows;
 use scan_base::{Fault, PutMode};
 use std::alloc::Global;
 use std::io;

@@ -1,3 +1,0 @@
-pub mod Quoting
-pub mod Recorded
-pub mod Worked

@@ -1,7 +1,0 @@
-use Rattle.std.proofs.Common.{◌≡◌, take}
-use Rattle.std.specs.List.{count_by}
-use Rattle.row_table.specs.Tables.{is_escaped}
-use Rattle.row_table.proofs.widths.escapes.Given as goal
-
-abbrev pub invariant-loop-byte : goal.invariant-loop-byte
-invariant-loop-byte l = l.count ≡ count_by is_escaped (take l.byte-index l.text)

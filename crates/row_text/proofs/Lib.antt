@@ -1,0 +1,9 @@
+pub mod Parts
+pub mod Escapes
+pub mod Numbered
+pub mod Rows
+pub mod Quoting
+pub mod Widest
+pub mod WorkedLines
+pub mod WorkedRecords
+pub mod WorkedTable

@@ -1,0 +1,12 @@
+use Rattle.std.proofs.Common.{◌≡◌}
+use Rattle.grpc_frame.specs.Sending.{Sent}
+use Rattle.row_text.proofs.Numbered.{written}
+use Rattle.row_text.proofs.walk.send_names.Given as goal
+
+abbrev pub invariant-loop-index : goal.invariant-loop-index
+invariant-loop-index g l =
+    let format = g.F.RowFormat.format l.format in
+    record {
+      sent : Sent (g.W.Output.contents l.fn.writer) (g.W.Output.contents l.writer) l.fn.outbox l.outbox (written format format.name l.fields l.index);
+      count : g.W.Output.failures l.writer ≡ g.W.Output.failures l.fn.writer;
+    }

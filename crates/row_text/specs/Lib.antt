@@ -1,0 +1,5 @@
+pub mod Rows
+pub mod Lines
+pub mod Records
+pub mod Tables
+pub mod inside

@@ -1,0 +1,135 @@
+-- What is printed of a table for people: its columns, aligned between bars, and how many rows it has.
+use Rattle.std.specs.Prelude.{ℕ, ◌+◌, ◌-◌, ◌==◌, ◌||◌, Bool, true, false, List, [], ◌∷◌, ◌++◌, map, length, take, max, min, get_or, codes, chars, if◌then◌else◌}
+use Rattle.std.specs.List.{count_by, flat_map}
+use Rattle.std.specs.Fmt.{decimal}
+use Rattle.unicode_width.specs.Width.{str_width}
+use Rattle.scan_base.specs.declared.value.Value.{Value}
+use Rattle.scan_base.specs.declared.value.Value.TheVariants.{Null, Text}
+use Rattle.arrow_schema.specs.declared.data_type.DataType.{DataType}
+use Rattle.arrow_schema.specs.declared.data_type.DataType.TheVariants.{Integer, Decimal128}
+use Rattle.arrow_schema.specs.declared.schema.Field.{Field}
+use Rattle.arrow_schema.specs.declared.schema.Schema.{Schema}
+use Rattle.row_text.specs.Rows.{Format, Notation, names_row, plain_day, type_shown, value_text, values_row}
+use Rattle.row_text.specs.Lines.{escaped, line_notation}
+use Rattle.row_text.specs.declared.shape.Shape.{Shape}
+
+-- ---- what stands in a cell
+
+-- values: as in a line, but a text and a date stand without quotes
+abbrev pub table_notation : Notation
+table_notation = record {
+  null = line_notation.null;
+  truth = line_notation.truth;
+  text = escaped;
+  day = plain_day;
+}
+
+-- ---- how wide it is
+
+-- no column is wider than this
+abbrev pub most_width : ℕ
+most_width = 40
+
+-- a byte that is written as two
+abbrev pub is_escaped : ℕ → Bool
+is_escaped byte = ((byte == 92) || (byte == 9)) || ((byte == 10) || (byte == 13))
+
+-- how many columns of a terminal a text takes, counted no further than matters; an escape takes one more than its byte
+abbrev pub text_width : List ℕ → ℕ
+text_width text = min most_width (str_width false (chars text)) + min most_width (count_by is_escaped text)
+
+-- how many a value takes
+abbrev pub value_width : DataType → Value → ℕ
+value_width _ (Text text) = text_width text
+value_width data_type value = length (value_text table_notation data_type value)
+
+-- the greatest of a number and of these
+abbrev pub greatest : ℕ → List ℕ → ℕ
+greatest n [] = n
+greatest n (m ∷ ms) = greatest (max n m) ms
+
+-- the values of a column, by its number
+abbrev pub column_of : List (List Value) → ℕ → List Value
+column_of rows number = map (λ row. get_or row number Null) rows
+
+-- how wide a column is: as its name or its widest value, whichever is wider
+abbrev pub column_width : Field → List Value → ℕ
+column_width field values = min most_width (greatest (text_width field.name) (map (value_width field.data_type) values))
+
+-- the same of all columns from one on
+abbrev pub widths_from : List Field → ℕ → List (List Value) → List ℕ
+widths_from [] number rows = []
+widths_from (field ∷ fields) number rows = column_width field (column_of rows number) ∷ widths_from fields (number + 1) rows
+
+-- ---- cells
+
+-- so many blanks, up to the most
+abbrev pub blanks : ℕ → List ℕ
+blanks count = take (min most_width count) (codes "                                        ")
+
+-- so many dashes
+abbrev pub dashes : ℕ → List ℕ
+dashes count = take (min most_width count) (codes "----------------------------------------")
+
+-- numbers stand at the right of their column
+abbrev pub stands_right : DataType → Bool
+stands_right (Integer integer) = true
+stands_right Decimal128 = true
+stands_right _ = false
+
+-- the blanks before a text that takes so many columns, and those behind it
+abbrev pub before : Shape → ℕ → List ℕ
+before shape taken = if stands_right shape.data_type then blanks (shape.width - taken) else []
+
+abbrev pub behind : Shape → ℕ → List ℕ
+behind shape taken = if stands_right shape.data_type then [] else blanks (shape.width - taken)
+
+-- a text that takes so many columns, in the width of its column
+abbrev pub padded : Shape → ℕ → List ℕ → List ℕ
+padded shape taken text = before shape taken ++ (text ++ behind shape taken)
+
+-- a value
+abbrev pub value_cell : Shape → Value → List ℕ
+value_cell shape value = padded shape (value_width shape.data_type value) (value_text table_notation shape.data_type value)
+
+-- a column's name
+abbrev pub name_cell : Shape → List ℕ → List ℕ
+name_cell shape name = padded shape (text_width name) (escaped name)
+
+-- ---- rows
+
+-- the column of a number: its type and its width
+abbrev pub shape_of : List Field → List ℕ → ℕ → Shape
+shape_of fields widths number = record { data_type = type_shown fields number; width = get_or widths number 0 }
+
+-- rows in columns of these widths: a bar before each cell and after the last
+abbrev pub table_format : List Field → List ℕ → Format
+table_format fields widths = record {
+  start = codes "| ";
+  between = codes " | ";
+  end = codes " |\n";
+  name = λ number field. name_cell (shape_of fields widths number) field.name;
+  value = λ number count. value_cell (shape_of fields widths number);
+}
+
+-- dashes under a name
+abbrev pub rule_cell : ℕ → List ℕ
+rule_cell width = codes "|-" ++ (dashes width ++ codes "-")
+
+-- the line of them
+abbrev pub rule_line : List ℕ → List ℕ
+rule_line widths = flat_map rule_cell widths ++ codes "|\n"
+
+-- how many rows there are
+abbrev pub count_line : ℕ → List ℕ
+count_line rows = decimal rows ++ codes " rows\n"
+
+-- the names, dashes, the rows and their count, in columns of these widths
+abbrev pub table_by : List Field → List ℕ → List (List Value) → List ℕ
+table_by fields widths rows =
+    names_row (table_format fields widths) fields
+    ++ (rule_line widths ++ (flat_map (values_row (table_format fields widths)) rows ++ count_line (length rows)))
+
+-- all that is printed of a table
+abbrev pub table_of : Schema → List (List Value) → List ℕ
+table_of schema rows = table_by schema.fields (widths_from schema.fields 0 rows) rows

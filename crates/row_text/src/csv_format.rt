@@ -1,0 +1,174 @@
+//! Rows as CSV, as RFC 4180 has it.
+
+ghost use Rattle.std.specs.Prelude.{◌≡◌};
+ghost use Rattle.std.specs.List.{flat_map};
+ghost use Rattle.csv.specs.Writing.{needs_byte, needs_quotes, quoted};
+ghost use Rattle.arrays.specs.Batch.{rows_of};
+ghost use Rattle.grpc_frame.specs.Ends.{CanFail, CountsFailure, FailsByTransport, Writes};
+ghost use Rattle.grpc_frame.specs.Sending.{Sends};
+ghost use Rattle.row_text.specs.Records.{comma_writer, records_of, stands_in_quotes};
+
+use crate::format::{Cell, RowFormat};
+use crate::text::{Spelling, send_spelled};
+use crate::value::{TypedValue, ValueFormat, send_plain_day, send_value, type_shown};
+use crate::walk::write_all;
+use arrays::Batch;
+use arrow_schema::{Field, Schema};
+use grpc_frame::{Outbox, Output};
+use scan_base::{Fault, ValueRef};
+use std::alloc::Global;
+
+/// Writes the record of the columns' names, and a record for each row of the batches, as CSV. At most 16,384 bytes wait for the next
+/// write; where memory for them is refused each part is a write.
+///
+/// # Errors
+///
+/// `Fault::Transport` where a write failed. It is counted, and a beginning of the records is written.
+pub fn write_csv<W: Output>(
+    alloc: Global,
+    schema: &Schema,
+    batches: &[Batch],
+    output: &mut W,
+) -> Result<(), Fault>
+    requires { CanFail (W.failures output.old) }
+    ensures bytes { Writes result (W.contents output.old) (W.contents output.new)
+        (records_of schema.now (flat_map rows_of batches.now)) }
+    ensures counted { CountsFailure result (W.failures output.old) (W.failures output.new) }
+    ensures fault { FailsByTransport result }
+{
+    let fields = schema.fields.as_slice();
+    write_all(alloc, &Records { fields }, fields, batches, output)
+}
+
+// Records of columns of these fields.
+#[derive(Clone, Copy)]
+struct Records<'a> {
+    fields: &'a [Field],
+}
+
+impl<'a> ValueFormat for Records<'a> {
+    ghost use Rattle.row_text.specs.Records.{csv_notation};
+
+    ghost notation = { csv_notation };
+
+    fn null(&self) -> &'static [u8] {
+        b""
+    }
+
+    fn truth(&self, flag: bool) -> &'static [u8] {
+        if flag { b"true" } else { b"false" }
+    }
+
+    fn send_text<W: Output>(
+        &self,
+        writer: &mut W,
+        outbox: &mut Outbox,
+        text: &str,
+    ) -> Result<(), Fault> {
+        if stands_in_quotes(text.as_bytes()) {
+            return send_quoted(writer, outbox, text);
+        }
+        outbox.send_part(writer, text.as_bytes())
+    }
+
+    fn send_day<W: Output>(
+        &self,
+        writer: &mut W,
+        outbox: &mut Outbox,
+        day: i128,
+    ) -> Result<(), Fault> {
+        send_plain_day(writer, outbox, day)
+    }
+}
+
+impl<'a> RowFormat for Records<'a> {
+    ghost use Rattle.row_text.specs.Records.{csv_format};
+
+    ghost format = { λ records. csv_format records.fields.now };
+
+    fn start(&self) -> &'static [u8] {
+        b""
+    }
+
+    fn between(&self) -> &'static [u8] {
+        b","
+    }
+
+    fn end(&self) -> &'static [u8] {
+        b"\r\n"
+    }
+
+    fn send_name<W: Output>(
+        &self,
+        writer: &mut W,
+        outbox: &mut Outbox,
+        _number: usize,
+        field: &Field,
+    ) -> Result<(), Fault> {
+        self.send_text(writer, outbox, field.name.as_str())
+    }
+
+    fn send_cell<W: Output>(
+        &self,
+        writer: &mut W,
+        outbox: &mut Outbox,
+        cell: Cell<'_>,
+    ) -> Result<(), Fault> {
+        let value = cell.value;
+        if cell.count == 1 && matches!(value, ValueRef::Null) {
+            return outbox.send_part(writer, b"\"\"");
+        }
+        let data_type = type_shown(self.fields, cell.number);
+        send_value(self, writer, outbox, TypedValue { data_type, value })
+    }
+}
+
+// Whether a byte calls for quotes.
+fn calls_for_quotes(byte: u8) -> bool
+    ensures { result ≡ needs_byte comma_writer byte }
+{
+    byte == b',' || byte == b'"' || byte == b'\r' || byte == b'\n'
+}
+
+// Whether a text needs quotes.
+fn needs_quotes(text: &[u8]) -> bool
+    ensures { result ≡ needs_quotes comma_writer text.now }
+{
+    text.iter().any(|byte| calls_for_quotes(*byte))
+}
+
+// Whether a text stands in quotes.
+fn stands_in_quotes(text: &[u8]) -> bool
+    ensures { result ≡ stands_in_quotes text.now }
+{
+    text.is_empty() || needs_quotes(text)
+}
+
+// The spelling of a text in quotes, which stand twice in it.
+struct Doubled;
+
+impl Spelling for Doubled {
+    ghost use Rattle.row_text.specs.inside.Quotes.{doubled_byte};
+
+    ghost spelled = { doubled_byte };
+
+    fn escape(&self, byte: u8) -> Option<&'static [u8]> {
+        match byte {
+            b'"' => Some(b"\"\""),
+            _ => None,
+        }
+    }
+}
+
+// Sends a text in quotes.
+fn send_quoted<W: Output>(writer: &mut W, outbox: &mut Outbox, text: &str) -> Result<(), Fault>
+    requires { CanFail (W.failures writer.old) }
+    ensures bytes { Sends result (W.contents writer.old) (W.contents writer.new)
+        outbox.old outbox.new (quoted comma_writer text.now) }
+    ensures counted { CountsFailure result (W.failures writer.old) (W.failures writer.new) }
+    ensures fault { FailsByTransport result }
+{
+    outbox.send_part(writer, b"\"")?;
+    send_spelled(&Doubled, writer, outbox, text)?;
+    outbox.send_part(writer, b"\"")
+}

@@ -1,0 +1,111 @@
+//! How many columns of a terminal texts and values take, and how wide the columns of a table are.
+
+ghost use Rattle.std.specs.Prelude.{◌≡◌, ◌<◌, ◌≤◌, All, length, map, min};
+ghost use Rattle.std.specs.List.{count_by, flat_map};
+ghost use Rattle.scan_base.specs.Limits.{most_columns};
+ghost use Rattle.scan_base.specs.Value.{value_of};
+ghost use Rattle.scan_base.specs.declared.value.Value.TheVariants.{Int};
+ghost use Rattle.arrow_schema.specs.declared.data_type.DataType.TheVariants.{Date};
+ghost use Rattle.arrays.specs.Batch.{rows_of};
+ghost use Rattle.arrays.specs.Column.{values_of};
+ghost use Rattle.row_text.specs.Tables.{column_of, column_width, greatest, is_escaped};
+ghost use Rattle.row_text.specs.Tables.{text_width, value_width, widths_from};
+
+use arrays::{Batch, Cells, Column};
+use arrayvec::ArrayVec;
+use arrow_schema::{DataType, Field};
+use calendar::date_of;
+use itoa::Buffer;
+use scan_base::ValueRef;
+use unicode_width::UnicodeWidthStr;
+
+/// No column is wider than this.
+pub(crate) const MOST_WIDTH: usize = 40;
+
+// Whether a byte is written as two.
+fn is_escaped(byte: u8) -> bool
+    ensures { result ≡ is_escaped byte }
+{
+    byte == b'\\' || byte == b'\t' || byte == b'\n' || byte == b'\r'
+}
+
+// How many bytes of a text are written as two.
+fn escapes(text: &[u8]) -> usize
+    ensures { result ≡ count_by is_escaped text.now }
+{
+    let mut count = 0;
+    for byte in text {
+        if is_escaped(*byte) {
+            count += 1;
+        }
+    }
+    count
+}
+
+/// How many columns a text takes, counted no further than matters.
+pub(crate) fn text_width(text: &str) -> usize
+    ensures { result ≡ text_width text.now }
+{
+    text.width().min(MOST_WIDTH) + escapes(text.as_bytes()).min(MOST_WIDTH)
+}
+
+// How many columns a day takes: its date, or else its number.
+fn day_width(day: i128) -> usize
+    ensures { result ≡ value_width Date (Int day) }
+{
+    match date_of(day) {
+        Some(date) => date.as_str().len(),
+        None => Buffer::new().format(day).len(),
+    }
+}
+
+/// How many columns a value takes.
+pub(crate) fn value_width(data_type: DataType, value: ValueRef<'_>) -> usize
+    ensures { result ≡ value_width data_type (value_of value.entry) }
+{
+    match (data_type, value) {
+        (DataType::Date, ValueRef::Int(day)) => day_width(day),
+        (_, ValueRef::Int(number)) => Buffer::new().format(number).len(),
+        (_, ValueRef::Text(text)) => text_width(text),
+        (_, ValueRef::Null) => 4,
+        (_, ValueRef::Bool(true)) => 4,
+        (_, ValueRef::Bool(false)) => 5,
+    }
+}
+
+// The greatest of a width and of those of a column's values.
+fn widest_of_column(data_type: DataType, column: &Column, start: usize) -> usize
+    ensures { result ≡ greatest start (map (value_width data_type) (values_of column.now)) }
+{
+    let mut widest = start;
+    for place in 0..column.len() {
+        widest = widest.max(value_width(data_type, column.value_at(place)));
+    }
+    widest
+}
+
+// How wide the column of a number is.
+fn column_width(field: &Field, number: usize, batches: &[Batch]) -> usize
+    requires { All (λ batch. number < length batch.columns) batches.now }
+    ensures { result ≡ column_width field.now (column_of (flat_map rows_of batches.now) number) }
+{
+    let mut widest = text_width(field.name.as_str());
+    for batch in batches {
+        let columns = batch.columns();
+        widest = widest_of_column(field.data_type, &columns[number], widest);
+    }
+    widest.min(MOST_WIDTH)
+}
+
+/// How wide the columns are.
+pub(crate) fn widths_of(fields: &[Field], batches: &[Batch]) -> ArrayVec<usize, 64>
+    requires few { length fields.now ≤ most_columns }
+    requires as_many { All (λ batch. length batch.columns ≡ length fields.now) batches.now }
+    ensures { result.items ≡ widths_from fields.now 0 (flat_map rows_of batches.now) }
+{
+    let mut widths = ArrayVec::new();
+    for (number, field) in fields.iter().enumerate() {
+        widths.push(column_width(field, number, batches));
+    }
+    widths
+}
