@@ -82,8 +82,9 @@ class ColumnAnswers:
 
     def run(self, path):
         crate = ROOT / "crates/column_cases"
+        answers = (crate / "stdout").read_bytes().partition(b"# columns\n")[2].partition(b"# CSV\n")[0]
         with open(crate / "stdin", "rb") as source:
-            if done("scripts/column_answers.py", stdin=source) != (crate / "stdout").read_bytes():
+            if done("scripts/column_answers.py", stdin=source) != answers:
                 raise Failed("the answers are not those of crates/column_cases/stdout")
 
 

@@ -1,22 +1,24 @@
 #!/usr/bin/env python3
-"""The answers of crates/column_cases, by a second reader.
+"""The answers of crates/column_cases to its rows of columns, by a second reader.
 
-    python3 scripts/column_answers.py < crates/column_cases/stdin > crates/column_cases/stdout
+    python3 scripts/column_answers.py < crates/column_cases/stdin
 
-A line has a type, a number of slots, validity bits, a buffer, what stands behind it, and the slots that are kept:
+The rows stand between the notes `# columns` and `# CSV`, and so do their answers in crates/column_cases/stdout.
+
+A row has a type, a number of slots, validity bits, a buffer, the texts that go with it, and the slots that are kept:
 from one up to, not with, another. A further word 3 says that every third of those is gathered, from the first on. Each
 slot's value is worked out here from Arrow's columnar format alone, with Python's own numbers and texts, and each buffer
 is written anew: of a dictionary the indices are cut as they lie, and else it is made of those values. It shares nothing with
 the program.
 
-A line `Built Int64 65 3` has a column that is built of 65 values of a rule, every third of them null, and none where the
+A row `Built Int64 65 3` has a column that is built of 65 values of a rule, every third of them null, and none where the
 last word is 0. Under a null of fixed width such a column has zeros.
 
-A line `Slots 5 20 Int8 9 ..` has a column of 40 slots of the column that stands behind it: for each of 20 turns one of all
-its slots and one of those that are kept, the next turn's five further on, and from the front again behind the last. Under
+A row `Slots 5 20 Int8 9 ..` has a column of 40 slots of the column that comes after it: for each of 20 turns one of all
+its slots and one of those that are kept, the next turn's five further on, and from the front again after the last. Under
 a null of fixed width it has zeros, and where the column has a dictionary it is one of texts.
 
-A line `Coded ..` has the column of texts that stands behind the word: as indices over its own texts, then those texts, and then
+A row `Coded ..` has the column of texts that comes after the word: as indices over its own texts, then those texts, and then
 the indices once more, since the program codes the column in a batch and alone.
 """
 
@@ -227,5 +229,11 @@ def told(slots, buffers):
     return " | ".join(parts)
 
 
-for line in sys.stdin:
-    print(answer(line))
+def rows_of_columns(lines):
+    """The lines between the two notes."""
+    rows = [line.rstrip("\n") for line in lines]
+    return rows[rows.index("# columns") + 1:rows.index("# CSV")]
+
+
+for row in rows_of_columns(sys.stdin):
+    print(answer(row))

@@ -1,5 +1,5 @@
 """Messages of 70,000 slots, a type each, laid out by layout.py: more than 2^16 rows, cells and values. A body is given as
-the text that `crates/arrow_cases` reads: digits, digits `*` how many times, or `first:step:count`, numbers of four bytes."""
+the text that `crates/column_cases` reads: digits, digits `*` how many times, or `first:step:count`, numbers of four bytes."""
 import struct
 
 import layout

@@ -1,7 +1,7 @@
 #!/usr/bin/env python3
-"""Writes stdin and stdout of crates/arrow_cases: every message and every case of index.txt and of lies.py, whose answers
-are by hand; what our writer makes, laid out by written.py; messages with bytes changed or cut, and large ones, whose
-answers are those of reader.py."""
+"""Writes the rows of messages in stdin and stdout of crates/column_cases, which come before those of columns: every message and
+every case of index.txt and of lies.py, whose answers are by hand; what our writer makes, laid out by written.py; messages with
+bytes changed or cut, and large ones, whose answers are those of reader.py."""
 import copy
 import json
 import pathlib
@@ -14,7 +14,9 @@ import written
 from reader import Fault, Reader, Table
 
 HERE = pathlib.Path(__file__).parent
-CRATE = HERE.parent.parent / "crates/arrow_cases"
+CRATE = HERE.parent.parent / "crates/column_cases"
+# The note, in stdin as in stdout, before the rows that are not of messages.
+OTHERS = "# columns\n"
 FAULTS = {"F6": "F6 BadFlatbuffer", "F7": "F7 UnsupportedArrow", "F8": "F8 BadBatch", "F12": "F12 LimitReached"}
 # The messages that are changed byte by byte and cut at each length, behind others.
 HOSTILE = "hostile_schema hostile_dictionary"
@@ -101,8 +103,6 @@ def cases():
             add(f"case {names}", f"{name}: {told(found)}")
         if found.startswith(("schema", "rows")):
             add(f"again {names}", f"{name}, written again: {told(found)}")
-        if found.startswith("rows"):
-            add(f"texts {names}", f"{name}, written as texts: {told(found)}")
 
 
 def own_lies():
@@ -217,10 +217,9 @@ def own_writer():
     for names, found in written.CASES:
         assert answer(reader_behind(names.split()[:-1]), *MESSAGES[names.split()[-1]]) == found, names
         add(f"case {names}", f"{names.split()[-1]}: {told(found)}")
-    for word, batches in ("written", written.BATCHES), ("written_texts", written.TEXTS):
-        for names, (words, body) in batches.items():
-            header = written.batch_header(*words).hex().upper()
-            add(f"{word} {names}", f"{names.split()[-1]}, written: {header} {bytes.fromhex(body).hex().upper()}")
+    for names, (words, body) in written.BATCHES.items():
+        header = written.batch_header(*words).hex().upper()
+        add(f"written {names}", f"{names.split()[-1]}, written: {header} {bytes.fromhex(body).hex().upper()}")
 
 
 # Large messages: the answers are those of reader.py.
@@ -253,7 +252,15 @@ def large_ones():
         add(f"count {names}", f"{name}: {counts}", f"{name}, written again: {counts}")
 
 
+def renew(name, lines):
+    """Sets the rows of messages of a file. The others stay."""
+    _, note, others = (CRATE / name).read_text().partition(OTHERS)
+    assert note, f"{name} has no note {OTHERS}"
+    (CRATE / name).write_text("\n".join(lines) + "\n" + note + others)
+
+
 def main():
+    add("# messages", "# messages")
     cases()
     own_lies()
     for part, names in SWEPT:
@@ -262,8 +269,8 @@ def main():
     hostile_numbers()
     own_writer()
     large_ones()
-    (CRATE / "stdin").write_text("\n".join(INPUT) + "\n")
-    (CRATE / "stdout").write_text("\n".join(OUTPUT) + "\n")
+    renew("stdin", INPUT)
+    renew("stdout", OUTPUT)
     print(f"{len(INPUT)} lines of input, {len(OUTPUT)} of output")
 
 

@@ -51,12 +51,6 @@ BATCHES = {
     "schema_of_two dictionary_a dictionary_2 indices_two": (
         (2, (0, 1), (0, 2, 1, 4)), "0000000000000000 0200000000000000 0000010000000000"),
 }
-# The same, once columns of dictionaries are copied to texts.
-TEXTS = {
-    "schema_of_two dictionary_a dictionary_2 indices_two": (
-        (2, (0, 1), (0, 12, 2, 1, 12, 1)), "000000000100000002000000 00000000 6161000000000000"
-        "0200000000000000 000000000000000001000000 00000000 7100000000000000"),
-}
 
 
 def padded(data):

@@ -1,3 +1,0 @@
-mod Slots
-pub mod Made
-pub mod Answered

@@ -1,7 +1,0 @@
-//! Batches without dictionaries.
-#![tactic(auto)]
-
-pub mod laws;
-mod plain;
-
-pub use crate::plain::plain_batch;
