@@ -1,4 +1,4 @@
--- What loops keep that write behind a list.
+-- What loops keep that write after a list.
 use Rattle.std.proofs.Common.{◌≡◌, ℕ, ◌+◌, ◌-◌, ◌*◌, ◌/◌, ◌≤◌, Bool, if◌then◌else◌, List, [], ◌∷◌, ◌++◌, length, take, drop, map, refl, sym, ap, ◌∙◌, arith}
 use Rattle.std.specs.Int.{to_le_bytes, w64, div_ceil}
 use Rattle.std.specs.List.{range_with_len}
@@ -38,7 +38,7 @@ word_more bits from len word room more =
     ∙ ap (λ (xs : List Bool). to_le_bytes w64 (mask_l xs) ++ packed_bits (drop 64 (take (64 + rest) behind))) (take-take 64 (64 + rest) behind (omega arith))
     ∙ ap (λ (xs : List Bool). to_le_bytes w64 (mask_l (take 64 behind)) ++ packed_bits xs) (drop-take 64 rest behind ∙ ap (take rest) (drop-drop 64 place bits ∙ ap (λ (n : ℕ). drop n bits) f))
 
--- and the bits behind the last 64
+-- and the bits after the last 64
 pub word_last : (bits : List Bool) (from len rest : ℕ) → from + len ≤ length bits → rest ≡ len - 64 * (len / 64) →
     packed_bits (take (len - 64 * (len / 64)) (drop (from + 64 * (len / 64)) bits))
     ≡ take (div_ceil rest 8) (to_le_bytes w64 (mask_l (take rest (drop (from + 64 * (len / 64)) bits))))

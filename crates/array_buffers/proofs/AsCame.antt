@@ -26,7 +26,7 @@ bytes_again at xs bytes room =
     four : (n a b c d : ℕ) → n % 256 ≡ a → n / 256 % 256 ≡ b → n / 65536 % 256 ≡ c → n / 16777216 % 256 ≡ d → little_bytes 4 n ≡ a ∷ b ∷ c ∷ d ∷ []
     four n a b c d p q r s = rw (← p, ← q, ← r, ← s) refl
 
--- the offsets of texts whose bytes stand one behind another
+-- the offsets of texts whose bytes stand one after another
 pub offsets_stand : (slot : ℕ → Value) (cells : TextsAt) (first at n : ℕ) → AreTexts cells → AreBytes cells.offsets → first + at + n ≤ cells.len →
     4 * (first + at + n + 1) ≤ length cells.offsets → ((j : ℕ) → j < at + n → text_bytes (slot j) ≡ text_at cells (first + j)) →
     slice_range cells.offsets (4 * (first + at)) (4 * (first + at + n + 1)) ≡ offsets_from (element_at 4 cells.offsets (first + at)) (map slot (range_with_len at n))

@@ -73,7 +73,7 @@ byte_behind bits m k =
     let e : 8 * m + 8 * k ≡ 8 * (m + k) = omega arith in
     ap (λ (xs : List Bool). bits_number (take 8 xs)) (drop-drop (8 * k) (8 * m) bits ∙ ap (λ (n : ℕ). drop n bits) e)
 
--- the bits of a word, and those behind it
+-- the bits of a word, and those after it
 pub word_then : (bits : List Bool) → 64 ≤ length bits → packed_bits bits ≡ to_le_bytes w64 (mask_l (take 64 bits)) ++ packed_bits (drop 64 bits)
 unfolding packed_bits
 word_then bits long =

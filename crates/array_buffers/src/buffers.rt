@@ -12,8 +12,8 @@ use arrays::{Cells, Column, Layout, TextsRef};
 use bytes::Bytes;
 use std::alloc::{AllocError, Global};
 
-/// A buffer as it is written: a part of the one that came, where that has these bytes, and else one of its own, for
-/// which room is made for `room` bytes at once.
+/// A buffer as it is written: a part of the one that came, where that has these bytes, and else one
+/// of its own, for which room is made for `room` bytes at once.
 ///
 /// # Errors
 ///
@@ -77,7 +77,7 @@ fn offsets_that_came(column: &Column) -> Result<Option<Bytes>, AllocError>
     }
 }
 
-// The bytes of all texts, where they stand one behind another.
+// The bytes of all texts, where they stand one after another.
 fn texts_that_came(column: &Column) -> Result<Option<Bytes>, AllocError>
     ensures { IfOk result (λ found. IfSome found (λ bytes. bytes ≡ buffer_of column.now 2)) }
 {
@@ -89,7 +89,8 @@ fn texts_that_came(column: &Column) -> Result<Option<Bytes>, AllocError>
     }
 }
 
-// The texts of a column, where no null has bytes in the data: what its slots cut is what is written.
+// The texts of a column, where no null has bytes in the data: what its slots cut is what is
+// written.
 fn texts_as_written(column: &Column) -> Option<TextsRef<'_>>
     ensures { IfSome result (λ texts. (column.now.layout ≡ TextsLayout texts)
         × ((place : ℕ) → place < column.now.len →

@@ -1,4 +1,4 @@
-//! Bits packed behind bytes.
+//! Bits packed after bytes.
 
 ghost use Rattle.std.specs.Prelude.{◌≡◌, ◌≤◌, ◌+◌, ◌++◌, OnOk, length, take, drop};
 ghost use Rattle.array_buffers.specs.Written.{packed_bits};
@@ -6,8 +6,8 @@ ghost use Rattle.array_buffers.specs.Written.{packed_bits};
 use bitmap::Bits;
 use std::alloc::AllocError;
 
-/// Writes the `len` bits from `from` on behind what `out` has, 64 at a time, and zeros behind the last up to
-/// a whole byte.
+/// Writes the `len` bits from `from` on after what `out` has, 64 at a time, and zeros after the
+/// last up to a whole byte.
 pub(crate) fn append_bits(
     out: &mut Vec<u8>,
     bits: &Bits,

@@ -5,15 +5,16 @@ ghost use Rattle.std.specs.Prelude.{SomeIff, length, take, drop};
 ghost use Rattle.arrays.specs.Column.{values_of};
 ghost use Rattle.arrays.specs.Nulls.{valid_slots};
 ghost use Rattle.arrays.specs.Written.{offsets_from, texts_joined};
-ghost use Rattle.array_buffers.specs.Written.{bits_number, packed_bits, validity_written, buffers_written};
+ghost use Rattle.array_buffers.specs.Written.{bits_number, packed_bits, validity_written};
+ghost use Rattle.array_buffers.specs.Written.{buffers_written};
 ghost use Rattle.array_buffers.specs.Written.{buffer_of, most_bytes, HasShortTexts};
 
 use crate::packing::append_bits;
 use arrays::{Cells, Column, Layout, Nulls, byte_width, is_null};
 use std::alloc::AllocError;
 
-/// How many buffers are written of the column: validity bits and values, and of texts the validity bits, the
-/// offsets and the bytes that they cut.
+/// How many buffers are written of the column: validity bits and values, and of texts the validity
+/// bits, the offsets and the bytes that they cut.
 pub fn buffer_count(column: &Column) -> usize
     ensures { result ≡ length (buffers_written column.now) }
 {
@@ -23,9 +24,9 @@ pub fn buffer_count(column: &Column) -> usize
     }
 }
 
-/// How many bytes a buffer has where it is written. A slice is written as its own slots alone, and the
-/// validity bits of a column without nulls have no byte. `None` for texts of 2 to the 31 bytes or more,
-/// which no offset can name, and for a buffer of 2 to the 64.
+/// How many bytes a buffer has where it is written. A slice is written as its own slots alone, and
+/// the validity bits of a column without nulls have no byte. `None` for texts of 2 to the 31 bytes
+/// or more, which no offset can name, and for a buffer of 2 to the 64.
 pub fn buffer_length(column: &Column, index: usize) -> Option<usize>
     requires { index < length (buffers_written column.now) }
     ensures { SomeIff result (length (buffer_of column.now index) < most_bytes index)
@@ -40,8 +41,8 @@ pub fn buffer_length(column: &Column, index: usize) -> Option<usize>
     texts_length(column)
 }
 
-/// Writes a buffer behind what `out` has. It fails with `AllocError` where memory is refused, and then
-/// `out` begins as before.
+/// Writes a buffer after what `out` has. It fails with `AllocError` where memory is refused, and
+/// then `out` begins as before.
 pub fn append_buffer(column: &Column, index: usize, out: &mut Vec<u8>) -> Result<(), AllocError>
     requires index { index < length (buffers_written column.now) }
     requires texts { HasShortTexts column.now }
@@ -84,7 +85,8 @@ fn append_validity(column: &Column, out: &mut Vec<u8>) -> Result<(), AllocError>
 
 // Writes a bit for each slot, 1 where it is not null.
 fn append_valid_slots(column: &Column, out: &mut Vec<u8>) -> Result<(), AllocError>
-    ensures ok { OnOk result (out.new.items ≡ out.old.items ++ packed_bits (valid_slots column.now)) }
+    ensures ok { OnOk result
+        (out.new.items ≡ out.old.items ++ packed_bits (valid_slots column.now)) }
     ensures begins { take (length out.old.items) out.new.items ≡ out.old.items }
 {
     for byte in 0..column.len().div_ceil(8) {
@@ -110,7 +112,8 @@ fn valid_byte(column: &Column, byte: usize) -> u8
 
 // How many bytes the second buffer has: packed values or indices, or the offsets of texts.
 fn values_length(column: &Column) -> Option<usize>
-    ensures { SomeIff result (length (buffer_of column.now 1) < 2 ^ 64) (length (buffer_of column.now 1)) }
+    ensures { SomeIff result (length (buffer_of column.now 1) < 2 ^ 64)
+        (length (buffer_of column.now 1)) }
 {
     let len = column.len();
     match column.layout() {
@@ -147,7 +150,7 @@ fn append_values(column: &Column, out: &mut Vec<u8>) -> Result<(), AllocError>
     }
 }
 
-// The bytes of all texts, where they are seen to stand one behind another: no slot may be null.
+// The bytes of all texts, where they are seen to stand one after another: no slot may be null.
 fn adjoining_texts(column: &Column) -> Option<&[u8]>
     ensures bytes { IfSome result (λ bytes. bytes.now ≡ texts_joined (values_of column.now)) }
     ensures short { IsSome result → length (texts_joined (values_of column.now)) < 2 ^ 31 }
@@ -162,8 +165,8 @@ fn adjoining_texts(column: &Column) -> Option<&[u8]>
     }
 }
 
-/// How many bytes the texts of a column of texts have, where an offset can name each of them: fewer than 2 to the 31.
-/// A column of another layout has none.
+/// How many bytes the texts of a column of texts have, where an offset can name each of them: fewer
+/// than 2 to the 31. A column of another layout has none.
 pub fn texts_length(column: &Column) -> Option<usize>
     ensures { SomeIff result (HasShortTexts column.now) (length (buffer_of column.now 2)) }
 {
@@ -202,7 +205,8 @@ fn summed_length(column: &Column) -> Option<usize>
 // Writes the offsets that cut the texts.
 fn append_offsets(column: &Column, out: &mut Vec<u8>) -> Result<(), AllocError>
     requires { length (texts_joined (values_of column.now)) < 2 ^ 31 }
-    ensures ok { OnOk result (out.new.items ≡ out.old.items ++ offsets_from 0 (values_of column.now)) }
+    ensures ok { OnOk result
+        (out.new.items ≡ out.old.items ++ offsets_from 0 (values_of column.now)) }
     ensures begins { take (length out.old.items) out.new.items ≡ out.old.items }
 {
     let mut offset: u32 = 0;

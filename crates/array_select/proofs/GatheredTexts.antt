@@ -21,7 +21,7 @@ use Rattle.array_select.proofs.Gathered.{slot_is}
 use Rattle.arrays.proofs.TextSlots.{text_is_utf8}
 use Rattle.arrays.proofs.Offsets.{offset_again, text_again, joined-le, joined-next}
 
--- slots of texts that stand one behind another
+-- slots of texts that stand one after another
 abbrev pub texts_made : Option (List Bool) → List Value → TextsAt
 texts_made validity values = record { validity = validity; offsets = offsets_from 0 values; bytes = texts_joined values; len = length values }
 

@@ -124,7 +124,7 @@ all_bits (suc k) b =
     let rest : (2 ^ suc k - 1) / 2 ≡ 2 ^ k - 1 = omega (arith, pow-suc 2 k, power_some k) in
     ap₂ (turn k b) odd rest ∙ ap (λ (l : List ℕ). b ∷ l) (all_bits k (b + 1))
 
--- behind smaller ones they rise
+-- after smaller ones they rise
 pub run_rises : (old : List ℕ) (b n : ℕ) → All (λ (p : ℕ). p < b) old → AreRising old → AreRising (old ++ range_with_len b n)
 run_rises old b n below rises = λ k j low within. by k j low (omega (arith, within, whole)) (cases_lt k (length old)) (cases_lt j (length old))
   where

@@ -12,7 +12,8 @@ has_texts Utf8 = true
 has_texts (Dictionary encoding) = true
 has_texts _ = false
 
--- the texts are so few that offsets name each of their bytes, and of more than one value so few that a batch has room
+-- the texts are so few that offsets name each of their bytes, and of more than one value so few
+-- that a batch has room
 pub record AreShort (values : List Value) : Type 0 where
   pub named : length (texts_joined values) < 2 ^ 31
   pub light : 1 < length values → length (texts_joined values) ≤ most_column_bytes

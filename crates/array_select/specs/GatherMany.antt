@@ -8,7 +8,8 @@ use Rattle.arrays.specs.Column.{ColumnAt, slot_of}
 -- the column of a number
 abbrev pub column_in : List ColumnAt → ℕ → ColumnAt
 column_in columns number =
-    get_or columns number (record { layout = layout.Bools (record { validity = None; values = [] }); first = 0; len = 0 })
+    get_or columns number
+    (record { layout = layout.Bools (record { validity = None; values = [] }); first = 0; len = 0 })
 
 -- the value of the slot at a place
 abbrev pub value_in : List ColumnAt → SlotPlace → Value

@@ -1,4 +1,4 @@
--- Slots of any columns, one behind another.
+-- Slots of any columns, one after another.
 use Rattle.std.specs.Prelude.{◌<◌}
 use Rattle.scan_base.specs.declared.value.Value.{Value}
 use Rattle.arrow_schema.specs.declared.data_type.DataType.{DataType}
@@ -12,4 +12,5 @@ slot_value slot = slot_of slot.column.now slot.place
 
 -- the slot is there, in a column of the type
 abbrev pub IsSlotOf : DataType → SlotRef → Type 0
-IsSlotOf data_type slot = (slot.place < slot.column.now.len) × IsOfType data_type slot.column.now.layout
+IsSlotOf data_type slot =
+    (slot.place < slot.column.now.len) × IsOfType data_type slot.column.now.layout

@@ -8,7 +8,8 @@ ghost use Rattle.arrays.specs.Validity.{IsLong};
 ghost use Rattle.arrays.specs.Layout.{layout_count, IsLayout};
 ghost use Rattle.arrays.specs.Column.{slot_of, values_of};
 ghost use Rattle.arrays.specs.Typed.{IsOfType};
-ghost use Rattle.array_select.specs.inside.Gathered.{AreAmong, HasElementsAt, AreValidAt, AreValuesAt, AreGathered};
+ghost use Rattle.array_select.specs.inside.Gathered.{AreAmong, HasElementsAt, AreValidAt};
+ghost use Rattle.array_select.specs.inside.Gathered.{AreValuesAt, AreGathered};
 
 use crate::gather_texts::gather_texts;
 use crate::selection::Selection;
@@ -18,15 +19,16 @@ use bitmap::Bits;
 use bytes::Bytes;
 use std::alloc::{AllocError, Global};
 
-/// The slots of a column at these places, in order: a column of as many slots, in buffers of its own. Of a dictionary
-/// the indices are gathered, and its values are shared.
+/// The slots of a column at these places, in order: a column of as many slots, in buffers of its
+/// own. Of a dictionary the indices are gathered, and its values are shared.
 ///
 /// # Errors
 ///
 /// `AllocError` where memory is refused.
 pub fn gather(alloc: Global, column: &Column, places: &Selection) -> Result<Column, AllocError>
     requires within { All (λ place. place < column.now.len) places.now }
-    ensures values { IfOk result (λ gathered. values_of gathered ≡ map (slot_of column.now) places.now) }
+    ensures values { IfOk result
+        (λ gathered. values_of gathered ≡ map (slot_of column.now) places.now) }
     ensures long { IfOk result (λ gathered. gathered.len ≡ length places.now) }
     ensures typed { IfOk result (λ gathered. (data_type : DataType)
         → IsOfType data_type column.now.layout → IsOfType data_type gathered.layout) }
@@ -79,7 +81,8 @@ fn gather_integers(
     places: &[u32],
 ) -> Result<Values, AllocError>
     requires { AreAmong first places.now cells.now.len }
-    ensures { IfOk result (λ values. AreValuesAt values (layout.Integers cells.now) first places.now) }
+    ensures { IfOk result
+        (λ values. AreValuesAt values (layout.Integers cells.now) first places.now) }
 {
     let integer = cells.integer_type();
     let _count = cells.len();
@@ -95,7 +98,8 @@ fn gather_decimals(
     places: &[u32],
 ) -> Result<Values, AllocError>
     requires { AreAmong first places.now cells.now.len }
-    ensures { IfOk result (λ values. AreValuesAt values (layout.Decimals cells.now) first places.now) }
+    ensures { IfOk result
+        (λ values. AreValuesAt values (layout.Decimals cells.now) first places.now) }
 {
     let _count = cells.len();
     let packed = Bytes::from_vec(gather_elements::<16>(alloc, cells.values(), first, places)?)?;
@@ -122,7 +126,8 @@ fn gather_indices(
     places: &[u32],
 ) -> Result<Values, AllocError>
     requires { AreAmong first places.now cells.now.len }
-    ensures { IfOk result (λ values. AreValuesAt values (layout.Indices cells.now) first places.now) }
+    ensures { IfOk result
+        (λ values. AreValuesAt values (layout.Indices cells.now) first places.now) }
 {
     let index = cells.index_type();
     let _count = cells.len();
@@ -154,9 +159,11 @@ fn gather_packed(
     first: usize,
     places: &[u32],
 ) -> Result<Vec<u8>, AllocError>
-    requires { (len : ℕ) × (byte_width integer * len ≤ length values.now) × AreAmong first places.now len }
+    requires { (len : ℕ) × (byte_width integer * len ≤ length values.now)
+        × AreAmong first places.now len }
     ensures { IfOk result (λ packed.
-        HasElementsAt (byte_width integer) packed.items values.now first places.now (length places.now)) }
+        HasElementsAt (byte_width integer) packed.items values.now first places.now
+        (length places.now)) }
 {
     match integer {
         IntegerType::Int8 | IntegerType::UInt8 => gather_elements::<1>(

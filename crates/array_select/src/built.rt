@@ -20,21 +20,23 @@ use std::alloc::{AllocError, Global};
 ///
 /// `AllocError` where memory is refused.
 pub fn column_of_int64s(alloc: Global, values: &[Option<i64>]) -> Result<Column, AllocError>
-    ensures values { IfOk result (λ column. values_of column ≡ map (value_or_null value.Int) values.now) }
+    ensures values { IfOk result
+        (λ column. values_of column ≡ map (value_or_null value.Int) values.now) }
     ensures typed { IfOk result (λ column. IsOfType (type.Integer integer.Int64) column.layout) }
     ensures long { IfOk result (λ column. column.len ≡ length values.now) }
 {
     fill_column(alloc, DataType::Integer(IntegerType::Int64), values)
 }
 
-/// A column of decimals of 38 digits with none behind the point of these values, null where there is none. A
-/// number of more digits stands too, as it may in a column that came.
+/// A column of decimals of 38 digits with none after the point of these values, null where there is
+/// none. A number of more digits stands too, as it may in a column that came.
 ///
 /// # Errors
 ///
 /// `AllocError` where memory is refused.
 pub fn column_of_decimals(alloc: Global, values: &[Option<i128>]) -> Result<Column, AllocError>
-    ensures values { IfOk result (λ column. values_of column ≡ map (value_or_null value.Int) values.now) }
+    ensures values { IfOk result
+        (λ column. values_of column ≡ map (value_or_null value.Int) values.now) }
     ensures typed { IfOk result (λ column. IsOfType type.Decimal128 column.layout) }
     ensures long { IfOk result (λ column. column.len ≡ length values.now) }
 {
@@ -47,22 +49,26 @@ pub fn column_of_decimals(alloc: Global, values: &[Option<i128>]) -> Result<Colu
 ///
 /// `AllocError` where memory is refused.
 pub fn column_of_bools(alloc: Global, values: &[Option<bool>]) -> Result<Column, AllocError>
-    ensures values { IfOk result (λ column. values_of column ≡ map (value_or_null value.Bool) values.now) }
+    ensures values { IfOk result
+        (λ column. values_of column ≡ map (value_or_null value.Bool) values.now) }
     ensures typed { IfOk result (λ column. IsOfType type.Bool column.layout) }
     ensures long { IfOk result (λ column. column.len ≡ length values.now) }
 {
     fill_column(alloc, DataType::Bool, values)
 }
 
-/// A column of these texts, null where there is none. All texts together have fewer bytes than an offset can name.
+/// A column of these texts, null where there is none. All texts together have fewer bytes than an
+/// offset can name.
 ///
 /// # Errors
 ///
 /// `AllocError` where memory is refused.
 pub fn column_of_texts(alloc: Global, values: &[Option<&str>]) -> Result<Column, AllocError>
-    requires { length (texts_joined (map (value_or_null (λ text. value.Text text.now)) values.now)) < 2 ^ 31 }
+    requires { length (texts_joined (map (value_or_null (λ text. value.Text text.now)) values.now))
+        < 2 ^ 31 }
     ensures values { IfOk result
-        (λ column. values_of column ≡ map (value_or_null (λ text. value.Text text.now)) values.now) }
+        (λ column. values_of column
+        ≡ map (value_or_null (λ text. value.Text text.now)) values.now) }
     ensures typed { IfOk result (λ column. IsOfType type.Utf8 column.layout) }
     ensures long { IfOk result (λ column. column.len ≡ length values.now) }
 {

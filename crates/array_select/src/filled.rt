@@ -8,7 +8,8 @@ ghost use Rattle.arrow_schema.specs.declared.data_type.DataType.TheVariants as t
 ghost use Rattle.arrays.specs.Column.{values_of};
 ghost use Rattle.arrays.specs.Typed.{IsOfType};
 ghost use Rattle.arrays.specs.Written.{texts_joined};
-ghost use Rattle.array_select.specs.inside.Filled.{number_of, flag_of, AreOfType, AreValidUnlessNull, AreNumbersOf, FillSlots};
+ghost use Rattle.array_select.specs.inside.Filled.{number_of, flag_of, AreOfType};
+ghost use Rattle.array_select.specs.inside.Filled.{AreValidUnlessNull, AreNumbersOf, FillSlots};
 
 use crate::filled_texts::fill_texts;
 use crate::source::Source;
@@ -19,8 +20,8 @@ use bytes::Bytes;
 use scan_base::ValueRef;
 use std::alloc::{AllocError, Global};
 
-/// A column of a type, or of the texts of a dictionary, with these slots. Where none is null, it has no validity
-/// bits.
+/// A column of a type, or of the texts of a dictionary, with these slots. Where none is null, it
+/// has no validity bits.
 pub(crate) fn fill_column<S: Source>(
     alloc: Global,
     data_type: DataType,
@@ -38,12 +39,13 @@ pub(crate) fn fill_column<S: Source>(
     Ok(Column::new(Slots::from_parts(validity, slots.len(), kept)))
 }
 
-// The validity bits of slots that are valid where they are not null, and none where no slot is null. Each value is one
-// of its slot's type.
+// The validity bits of slots that are valid where they are not null, and none where no slot is
+// null. Each value is one of its slot's type.
 fn fill_validity<S: Source>(alloc: Global, slots: &[S]) -> Result<Option<Bits>, AllocError>
     requires { All S.IsThere slots.now }
     ensures valid { IfOk result (λ validity. AreValidUnlessNull validity (map S.held slots.now)) }
-    ensures typed { IfOk result (λ validity. (data_type : DataType) → All (S.IsOf data_type) slots.now →
+    ensures typed { IfOk result
+        (λ validity. (data_type : DataType) → All (S.IsOf data_type) slots.now →
         AreOfType data_type (map S.held slots.now) (length slots.now)) }
 {
     let mut bits = BitsBuilder::with_capacity(alloc, slots.len())?;

@@ -24,7 +24,7 @@ pub(crate) fn fill_texts<S: Source>(alloc: Global, slots: &[S]) -> Result<Values
     Ok(Values::Texts(Bytes::from_vec(offsets)?, Bytes::from_vec(bytes)?))
 }
 
-// The offsets that cut the texts where they stand one behind another, and how many bytes those have.
+// The offsets that cut the texts where they stand one after another, and how many bytes those have.
 fn pack_offsets<S: Source>(alloc: Global, slots: &[S]) -> Result<(Vec<u8>, u32), AllocError>
     requires there { All S.IsThere slots.now }
     requires short { length (texts_joined (map S.held slots.now)) < 2 ^ 31 }
@@ -42,7 +42,7 @@ fn pack_offsets<S: Source>(alloc: Global, slots: &[S]) -> Result<(Vec<u8>, u32),
     Ok((offsets, offset))
 }
 
-// The texts, one behind another; room for `total` bytes is made at once.
+// The texts, one after another; room for `total` bytes is made at once.
 fn join_texts<S: Source>(alloc: Global, slots: &[S], total: u32) -> Result<Vec<u8>, AllocError>
     requires { All S.IsThere slots.now }
     ensures { IfOk result (λ made. made.items ≡ texts_joined (map S.held slots.now)) }

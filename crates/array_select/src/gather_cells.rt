@@ -9,7 +9,8 @@ ghost use Rattle.arrays.specs.Typed.{IsOfType};
 ghost use Rattle.arrays.specs.Validity.{is_valid, IsLong};
 ghost use Rattle.array_select.specs.inside.Filled.{flag_of, AreValidUnlessNull, FillSlots};
 ghost use Rattle.array_select.specs.inside.GatheredMany.{columns_of, values_at, AreThere};
-ghost use Rattle.array_select.specs.inside.GatheredMany.{cell_at, HasNumbers, HaveNumbers, HaveRoom, HasCellsAt};
+ghost use Rattle.array_select.specs.inside.GatheredMany.{cell_at, HasNumbers, HaveNumbers};
+ghost use Rattle.array_select.specs.inside.GatheredMany.{HaveRoom, HasCellsAt};
 
 use crate::filled::flag_of;
 use crate::many_places::SlotPlaces;
@@ -53,7 +54,8 @@ impl<'a> SlotPlaces<'a> {
         validity: &Option<Bits>,
     ) -> Result<Values, AllocError>
         requires there { AreThere self.now }
-        requires typed { All (λ column. IsOfType (type.Integer integer) column.layout) (columns_of self.now) }
+        requires typed { All (λ column. IsOfType (type.Integer integer) column.layout)
+            (columns_of self.now) }
         requires valid { AreValidUnlessNull validity.now (values_at self.now) }
         ensures { IfOk result (λ kept. FillSlots kept (type.Integer integer) (values_at self.now)) }
     {
@@ -85,7 +87,8 @@ impl<'a> SlotPlaces<'a> {
         validity: &Option<Bits>,
     ) -> Result<Values, AllocError>
         requires there { AreThere self.now }
-        requires typed { All (λ column. IsOfType type.Decimal128 column.layout) (columns_of self.now) }
+        requires typed { All (λ column. IsOfType type.Decimal128 column.layout)
+            (columns_of self.now) }
         requires valid { AreValidUnlessNull validity.now (values_at self.now) }
         ensures { IfOk result (λ kept. FillSlots kept type.Decimal128 (values_at self.now)) }
     {
@@ -102,9 +105,11 @@ impl<'a> SlotPlaces<'a> {
         alloc: Global,
         integer: IntegerType,
     ) -> Result<Vec<&'a [u8]>, AllocError>
-        requires { All (λ column. IsOfType (type.Integer integer) column.layout) (columns_of self.now) }
+        requires { All (λ column. IsOfType (type.Integer integer) column.layout)
+            (columns_of self.now) }
         ensures { IfOk result (λ sources.
-            HaveNumbers (number_from integer) (byte_width integer) (map (λ source. source.now) sources.items)
+            HaveNumbers (number_from integer) (byte_width integer)
+            (map (λ source. source.now) sources.items)
             (columns_of self.now) (length self.now.columns.now)) }
     {
         let mut sources = Vec::with_capacity(alloc, self.columns.len())?;
@@ -136,10 +141,12 @@ impl<'a> SlotPlaces<'a> {
         sources: &[&[u8]],
         validity: &Option<Bits>,
     ) -> Result<Vec<u8>, AllocError>
-        requires room { HaveRoom (byte_width integer) (map (λ source. source.now) sources.now) self.now.places.now }
+        requires room { HaveRoom (byte_width integer)
+            (map (λ source. source.now) sources.now) self.now.places.now }
         requires valid { IsLong validity.now (length self.now.places.now) }
-        ensures { IfOk result (λ packed. HasCellsAt (byte_width integer) packed.items (map (λ source. source.now) sources.now)
-            self.now.places.now validity.now (length self.now.places.now)) }
+        ensures { IfOk result
+            (λ packed. HasCellsAt (byte_width integer) packed.items (map (λ source. source.now)
+            sources.now) self.now.places.now validity.now (length self.now.places.now)) }
     {
         match integer {
             IntegerType::Int8 | IntegerType::UInt8 => {
@@ -157,7 +164,8 @@ impl<'a> SlotPlaces<'a> {
         }
     }
 
-    // The packed numbers of the slots, of `WIDTH` bytes each, with zeros in place of those that are not valid.
+    // The packed numbers of the slots, of `WIDTH` bytes each, with zeros in place of those that are
+    // not valid.
     fn gather_cells<const WIDTH: usize>(
         &self,
         alloc: Global,
@@ -165,9 +173,11 @@ impl<'a> SlotPlaces<'a> {
         validity: &Option<Bits>,
     ) -> Result<Vec<u8>, AllocError>
         requires width { WIDTH ≤ 16 }
-        requires room { HaveRoom WIDTH (map (λ source. source.now) sources.now) self.now.places.now }
+        requires room { HaveRoom WIDTH
+            (map (λ source. source.now) sources.now) self.now.places.now }
         requires valid { IsLong validity.now (length self.now.places.now) }
-        ensures { IfOk result (λ packed. HasCellsAt WIDTH packed.items (map (λ source. source.now) sources.now)
+        ensures { IfOk result
+            (λ packed. HasCellsAt WIDTH packed.items (map (λ source. source.now) sources.now)
             self.now.places.now validity.now (length self.now.places.now)) }
     {
         let mut packed = Vec::with_capacity(alloc, WIDTH.saturating_mul(self.places.len()))?;
@@ -186,7 +196,8 @@ impl<'a> SlotPlaces<'a> {
         valid: bool,
     ) -> &'b [u8]
         requires width { WIDTH ≤ 16 }
-        requires room { HaveRoom WIDTH (map (λ source. source.now) sources.now) self.now.places.now }
+        requires room { HaveRoom WIDTH
+            (map (λ source. source.now) sources.now) self.now.places.now }
         requires number { number < length self.now.places.now }
         ensures long { length result.now ≡ WIDTH }
         ensures cell { valid ≡ true → little_from 0 WIDTH result.now
@@ -223,7 +234,8 @@ fn cell<'a, const WIDTH: usize>(source: &'a [u8], place: usize, valid: bool) -> 
     requires width { WIDTH ≤ 16 }
     requires room { WIDTH * place + WIDTH ≤ length source.now }
     ensures long { length result.now ≡ WIDTH }
-    ensures number { valid ≡ true → little_from 0 WIDTH result.now ≡ element_at WIDTH source.now place }
+    ensures number { valid ≡ true →
+        little_from 0 WIDTH result.now ≡ element_at WIDTH source.now place }
 {
     if !valid {
         return &ZEROS[..WIDTH];

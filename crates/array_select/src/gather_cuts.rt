@@ -30,7 +30,8 @@ impl<'a> SlotPlaces<'a> {
         Ok(Values::Texts(Bytes::from_vec(offsets)?, Bytes::from_vec(bytes)?))
     }
 
-    // The offsets that cut the texts where they stand one behind another, and how many bytes those have.
+    // The offsets that cut the texts where they stand one after another, and how many bytes those
+    // have.
     fn gather_offsets(&self, alloc: Global) -> Result<(Vec<u8>, u32), AllocError>
         requires there { AreThere self.now }
         requires short { length (texts_joined (values_at self.now)) < 2 ^ 31 }
@@ -48,7 +49,7 @@ impl<'a> SlotPlaces<'a> {
         Ok((offsets, offset))
     }
 
-    // The texts, one behind another; room for `total` bytes is made at once.
+    // The texts, one after another; room for `total` bytes is made at once.
     fn gather_bytes(&self, alloc: Global, total: u32) -> Result<Vec<u8>, AllocError>
         requires { AreThere self.now }
         ensures { IfOk result (λ made. made.items ≡ texts_joined (values_at self.now)) }

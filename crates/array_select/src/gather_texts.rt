@@ -25,7 +25,8 @@ pub(crate) fn gather_texts(
     Ok(Values::Texts(Bytes::from_vec(offsets)?, Bytes::from_vec(bytes)?))
 }
 
-// The offsets that cut the texts at places where they stand one behind another, and how many bytes those have.
+// The offsets that cut the texts at places where they stand one after another, and how many bytes
+// those have.
 fn gather_offsets(
     alloc: Global,
     cells: &TextsRef<'_>,
@@ -34,8 +35,10 @@ fn gather_offsets(
 ) -> Result<(Vec<u8>, u32), AllocError>
     requires among { AreAmong first places.now cells.now.len }
     requires short { length (texts_joined (texts_at cells.now first places.now)) < 2 ^ 31 }
-    ensures offsets { IfOk result (λ made. made.0.items ≡ offsets_from 0 (texts_at cells.now first places.now)) }
-    ensures total { IfOk result (λ made. made.1 ≡ length (texts_joined (texts_at cells.now first places.now))) }
+    ensures offsets { IfOk result
+        (λ made. made.0.items ≡ offsets_from 0 (texts_at cells.now first places.now)) }
+    ensures total { IfOk result
+        (λ made. made.1 ≡ length (texts_joined (texts_at cells.now first places.now))) }
 {
     let _count = cells.len();
     let mut offsets = Vec::with_capacity(alloc, 4 * (places.len() + 1))?;
@@ -50,7 +53,7 @@ fn gather_offsets(
     Ok((offsets, offset))
 }
 
-// The texts at places, one behind another; room for `total` bytes is made at once.
+// The texts at places, one after another; room for `total` bytes is made at once.
 fn gather_bytes(
     alloc: Global,
     cells: &TextsRef<'_>,
@@ -59,7 +62,8 @@ fn gather_bytes(
     total: u32,
 ) -> Result<Vec<u8>, AllocError>
     requires { AreAmong first places.now cells.now.len }
-    ensures { IfOk result (λ made. made.items ≡ texts_joined (texts_at cells.now first places.now)) }
+    ensures { IfOk result
+        (λ made. made.items ≡ texts_joined (texts_at cells.now first places.now)) }
 {
     let _count = cells.len();
     let bytes = cells.bytes();

@@ -1,6 +1,7 @@
 //! Slots of several columns at places, in buffers of their own.
 
-ghost use Rattle.std.specs.Prelude.{◌≡◌, ◌<◌, ◌^◌, All, IfOk, false, get_or, length, map, nat_le, not};
+ghost use Rattle.std.specs.Prelude.{◌≡◌, ◌<◌, ◌^◌, All, IfOk, false, get_or, length, map, nat_le};
+ghost use Rattle.std.specs.Prelude.{not};
 ghost use Rattle.arrow_schema.specs.Answer.{copied_type};
 ghost use Rattle.scan_base.specs.Value.{is_null};
 ghost use Rattle.scan_base.specs.declared.value.Value.TheVariants.{Null};
@@ -17,7 +18,8 @@ use arrow_schema::DataType;
 use bitmap::{Bits, BitsBuilder};
 use std::alloc::{AllocError, Global};
 
-/// A slot of one of several columns: the number of the column, and the slot's place in it, both counted from 0.
+/// A slot of one of several columns: the number of the column, and the slot's place in it, both
+/// counted from 0.
 #[derive(Clone, Copy, Drop)]
 pub struct SlotPlace {
     pub column: u32,
@@ -31,8 +33,8 @@ pub(crate) struct SlotPlaces<'a> {
     pub(crate) places: &'a [SlotPlace],
 }
 
-/// The slots of these columns of a type at these places, in order, in buffers of their own: a slot may be taken more than
-/// once. The type is no dictionary's.
+/// The slots of these columns of a type at these places, in order, in buffers of their own: a slot
+/// may be taken more than once. The type is no dictionary's.
 ///
 /// # Errors
 ///
@@ -44,10 +46,13 @@ pub fn gather_many(
     places: &[SlotPlace],
 ) -> Result<Column, AllocError>
     requires plain { copied_type data_type ≡ data_type }
-    requires typed { All (λ column. IsOfType data_type column.layout) (map (λ column. column.now) columns.now) }
+    requires typed { All (λ column. IsOfType data_type column.layout)
+        (map (λ column. column.now) columns.now) }
     requires there { All (IsPlaceIn (map (λ column. column.now) columns.now)) places.now }
-    requires short { length (texts_joined (map (value_in (map (λ column. column.now) columns.now)) places.now)) < 2 ^ 31 }
-    ensures values { IfOk result (λ column. values_of column ≡ map (value_in (map (λ column. column.now) columns.now)) places.now) }
+    requires short { length (texts_joined
+        (map (value_in (map (λ column. column.now) columns.now)) places.now)) < 2 ^ 31 }
+    ensures values { IfOk result (λ column. values_of column
+        ≡ map (value_in (map (λ column. column.now) columns.now)) places.now) }
     ensures long { IfOk result (λ column. column.len ≡ length places.now) }
     ensures typed { IfOk result (λ column. IsOfType data_type column.layout) }
 {
@@ -71,10 +76,12 @@ fn has_value(column: &Column, place: usize) -> bool
     }
 }
 
-/// Whether the texts of the slots of these columns at these places have no more than `most` bytes, one behind another.
+/// Whether the texts of the slots of these columns at these places have no more than `most` bytes,
+/// one after another.
 pub fn texts_fit_many(columns: &[&Column], places: &[SlotPlace], most: usize) -> bool
     requires { All (IsPlaceIn (map (λ column. column.now) columns.now)) places.now }
-    ensures { result ≡ nat_le (length (texts_joined (map (value_in (map (λ column. column.now) columns.now)) places.now))) most }
+    ensures { result ≡ nat_le (length
+        (texts_joined (map (value_in (map (λ column. column.now) columns.now)) places.now))) most }
 {
     let slots = SlotPlaces { columns, places };
     let mut left = most;
@@ -117,7 +124,8 @@ impl<'a> SlotPlaces<'a> {
 
     // Whether a slot of the columns is null.
     fn have_nulls(&self) -> bool
-        ensures nulls { result ≡ false → All (λ column. null_count column ≡ 0) (columns_of self.now) }
+        ensures nulls { result ≡ false →
+            All (λ column. null_count column ≡ 0) (columns_of self.now) }
         ensures stand { All IsColumn (columns_of self.now) }
     {
         let mut nulls = false;

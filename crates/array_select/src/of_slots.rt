@@ -19,8 +19,8 @@ pub struct SlotRef<'a> {
     pub place: u32,
 }
 
-/// These slots, in order, as a column of its own buffers: a slot may stand in any column of the type, and more than
-/// once. Of dictionaries of texts it is a column of the texts.
+/// These slots, in order, as a column of its own buffers: a slot may stand in any column of the
+/// type, and more than once. Of dictionaries of texts it is a column of the texts.
 ///
 /// # Errors
 ///
@@ -39,7 +39,7 @@ pub fn column_of_slots(
     fill_column(alloc, data_type, slots)
 }
 
-/// Whether the texts of these slots have no more than `most` bytes, one behind another.
+/// Whether the texts of these slots have no more than `most` bytes, one after another.
 pub fn texts_fit(slots: &[SlotRef<'_>], most: usize) -> bool
     requires { All (λ slot. slot.place < slot.column.now.len) slots.now }
     ensures { result ≡ nat_le (length (texts_joined (map slot_value slots.now))) most }

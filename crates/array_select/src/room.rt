@@ -24,8 +24,9 @@ pub fn has_texts(data_type: DataType) -> bool
     matches!(data_type, DataType::Utf8 | DataType::Dictionary(_))
 }
 
-/// How many of the slots, from the first on, stand in one column of a batch: all of them, halved until their texts have no
-/// more than 16 MB. One stands there whatever its text has, unless offsets cannot name each byte: that is a want of memory.
+/// How many of the slots, from the first on, stand in one column of a batch: all of them, halved
+/// until their texts have no more than 16 MB. One stands there whatever its text has, unless
+/// offsets cannot name each byte: that is a want of memory.
 ///
 /// # Errors
 ///

@@ -1,6 +1,7 @@
 //! Places of slots that were chosen.
 
-ghost use Rattle.std.specs.Prelude.{◌≡◌, ◌≤◌, ◌<◌, ◌+◌, ◌^◌, ◌++◌, ◌∷◌, [], All, OnErr, OnOk, length};
+ghost use Rattle.std.specs.Prelude.{◌≡◌, ◌≤◌, ◌<◌, ◌+◌, ◌^◌, ◌++◌, ◌∷◌, [], All, OnErr, OnOk};
+ghost use Rattle.std.specs.Prelude.{length};
 ghost use Rattle.std.specs.List.{range_with_len};
 ghost use Rattle.array_select.specs.Selection.{AreRising};
 ghost use Rattle.array_select.specs.SetBits.{set_bits};
@@ -46,7 +47,7 @@ impl Selection {
         Ok(self.places.reserve(more)?)
     }
 
-    /// Adds a place behind all others.
+    /// Adds a place after all others.
     ///
     /// # Errors
     ///
@@ -59,7 +60,7 @@ impl Selection {
         Ok(self.places.push(place)?)
     }
 
-    /// Adds the places at which the bits of a word are 1, counted from `base` on, behind all others.
+    /// Adds the places at which the bits of a word are 1, counted from `base` on, after all others.
     ///
     /// # Errors
     ///
@@ -80,7 +81,7 @@ impl Selection {
         Ok(())
     }
 
-    // Adds 64 places next to each other, behind all others.
+    // Adds 64 places next to each other, after all others.
     fn push_run(&mut self, base: u32) -> Result<(), AllocError>
         requires earlier { All (λ earlier. earlier < base) self.old }
         requires small { base + 64 ≤ 2 ^ 32 }

@@ -15,8 +15,8 @@ use crate::of_slots::SlotRef;
 use arrays::Cells;
 use scan_base::ValueRef;
 
-/// What one slot of a new column is built of: a slot of another column, or a value and none where the slot is to be
-/// null.
+/// What one slot of a new column is built of: a slot of another column, or a value and none where
+/// the slot is to be null.
 pub(crate) trait Source {
     ghost held: { Self → Value };
 
@@ -28,7 +28,8 @@ pub(crate) trait Source {
     fn value(&self) -> ValueRef<'_>
         requires { IsThere self.now }
         ensures value { value_of result ≡ held self.now }
-        ensures typed { (data_type : DataType) → IsOf data_type self.now → IsValueOf data_type (held self.now) };
+        ensures typed { (data_type : DataType) → IsOf data_type self.now →
+            IsValueOf data_type (held self.now) };
 }
 
 impl<'a> Source for SlotRef<'a> {

@@ -1,4 +1,4 @@
--- The texts of slots stand one behind another.
+-- The texts of slots stand one after another.
 use Rattle.std.proofs.Common.{◌≡◌, ◌≤◌, ◌<◌, ◌^◌, ℕ, zero, suc, ◌+◌, ◌-◌, Bool, true, false, if◌then◌else◌, List, ◌++◌, length, map, take, drop, slice_range, refl, sym, ap, ◌∙◌, arith}
 use Rattle.std.specs.List.{flat_map, range_with_len}
 use Rattle.std.proofs.Math.Seq.{drop-drop, take-add}
@@ -13,7 +13,7 @@ use Rattle.arrays.specs.Texts.{TextsAt, text_at, texts_slot, AreTexts}
 use Rattle.arrays.specs.Column.{ColumnAt, slot_of, values_of}
 use Rattle.arrays.specs.Written.{text_bytes, texts_joined}
 
--- a part, and the part behind it
+-- a part, and the part after it
 pub parts_joined : (xs : List ℕ) (a b c : ℕ) → a ≤ b → b ≤ c → slice_range xs a b ++ slice_range xs b c ≡ slice_range xs a c
 parts_joined xs a b c low high =
     let count : c - a ≡ (b - a) + (c - b) = omega arith in

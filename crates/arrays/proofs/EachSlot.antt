@@ -9,7 +9,7 @@ pub one_holds : (a b : Bool) → (a || b) ≡ true → (a ≡ true) ⊎ (b ≡ t
 one_holds true b e = inl refl
 one_holds false b e = inr e
 
--- with one slot tested, those behind it are left
+-- with one slot tested, those after it are left
 pub slots_more : (stands : ℕ → Bool) (place len : ℕ) → place < len → stands place ≡ true →
     list_all stands (range_with_len place (len - place)) ≡ list_all stands (range_with_len (place + 1) (len - (place + 1)))
 slots_more stands place len lt e = let f : len - place ≡ suc (len - (place + 1)) = omega arith in rw (f, e) refl

@@ -22,7 +22,7 @@ use Rattle.arrays.specs.inside.Runs.{parts_values}
 use Rattle.arrays.specs.Indices.{IndicesAt, index_stands, AreIndices}
 use Rattle.arrays.proofs.EachSlot.{slots_at}
 
--- the item at a place stands in front of those behind it
+-- the item at a place stands in front of those after it
 pub dropped : {X : Type 0} (xs : List X) (i : ℕ) (x : X) → i < length xs → x ≡ get_or xs i x → drop i xs ≡ x ∷ drop (i + 1) xs
 dropped {X = X} xs i x low is = rw (add-one, drop-cons xs i x low) (ap (λ (y : X). y ∷ drop (suc i) xs) (sym is))
 
@@ -43,7 +43,7 @@ within_list [] ys place low = absurd (omega (arith, low))
 within_list (x ∷ xs) ys zero low = refl
 within_list (x ∷ xs) ys (suc place) low = within_list xs ys place (omega (arith, low))
 
--- a place behind a list
+-- a place after a list
 pub behind_list : (xs ys : List Value) (place : ℕ) → length xs ≤ place → slice_get (xs ++ ys) place ≡ slice_get ys (place - length xs)
 behind_list [] ys place le = let e : place - 0 ≡ place = omega arith in rw e refl
 behind_list (x ∷ xs) ys zero le = absurd (omega arith)

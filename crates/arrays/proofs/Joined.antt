@@ -58,12 +58,12 @@ values_within values view items i item low is =
       length-append (flat_map values (map view (take i items))) (values (view item)),
     )
 
--- the values from an item on: its own, and those behind it
+-- the values from an item on: its own, and those after it
 pub values_ahead : {A X : Type 0} (values : X → List Value) (view : A → X) (items : List A) (i : ℕ) (item : A) → i < length items → item ≡ get_or items i item →
     flat_map values (map view (drop i items)) ≡ values (view item) ++ flat_map values (map view (drop (i + 1) items))
 values_ahead {A = A} values view items i item low is = ap (λ (left : List A). flat_map values (map view left)) (dropped items i item low is)
 
--- runs that stay, and behind them one run of the others with more values
+-- runs that stay, and after them one run of the others with more values
 pub runs_with : {A : Type 0} (view : A → List Value) (runs kept all : List A) (joined more : List Value) (last : A) (i : ℕ) →
     map view kept ≡ map view (take i runs) → joined ≡ runs_values (map view (take (length runs - i) (drop i runs))) → view last ≡ joined ++ more → all ≡ kept ++ last ∷ [] →
     runs_values (map view all) ≡ runs_values (map view runs) ++ more

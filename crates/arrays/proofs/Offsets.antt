@@ -1,4 +1,4 @@
--- The offsets that cut texts which stand one behind another.
+-- The offsets that cut texts which stand one after another.
 use Rattle.std.proofs.Common.{◌≡◌, ℕ, zero, suc, ◌+◌, ◌-◌, ◌*◌, ◌^◌, ◌<◌, ◌≤◌, List, [], ◌∷◌, ◌++◌, length, get_or, take, refl, sym, ap, ◌∙◌, arith, append-nil, append_assoc}
 use Rattle.std.specs.List.{slice_range}
 use Rattle.std.proofs.Math.Seq.{drop-append_seam, take-append_seam}
@@ -10,7 +10,7 @@ use Rattle.scan_base.specs.declared.value.Value.{Value}
 use Rattle.arrays.specs.Number.{element_at}
 use Rattle.arrays.specs.Written.{text_bytes, offsets_from, texts_joined}
 
--- what a loop keeps that writes them behind others
+-- what a loop keeps that writes them after others
 pub out_more : (old new part rest whole : List ℕ) → new ≡ old ++ part → old ++ (part ++ rest) ≡ whole → new ++ rest ≡ whole
 out_more old new part rest whole e all = ap (λ (xs : List ℕ). xs ++ rest) e ∙ append_assoc old part rest ∙ all
 
@@ -22,7 +22,7 @@ length-offsets at (value ∷ values) =
     let both = length-append (little_bytes 4 at) (offsets_from (at + length (text_bytes value)) values) in
     omega (arith, ih, both, length-bytes_low_first 0 4 at)
 
--- a number read behind a list
+-- a number read after a list
 behind : (xs ys : List ℕ) (p n : ℕ) → little_from (length xs + p) n (xs ++ ys) ≡ little_from p n ys
 behind xs ys p n = sym (little_drop (length xs) p n (xs ++ ys)) ∙ ap (little_from p n) (drop-append_seam xs ys)
 
@@ -43,7 +43,7 @@ offset_again (value ∷ values) at (suc j) low small =
     ∙ behind (little_bytes 4 at) (offsets_from next values) (4 * j) 4
     ∙ ih ∙ omega (arith, front)
 
--- a part behind a list
+-- a part after a list
 part_behind : (xs ys : List ℕ) (a b : ℕ) → slice_range (xs ++ ys) (length xs + a) (length xs + b) ≡ slice_range ys a b
 part_behind [] ys a b = let e : 0 + a ≡ a = omega arith in let f : 0 + b ≡ b = omega arith in rw (e, f) refl
 part_behind (x ∷ xs) ys a b =

@@ -82,7 +82,7 @@ negative : index_stands (record three_indices { values = 255 ∷ [] }) 0 ≡ fal
 unfolding element_at
 negative = refl
 
--- the dictionary with 'ab', NULL and '' behind it
+-- the dictionary with 'ab', NULL and '' after it
 extended : extended_by three_indices.dictionary three_texts ≡ Ok (Text (codes "x") ∷ Null ∷ Text (codes "ab") ∷ Null ∷ Text [] ∷ [])
 unfolding extended_by element_at
 extended = refl

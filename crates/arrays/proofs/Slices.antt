@@ -19,7 +19,7 @@ drop_range a (suc n) (suc from) le =
     let f : n - from ≡ suc n - suc from = omega arith in
     drop_range (a + 1) n from (omega arith) ∙ rw (e, f) refl
 
--- a function of the numbers from `first` on is one of those behind it
+-- a function of the numbers from `first` on is one of those after it
 pub map_shifted : {X : Type 0} (f g : ℕ → X) (first : ℕ) → ((j : ℕ) → f j ≡ g (first + j)) → (a n : ℕ) → map f (range_with_len a n) ≡ map g (range_with_len (first + a) n)
 map_shifted f g first same a zero = refl
 map_shifted {X = X} f g first same a (suc n) =

@@ -23,7 +23,8 @@ rows_of batch = map (row_of batch.columns) (range_with_len 0 batch.rows)
 
 -- the rows `from` up to, not with, `to`
 abbrev pub cut_batch : BatchAt → ℕ → ℕ → BatchAt
-cut_batch batch from to = record { columns = map (λ column. cut column from to) batch.columns; rows = to - from }
+cut_batch batch from to =
+    record { columns = map (λ column. cut column from to) batch.columns; rows = to - from }
 
 -- the rows `from` up to, not with, `to` are those of the batch, from one to the other
 abbrev pub BatchSlicesKeepRows : Type 0

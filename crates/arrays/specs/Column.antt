@@ -33,7 +33,8 @@ pub record IsColumn (column : ColumnAt) : Type 0 where
   pub within : column.first + column.len ≤ layout_count column.layout
   pub small : column.first + column.len < 2 ^ 64
 
--- the values of the slots `from` up to, not with, `to` are those of the column, from one to the other
+-- the values of the slots `from` up to, not with, `to` are those of the column, from one to the
+-- other
 abbrev pub ColumnSlicesKeepValues : Type 0
 ColumnSlicesKeepValues = (column : ColumnAt) (from to : ℕ) → from ≤ to → to ≤ column.len →
     values_of (cut column from to) ≡ take (to - from) (drop from (values_of column))

@@ -1,5 +1,6 @@
 -- The values of a dictionary: those of one part after another.
-use Rattle.std.specs.Prelude.{◌+◌, ℤ, pos, negsuc, List, ◌++◌, length, Option, None, slice_get, nat_le, Result, Ok}
+use Rattle.std.specs.Prelude.{◌+◌, ℤ, pos, negsuc, List, ◌++◌, length, Option, None, slice_get}
+use Rattle.std.specs.Prelude.{nat_le, Result, Ok}
 use Rattle.scan_base.specs.declared.fault.Fault.{Fault}
 use Rattle.scan_base.specs.declared.fault.Fault.TheVariants.{LimitReached}
 use Rattle.scan_base.specs.declared.value.Value.{Value}
@@ -7,10 +8,11 @@ use Rattle.scan_base.specs.Limits.{most_values}
 use Rattle.scan_base.specs.Reading.{◌>>=◌, demand}
 use Rattle.arrays.specs.Texts.{TextsAt, texts_values}
 
--- the values with those of one more part behind them
+-- the values with those of one more part after them
 unfoldable pub extended_by : List Value → TextsAt → Result (List Value) Fault
 extended_by values part =
-    demand (nat_le (length values + part.len) most_values) LimitReached >>= λ _. Ok (values ++ texts_values part)
+    demand (nat_le (length values + part.len) most_values) LimitReached
+    >>= λ _. Ok (values ++ texts_values part)
 
 -- the value at an index, which a negative one and one past the end do not have
 abbrev pub entry_at : List Value → ℤ → Option Value

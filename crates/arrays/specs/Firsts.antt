@@ -10,7 +10,7 @@ abbrev pub text_in : Value → List (List ℕ)
 text_in (Text bytes) = bytes ∷ []
 text_in _ = []
 
--- texts with one more behind them, where it is none of them
+-- texts with one more after them, where it is none of them
 abbrev pub with_text : List (List ℕ) → List ℕ → List (List ℕ)
 with_text found text = if list_any (bytes_eq text) found then found else found ++ text ∷ []
 

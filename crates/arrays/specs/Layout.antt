@@ -28,13 +28,18 @@ layout_validity (layout.Bools cells) = cells.validity
 layout_validity (layout.Texts cells) = cells.validity
 layout_validity (layout.Indices cells) = cells.validity
 
--- The value of the slot at a place: of an index what the dictionary has there, which may be null too.
+-- The value of the slot at a place: of an index what the dictionary has there, which may be null
+-- too.
 abbrev pub layout_slot : Layout → ℕ → Value
-layout_slot (layout.Integers cells) place = where_valid cells.validity (λ at. Int (integer_at cells.integer cells.values at)) place
-layout_slot (layout.Decimals cells) place = where_valid cells.validity (λ at. Int (decimal_at cells.values at)) place
-layout_slot (layout.Bools cells) place = where_valid cells.validity (λ at. Bool (get_or cells.values at false)) place
+layout_slot (layout.Integers cells) place =
+    where_valid cells.validity (λ at. Int (integer_at cells.integer cells.values at)) place
+layout_slot (layout.Decimals cells) place =
+    where_valid cells.validity (λ at. Int (decimal_at cells.values at)) place
+layout_slot (layout.Bools cells) place =
+    where_valid cells.validity (λ at. Bool (get_or cells.values at false)) place
 layout_slot (layout.Texts cells) place = texts_slot cells place
-layout_slot (layout.Indices cells) place = where_valid cells.validity (λ at. unwrap_or (entry_of cells at) Null) place
+layout_slot (layout.Indices cells) place =
+    where_valid cells.validity (λ at. unwrap_or (entry_of cells at) Null) place
 
 -- its buffers hold so many slots
 abbrev pub IsLayout : Layout → Type 0

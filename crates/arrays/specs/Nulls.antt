@@ -15,9 +15,11 @@ null_count column = length (filter is_null (values_of column))
 abbrev pub valid_slots : ColumnAt → List Bool
 valid_slots column = map (λ value. not (is_null value)) (values_of column)
 
--- where the nulls of `len` slots are: nowhere, or at the bits that are 0; or it takes the values to tell
+-- where the nulls of `len` slots are: nowhere, or at the bits that are 0; or it takes the values to
+-- tell
 abbrev pub AreAt : Nulls → ℕ → (ℕ → Value) → Type 0
 AreAt Nowhere len slot = (place : ℕ) → place < len → is_null (slot place) ≡ false
 AreAt (AtZeros bits) len slot =
-    (length bits.now ≡ len) × ((place : ℕ) → place < len → is_null (slot place) ≡ not (get_or bits.now place false))
+    (length bits.now ≡ len)
+    × ((place : ℕ) → place < len → is_null (slot place) ≡ not (get_or bits.now place false))
 AreAt AtValues len slot = Unit {0}

@@ -1,6 +1,7 @@
--- Packed numbers, as Arrow's columnar format has them: of one width, the lowest byte of each first, those
--- with a sign in two's complement.
-use Rattle.std.specs.Prelude.{ℕ, ◌-◌, ◌*◌, ◌/◌, ◌^◌, ◌<◌, ℤ, pos, negsuc, suc, List, slice_index, nat_lt, if◌then◌else◌}
+-- Packed numbers, as Arrow's columnar format has them: of one width, the lowest byte of each first,
+-- those with a sign in two's complement.
+use Rattle.std.specs.Prelude.{ℕ, ◌-◌, ◌*◌, ◌/◌, ◌^◌, ◌<◌, ℤ, pos, negsuc, suc, List, slice_index}
+use Rattle.std.specs.Prelude.{nat_lt, if◌then◌else◌}
 use Rattle.byteorder.specs.Endian.{little_from}
 use Rattle.arrow_schema.specs.declared.data_type.IntegerType.{IntegerType}
 use Rattle.arrow_schema.specs.DataType.{bit_width, is_signed}
@@ -17,18 +18,21 @@ AreBytes bytes = (k : ℕ) → slice_index bytes k < 256
 unfoldable pub element_at : ℕ → List ℕ → ℕ → ℕ
 element_at width values place = little_from (width * place) width values
 
--- The number that so many bits are in two's complement: with the highest of them set, it is negative.
+-- The number that so many bits are in two's complement: with the highest of them set, it is
+-- negative.
 abbrev pub signed_from : ℕ → ℕ → ℤ
-signed_from width bits = if nat_lt bits (2 ^ (width - 1)) then pos bits else negsuc (2 ^ width - suc bits)
+signed_from width bits =
+    if nat_lt bits (2 ^ (width - 1)) then pos bits else negsuc (2 ^ width - suc bits)
 
 -- the number of an integer type that its bits are
 abbrev pub number_from : IntegerType → ℕ → ℤ
-number_from integer bits = if is_signed integer then signed_from (bit_width integer) bits else pos bits
+number_from integer bits =
+    if is_signed integer then signed_from (bit_width integer) bits else pos bits
 
 -- element `place` of packed integers
 abbrev pub integer_at : IntegerType → List ℕ → ℕ → ℤ
 integer_at integer values place = number_from integer (element_at (byte_width integer) values place)
 
--- element `place` of packed decimals of 128 bits with none behind the point
+-- element `place` of packed decimals of 128 bits with none after the point
 abbrev pub decimal_at : List ℕ → ℕ → ℤ
 decimal_at values place = signed_from 128 (element_at 16 values place)

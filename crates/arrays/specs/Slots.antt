@@ -9,12 +9,22 @@ use Rattle.arrays.specs.Layout.{layout_count, IsLayout}
 
 -- so many slots of these values, by their layout
 abbrev pub layout_of : Option (List Bool) → ℕ → Values → Layout
-layout_of validity len (values.Integers integer packed) = layout.Integers (record { integer = integer; validity = validity; values = packed; len = len })
-layout_of validity len (values.Decimals packed) = layout.Decimals (record { validity = validity; values = packed; len = len })
-layout_of validity len (values.Bools bits) = layout.Bools (record { validity = validity; values = bits })
-layout_of validity len (values.Texts offsets bytes) = layout.Texts (record { validity = validity; offsets = offsets; bytes = bytes; len = len })
+layout_of validity len (values.Integers integer packed) =
+    layout.Integers (record { integer = integer; validity = validity; values = packed; len = len })
+layout_of validity len (values.Decimals packed) =
+    layout.Decimals (record { validity = validity; values = packed; len = len })
+layout_of validity len (values.Bools bits) =
+    layout.Bools (record { validity = validity; values = bits })
+layout_of validity len (values.Texts offsets bytes) =
+    layout.Texts (record { validity = validity; offsets = offsets; bytes = bytes; len = len })
 layout_of validity len (values.Indices index packed dictionary) =
-    layout.Indices (record { index = index; validity = validity; values = packed; dictionary = arc_value dictionary; len = len })
+    layout.Indices (record {
+      index = index;
+      validity = validity;
+      values = packed;
+      dictionary = arc_value dictionary;
+      len = len;
+    })
 
 -- the slots stand, and are so many
 pub record AreSlots (validity : Option (List Bool)) (len : ℕ) (values : Values) : Type 0 where

@@ -7,14 +7,15 @@ use Rattle.scan_base.specs.declared.value.Value.TheVariants as value
 use Rattle.arrow_schema.specs.declared.data_type.IntegerType.{IntegerType}
 use Rattle.arrow_schema.specs.declared.data_type.IntegerType.TheVariants as integer
 use Rattle.arrow_schema.specs.declared.data_type.DataType.{DataType}
-use Rattle.arrow_schema.specs.declared.data_type.DataType.TheVariants.{Integer, Utf8, Bool, Decimal128, Date, Dictionary}
+use Rattle.arrow_schema.specs.declared.data_type.DataType.TheVariants.{Integer, Utf8, Bool}
+use Rattle.arrow_schema.specs.declared.data_type.DataType.TheVariants.{Decimal128, Date, Dictionary}
 use Rattle.arrow_schema.specs.declared.schema.Field.{Field}
 use Rattle.arrays.specs.declared.layout.Layout.{Layout}
 use Rattle.arrays.specs.declared.layout.Layout.TheVariants as layout
 use Rattle.arrays.specs.Column.{ColumnAt, IsColumn, values_of}
 
--- The slots are of this type: those of dates are integers of 32 signed bits. Columns of a dictionary may differ in the type of
--- their indices.
+-- The slots are of this type: those of dates are integers of 32 signed bits. Columns of a
+-- dictionary may differ in the type of their indices.
 abbrev pub IsOfType : DataType → Layout → Type 0
 IsOfType (Integer integer) (layout.Integers cells) = cells.integer ≡ integer
 IsOfType Utf8 (layout.Texts cells) = Unit {0}
@@ -27,13 +28,15 @@ IsOfType _ _ = ⊥
 -- there is a column for each field, of its type
 abbrev pub AreOfTypes : List Field → List ColumnAt → Type 0
 AreOfTypes [] [] = Unit {0}
-AreOfTypes (field ∷ fields) (column ∷ columns) = IsOfType field.data_type column.layout × AreOfTypes fields columns
+AreOfTypes (field ∷ fields) (column ∷ columns) =
+    IsOfType field.data_type column.layout × AreOfTypes fields columns
 AreOfTypes _ _ = ⊥
 
 -- there is a column for each type, of that type
 abbrev pub AreOf : List DataType → List ColumnAt → Type 0
 AreOf [] [] = Unit {0}
-AreOf (data_type ∷ types) (column ∷ columns) = IsOfType data_type column.layout × AreOf types columns
+AreOf (data_type ∷ types) (column ∷ columns) =
+    IsOfType data_type column.layout × AreOf types columns
 AreOf _ _ = ⊥
 
 -- the number is one of an integer type: -128 to 127 of Int8, 0 to 255 of UInt8, and so on
@@ -60,5 +63,5 @@ IsValueOf _ _ = ⊥
 
 -- the values of a column of a type are of that type
 abbrev pub ValuesAreOfTheirType : Type 0
-ValuesAreOfTheirType = (data_type : DataType) (column : ColumnAt) → IsColumn column → IsOfType data_type column.layout →
-    All (IsValueOf data_type) (values_of column)
+ValuesAreOfTheirType = (data_type : DataType) (column : ColumnAt) → IsColumn column →
+    IsOfType data_type column.layout → All (IsValueOf data_type) (values_of column)

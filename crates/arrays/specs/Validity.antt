@@ -1,5 +1,6 @@
 -- Which slots are valid: each, where there are no bits, and else those whose bit is 1.
-use Rattle.std.specs.Prelude.{◌≡◌, ℕ, ◌*◌, Bool, true, false, List, length, Option, Some, None, get_or, nat_le, if◌then◌else◌, Result, Ok}
+use Rattle.std.specs.Prelude.{◌≡◌, ℕ, ◌*◌, Bool, true, false, List, length, Option, Some, None}
+use Rattle.std.specs.Prelude.{get_or, nat_le, if◌then◌else◌, Result, Ok}
 use Rattle.bitmap.specs.Bits.{bits_of}
 use Rattle.scan_base.specs.declared.fault.Fault.{Fault}
 use Rattle.scan_base.specs.declared.fault.Fault.TheVariants.{BadBatch}
@@ -19,7 +20,8 @@ where_valid validity value place = if is_valid validity place then value place e
 -- the bits of `len` slots at the front of a buffer, where there is one; it has room for them
 abbrev pub validity_of : Option (List ℕ) → ℕ → Result (Option (List Bool)) Fault
 validity_of None len = Ok None
-validity_of (Some bytes) len = demand (nat_le len (8 * length bytes)) BadBatch >>= λ _. Ok (Some (bits_of bytes 0 len))
+validity_of (Some bytes) len =
+    demand (nat_le len (8 * length bytes)) BadBatch >>= λ _. Ok (Some (bits_of bytes 0 len))
 
 -- the bits, where there are some, are those of so many slots
 abbrev pub IsLong : Option (List Bool) → ℕ → Type 0

@@ -14,10 +14,11 @@ abbrev pub text_bytes : Value → List ℕ
 text_bytes (Text bytes) = bytes
 text_bytes _ = []
 
--- the offsets that cut texts which stand one behind another, the first at a place: four bytes each
+-- the offsets that cut texts which stand one after another, the first at a place: four bytes each
 abbrev pub offsets_from : ℕ → List Value → List ℕ
 offsets_from at [] = little_bytes 4 at
-offsets_from at (value ∷ values) = little_bytes 4 at ++ offsets_from (at + length (text_bytes value)) values
+offsets_from at (value ∷ values) =
+    little_bytes 4 at ++ offsets_from (at + length (text_bytes value)) values
 
 -- the bytes of all texts
 abbrev pub texts_joined : List Value → List ℕ

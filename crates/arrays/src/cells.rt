@@ -6,8 +6,8 @@ ghost use Rattle.scan_base.specs.Value.{value_of, is_null};
 
 use scan_base::ValueRef;
 
-/// The slots of a column. Its law: what `value_at` gives is the slot of that place, as the layout of the
-/// buffers says it.
+/// The slots of a column. Its law: what `value_at` gives is the slot of that place, as the layout
+/// of the buffers says it.
 pub trait Cells {
     ghost slot_count: { Self → ℕ };
 

@@ -14,8 +14,8 @@ use scan_base::ValueRef;
 use std::alloc::AllocError;
 use std::marker::Model;
 
-/// Slots of one layout, or those of them from one up to another, and how many of them are null. Its buffers are cuts
-/// of the body that they came in. A contract sees the layout and the range.
+/// Slots of one layout, or those of them from one up to another, and how many of them are null. Its
+/// buffers are cuts of the body that they came in. A contract sees the layout and the range.
 pub struct Column {
     slots: Slots,
     first: usize,
@@ -43,7 +43,8 @@ impl Model for Column {
 
     ghost view = { λ c. record { layout = c.slots; first = c.first; len = c.len } };
 
-    ghost invariant = { λ c. IsCounted (record { layout = c.slots; first = c.first; len = c.len }) c.null_count };
+    ghost invariant = { λ c. IsCounted (record { layout = c.slots; first = c.first; len = c.len })
+        c.null_count };
 }
 
 impl Column {

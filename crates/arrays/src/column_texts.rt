@@ -21,8 +21,8 @@ impl Column {
         }
     }
 
-    /// A number of bytes that no text has more of: 0 where the column has no texts. The texts of nulls count, and of a
-    /// dictionary all values do. It looks at offsets alone.
+    /// A number of bytes that no text has more of: 0 where the column has no texts. The texts of
+    /// nulls count, and of a dictionary all values do. It looks at offsets alone.
     pub fn longest_text(&self) -> usize
         ensures { All (λ value. length (text_bytes value) ≤ result) (values_of self.now) }
     {

@@ -1,6 +1,7 @@
 //! Dictionaries of texts.
 
-ghost use Rattle.std.specs.Prelude.{◌≡◌, ◌==◌, ◌≤◌, [], false, All, length, slice_get, option_map, IfOk};
+ghost use Rattle.std.specs.Prelude.{◌≡◌, ◌==◌, ◌≤◌, [], false, All, length, slice_get, option_map};
+ghost use Rattle.std.specs.Prelude.{IfOk};
 ghost use Rattle.scan_base.specs.Reading.{GivesUnlessMemory, RefusesFirst};
 ghost use Rattle.scan_base.specs.Value.{value_of, is_null, IsTextOrNull};
 ghost use Rattle.std.specs.List.{flat_map, list_any};
@@ -18,8 +19,8 @@ use std::marker::Model;
 // How many values a dictionary may have.
 const MOST_VALUES: usize = 16_777_216;
 
-/// The texts that indices lead to, in the parts in which they came: the first, and those behind it, which
-/// longer dictionaries share. Some may be null. A contract sees the list of their values.
+/// The texts that indices lead to, in the parts in which they came: the first, and those after it,
+/// which longer dictionaries share. Some may be null. A contract sees the list of their values.
 pub struct Dictionary {
     first: Texts,
     later: Runs,
@@ -91,13 +92,15 @@ impl Dictionary {
         self.later.get(index - first)
     }
 
-    /// The parts in which the values came, in order: a value's number is counted from the first of them on.
+    /// The parts in which the values came, in order: a value's number is counted from the first of
+    /// them on.
     ///
     /// # Errors
     ///
     /// `AllocError` where memory is refused.
     pub fn parts(&self, alloc: Global) -> Result<Vec<&Texts>, AllocError>
-        ensures { IfOk result (λ parts. flat_map (λ part. texts_values part.now) parts.items ≡ self.now) }
+        ensures { IfOk result
+            (λ parts. flat_map (λ part. texts_values part.now) parts.items ≡ self.now) }
     {
         let mut parts = Vec::new(alloc);
         parts.push(&self.first)?;
@@ -120,13 +123,14 @@ impl Dictionary {
         self.longest
     }
 
-    /// The same values with those of one more part behind them. It takes memory for few handles, and copies
-    /// no text.
+    /// The same values with those of one more part after them. It takes memory for few handles, and
+    /// copies no text.
     ///
     /// # Errors
     ///
     /// - F12 (`Fault::LimitReached`) where there would be more than 16,777,216 values.
-    /// - F21 (`Fault::OutOfMemory`) where memory is refused, and never where there would be too many values.
+    /// - F21 (`Fault::OutOfMemory`) where memory is refused, and never where there would be too
+    ///   many values.
     #[tactic(auto, unfolding(crate::specs::Dictionary::extended_by))]
     pub fn extended(&self, alloc: Global, part: Texts) -> Result<Dictionary, Fault>
         ensures value { GivesUnlessMemory (λ values. values) result (extended_by self.now part) }

@@ -6,8 +6,9 @@ ghost use Rattle.arrays.specs.Number.{element_at};
 use byteorder::{ByteOrder, LittleEndian};
 use num_traits::FixedWidth;
 
-/// A type of numbers that buffers hold packed: one behind another, each with its lowest byte first, those with a
-/// sign in two's complement. What is written once over it reads each such buffer as it lies.
+/// A type of numbers that buffers hold packed: one after another, each with its lowest byte first,
+/// those with a sign in two's complement. What is written once over it reads each such buffer as it
+/// lies.
 pub trait Element: FixedWidth + Copy + Ord {
     ghost WIDTH: { ℕ };
 

@@ -7,8 +7,8 @@ ghost use Rattle.arrays.specs.inside.Placed.{IsPlaced};
 use crate::element::Element;
 use arrow_schema::IntegerType;
 
-/// Whether each of `len` indices is one of `count` places, null ones too. Where the answer is no, each valid one
-/// may be: the index of a null may be anything.
+/// Whether each of `len` indices is one of `count` places, null ones too. Where the answer is no,
+/// each valid one may be: the index of a null may be anything.
 pub(crate) fn are_placed(index: IntegerType, values: &[u8], len: usize, count: usize) -> bool
     requires { byte_width index * len ≤ length values.now }
     ensures { result ≡ true →
@@ -31,7 +31,8 @@ fn has_no_sign(index: IntegerType, bits: u64) -> bool
     }
 }
 
-// The greatest of `len` elements, as numbers without a sign: a negative one is a great one. 0 where there is none.
+// The greatest of `len` elements, as numbers without a sign: a negative one is a great one. 0 where
+// there is none.
 fn greatest(index: IntegerType, values: &[u8], len: usize) -> u64
     requires { byte_width index * len ≤ length values.now }
     ensures { (place : ℕ) → place < len → element_at (byte_width index) values.now place ≤ result }

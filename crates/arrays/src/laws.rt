@@ -16,8 +16,8 @@ pub fn batch_slices_keep_rows()
     ensures { BatchSlicesKeepRows }
 {}
 
-/// Each value of a column is null or one of the column's type: within the range of its integers, of 128 bits, or
-/// a text whose bytes are UTF-8.
+/// Each value of a column is null or one of the column's type: within the range of its integers, of
+/// 128 bits, or a text whose bytes are UTF-8.
 #[tactic(auto, using(crate::proofs::OfType::values_are))]
 pub fn values_are_of_their_type()
     ensures { ValuesAreOfTheirType }

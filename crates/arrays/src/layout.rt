@@ -6,7 +6,8 @@ use crate::indices::Indices;
 use crate::integers::Integers;
 use crate::texts::TextsRef;
 
-/// The slots of a column, by the layout of its buffers: plain ones, and indices into a dictionary of texts.
+/// The slots of a column, by the layout of its buffers: plain ones, and indices into a dictionary
+/// of texts.
 #[derive(Drop)]
 pub enum Layout<'a> {
     Integers(Integers<'a>),

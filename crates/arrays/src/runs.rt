@@ -1,6 +1,7 @@
 //! The later parts of a dictionary, in runs that dictionaries share.
 
-ghost use Rattle.std.specs.Prelude.{◌≡◌, ◌≤◌, ◌<◌, ◌+◌, ◌++◌, [], false, Some, length, map, slice_get, slice_index, option_map, IfOk, OnOk};
+ghost use Rattle.std.specs.Prelude.{◌≡◌, ◌≤◌, ◌<◌, ◌+◌, ◌++◌, [], false, Some, length, map};
+ghost use Rattle.std.specs.Prelude.{slice_get, slice_index, option_map, IfOk, OnOk};
 ghost use Rattle.std.specs.Arc.{arc_value};
 ghost use Rattle.std.specs.List.{flat_map, list_any};
 ghost use Rattle.scan_base.specs.Value.{value_of, is_null};
@@ -15,8 +16,8 @@ use std::alloc::{AllocError, Global};
 use std::marker::Model;
 use std::sync::Arc;
 
-// Parts one behind another, and how many values stand in front of each. A contract sees the list of their
-// values.
+// Parts one after another, and how many values stand in front of each. A contract sees the list of
+// their values.
 struct Run {
     parts: Vec<Arc<Texts>>,
     starts: Vec<usize>,
@@ -46,7 +47,8 @@ impl Model for Run {
 
     ghost view = { λ run. parts_values (map arc_value run.parts.items) };
 
-    ghost invariant = { λ run. IsRun (map arc_value run.parts.items) run.starts.items run.len run.nulls };
+    ghost invariant = { λ run. IsRun (map arc_value run.parts.items) run.starts.items run.len
+        run.nulls };
 }
 
 impl Run {
@@ -107,7 +109,7 @@ impl Run {
         })
     }
 
-    // Puts the parts behind others.
+    // Puts the parts after others.
     fn append_parts<'a>(&'a self, parts: &mut Vec<&'a Texts>) -> Result<(), AllocError>
         ensures { OnOk result (flat_map (λ part. texts_values part.now) parts.new.items
             ≡ flat_map (λ part. texts_values part.now) parts.old.items ++ self.now) }
@@ -153,8 +155,9 @@ fn part_of(starts: &[usize], index: usize) -> usize
     low
 }
 
-// Runs one behind another. Each has at least twice the parts of the next, so they are few, and a part that
-// comes is put into a new run as often as their number doubles. A contract sees the list of their values.
+// Runs one after another. Each has at least twice the parts of the next, so they are few, and a
+// part that comes is put into a new run as often as their number doubles. A contract sees the list
+// of their values.
 #[derive(Drop)]
 pub(crate) struct Runs {
     runs: Vec<Arc<Run>>,
@@ -207,7 +210,7 @@ impl Runs {
         false
     }
 
-    // Puts the parts of all runs behind others.
+    // Puts the parts of all runs after others.
     pub(crate) fn append_parts<'a>(&'a self, parts: &mut Vec<&'a Texts>) -> Result<(), AllocError>
         ensures { OnOk result (flat_map (λ part. texts_values part.now) parts.new.items
             ≡ flat_map (λ part. texts_values part.now) parts.old.items ++ self.now) }
@@ -227,8 +230,8 @@ impl Runs {
         })
     }
 
-    // The same runs with one part more behind them: the shortest become one run with it. A part of no value
-    // changes nothing.
+    // The same runs with one part more after them: the shortest become one run with it. A part of
+    // no value changes nothing.
     pub(crate) fn with(&self, alloc: Global, part: Texts) -> Result<Runs, AllocError>
         requires { length self.now + part.len ≤ most_values }
         ensures { IfOk result (λ all. all ≡ self.now ++ texts_values part) }
@@ -245,7 +248,8 @@ impl Runs {
     }
 }
 
-// How many runs stay as they are when one part more comes, and of how many parts the run behind them is.
+// How many runs stay as they are when one part more comes, and of how many parts the run after them
+// is.
 fn kept(runs: &[Arc<Run>]) -> (usize, usize)
     ensures { result.0 ≤ length runs.now }
 {

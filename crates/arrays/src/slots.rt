@@ -31,8 +31,8 @@ use std::alloc::AllocError;
 use std::marker::Model;
 use std::sync::Arc;
 
-/// The values of slots: packed integers of a type, packed decimals, bits, offsets and the bytes that they cut, or
-/// packed indices of a type into a dictionary of texts.
+/// The values of slots: packed integers of a type, packed decimals, bits, offsets and the bytes
+/// that they cut, or packed indices of a type into a dictionary of texts.
 pub enum Values {
     Integers(IntegerType, Bytes),
     Decimals(Bytes),
@@ -55,10 +55,11 @@ impl Drop for Values {
 }
 
 impl Values {
-    // Whether the value of a valid slot may be null: where the answer is no, none is. It looks at no slot.
+    // Whether the value of a valid slot may be null: where the answer is no, none is. It looks at
+    // no slot.
     fn may_be_null(&self) -> bool
-        ensures { (validity : Option (List Bool)) (len : ℕ) → AreSlots validity len self.now → result ≡ false →
-            AreNoNulls (layout_of validity len self.now) }
+        ensures { (validity : Option (List Bool)) (len : ℕ) → AreSlots validity len self.now →
+            result ≡ false → AreNoNulls (layout_of validity len self.now) }
     {
         match self {
             Values::Indices(_, _, dictionary) => dictionary.may_have_nulls(),
@@ -83,8 +84,8 @@ impl Values {
     }
 }
 
-/// Slots: which of them are valid, how many there are, and their values. Its buffers are cuts of the body that they
-/// came in. A contract sees the slots by their layout.
+/// Slots: which of them are valid, how many there are, and their values. Its buffers are cuts of
+/// the body that they came in. A contract sees the slots by their layout.
 pub struct Slots {
     validity: Option<Bits>,
     len: usize,
@@ -118,8 +119,8 @@ impl Slots {
     ///
     /// # Errors
     ///
-    /// F8 (`Fault::BadBatch`) where a buffer is shorter than its slots need: the bytes of a number for each
-    /// value, and a bit for each slot where there are validity bits.
+    /// F8 (`Fault::BadBatch`) where a buffer is shorter than its slots need: the bytes of a number
+    /// for each value, and a bit for each slot where there are validity bits.
     #[tactic(auto, unfolding(crate::specs::Integers::integers_of))]
     pub fn integers(
         integer: IntegerType,
@@ -142,7 +143,7 @@ impl Slots {
         })
     }
 
-    /// `len` decimals of 38 digits with none behind the point, over these buffers.
+    /// `len` decimals of 38 digits with none after the point, over these buffers.
     ///
     /// # Errors
     ///
@@ -209,9 +210,9 @@ impl Slots {
     ///
     /// # Errors
     ///
-    /// F8 (`Fault::BadBatch`) where a buffer is shorter than its slots need: the bytes of a number for each
-    /// index, and a bit for each slot where there are validity bits; and where a valid slot's index does not
-    /// lie in the dictionary.
+    /// F8 (`Fault::BadBatch`) where a buffer is shorter than its slots need: the bytes of a number
+    /// for each index, and a bit for each slot where there are validity bits; and where a valid
+    /// slot's index does not lie in the dictionary.
     #[tactic(auto, unfolding(crate::specs::Indices::indices_of))]
     pub fn indices(
         index: IntegerType,
@@ -220,7 +221,8 @@ impl Slots {
         dictionary: Arc<Dictionary>,
         len: usize,
     ) -> Result<Slots, Fault>
-        ensures value { Gives (λ slots. slots) result (read_as layout.Indices (indices_of index validity values (arc_value dictionary) len)) }
+        ensures value { Gives (λ slots. slots) result
+            (read_as layout.Indices (indices_of index validity values (arc_value dictionary) len)) }
         ensures long { IfOk result (λ slots. layout_count slots ≡ len) }
     {
         let validity = read_validity(validity, len)?;
@@ -299,7 +301,8 @@ impl Slots {
         }
     }
 
-    // Whether the value of a valid slot may be null: where the answer is no, none is. It looks at no slot.
+    // Whether the value of a valid slot may be null: where the answer is no, none is. It looks at
+    // no slot.
     pub(crate) fn may_be_null_where_valid(&self) -> bool
         ensures { result ≡ false → AreNoNulls self.now }
     {

@@ -5,13 +5,14 @@ ghost use Rattle.std.specs.List.{slice_range};
 ghost use Rattle.std.specs.Fmt.{is_char_start};
 ghost use Rattle.std.specs.Str.{is_utf8};
 ghost use Rattle.arrays.specs.Number.{element_at};
-ghost use Rattle.arrays.specs.inside.TextCuts.{OffsetsRise, LieWithin, CutBetweenCharacters, IsTextCut};
+ghost use Rattle.arrays.specs.inside.TextCuts.{OffsetsRise, LieWithin, CutBetweenCharacters};
+ghost use Rattle.arrays.specs.inside.TextCuts.{IsTextCut};
 
 use crate::element::Element;
 use scan_base::{Fault, read_text};
 
-/// Whether the data of `len` slots is one text, which rising offsets cut between characters. Where the answer is no,
-/// each slot may stand still: the bytes of a null may be anything.
+/// Whether the data of `len` slots is one text, which rising offsets cut between characters. Where
+/// the answer is no, each slot may stand still: the bytes of a null may be anything.
 pub(crate) fn are_cut_from_text(offsets: &[u8], bytes: &[u8], len: usize) -> bool
     requires { 4 * (len + 1) ≤ length offsets.now }
     ensures { result ≡ true → (place : ℕ) → place < len → IsTextCut offsets.now bytes.now place }
@@ -26,7 +27,8 @@ pub(crate) fn are_cut_from_text(offsets: &[u8], bytes: &[u8], len: usize) -> boo
 
 // Whether each byte is one of ASCII, so that every offset cuts between characters. It reads each.
 fn is_ascii(bytes: &[u8]) -> bool
-    ensures { result ≡ true → (place : ℕ) → place < length bytes.now → slice_index bytes.now place < 128 }
+    ensures { result ≡ true → (place : ℕ) → place < length bytes.now →
+        slice_index bytes.now place < 128 }
 {
     let mut ascii = true;
     for byte in bytes {
@@ -47,11 +49,14 @@ fn offsets_rise(offsets: &[u8], len: usize) -> bool
     rise
 }
 
-/// The most bytes between an offset and the one behind it, of the slots `from` up to, not with, `to`.
+/// The most bytes between an offset and the one after it, of the slots `from` up to, not with,
+/// `to`.
 pub(crate) fn longest_cut(offsets: &[u8], from: usize, to: usize) -> u32
     requires room { 4 * (to + 1) ≤ length offsets.now }
-    requires rise { (place : ℕ) → from ≤ place → place < to → element_at 4 offsets.now place ≤ element_at 4 offsets.now (place + 1) }
-    ensures { (place : ℕ) → from ≤ place → place < to → element_at 4 offsets.now (place + 1) ≤ element_at 4 offsets.now place + result }
+    requires rise { (place : ℕ) → from ≤ place → place < to →
+        element_at 4 offsets.now place ≤ element_at 4 offsets.now (place + 1) }
+    ensures { (place : ℕ) → from ≤ place → place < to →
+        element_at 4 offsets.now (place + 1) ≤ element_at 4 offsets.now place + result }
 {
     let mut longest = 0;
     for place in from..to {
@@ -61,12 +66,14 @@ pub(crate) fn longest_cut(offsets: &[u8], from: usize, to: usize) -> u32
     longest
 }
 
-// Whether each offset, counted from the first on, is the place of a character's first byte in `whole`, or its
-// end. It reads each.
+// Whether each offset, counted from the first on, is the place of a character's first byte in
+// `whole`, or its end. It reads each.
 fn cut_between_characters(offsets: &[u8], len: usize, whole: &[u8]) -> bool
     requires offsets { 4 * (len + 1) ≤ length offsets.now }
-    requires within { LieWithin offsets.now len (element_at 4 offsets.now 0) (element_at 4 offsets.now 0 + length whole.now) }
-    ensures { result ≡ true → CutBetweenCharacters offsets.now len (element_at 4 offsets.now 0) whole.now }
+    requires within { LieWithin offsets.now len (element_at 4 offsets.now 0)
+        (element_at 4 offsets.now 0 + length whole.now) }
+    ensures { result ≡ true →
+        CutBetweenCharacters offsets.now len (element_at 4 offsets.now 0) whole.now }
 {
     let first = u32::read(offsets, 0) as usize;
     let mut between = true;
@@ -92,7 +99,8 @@ pub(crate) fn between<'a>(offsets: &[u8], bytes: &'a [u8], from: usize, to: usiz
     requires end { 4 * (to + 1) ≤ length offsets.now }
     requires ordered { element_at 4 offsets.now from ≤ element_at 4 offsets.now to }
     requires within { element_at 4 offsets.now to ≤ length bytes.now }
-    ensures { result.now ≡ slice_range bytes.now (element_at 4 offsets.now from) (element_at 4 offsets.now to) }
+    ensures { result.now
+        ≡ slice_range bytes.now (element_at 4 offsets.now from) (element_at 4 offsets.now to) }
 {
     &bytes[u32::read(offsets, from) as usize..u32::read(offsets, to) as usize]
 }

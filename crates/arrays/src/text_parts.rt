@@ -26,7 +26,12 @@ impl<'a> Model for TextParts<'a> {
 
     ghost Value = { TextsAt };
 
-    ghost view = { λ s. record { validity = s.validity.now; offsets = s.offsets.now; bytes = s.bytes.now; len = s.len } };
+    ghost view = { λ s. record {
+      validity = s.validity.now;
+      offsets = s.offsets.now;
+      bytes = s.bytes.now;
+      len = s.len;
+    } };
 }
 
 impl<'a> TextParts<'a> {
@@ -72,7 +77,8 @@ impl<'a> TextParts<'a> {
         !is_valid(self.validity, place) || is_utf8(self.text(place))
     }
 
-    // Whether each slot's text stands. They are looked at one by one only where they are not cut from one text.
+    // Whether each slot's text stands. They are looked at one by one only where they are not cut
+    // from one text.
     fn slots_stand(&self) -> bool
         requires offsets { 4 * ((self.now).len + 1) ≤ length (self.now).offsets }
         requires validity { IsLong (self.now).validity (self.now).len }

@@ -25,7 +25,7 @@ kind_again RecordBatch = refl
 abbrev message_slots : HeaderKind → Part → ℕ → List Given
 message_slots kind header body = Number 4 ∷ Number (kind_number kind) ∷ Offset header ∷ Number body ∷ []
 
--- a message takes little beside its header
+-- a message takes little next to its header
 pub short_message : (kind : HeaderKind) (header : Part) (body : ℕ) → length (message_part kind header body).bytes ≤ 60 + length header.bytes
 unfolding message_part
 short_message kind header body =

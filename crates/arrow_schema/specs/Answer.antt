@@ -9,31 +9,35 @@ use Rattle.arrow_schema.specs.declared.schema.Schema.{Schema}
 use Rattle.arrow_schema.specs.Schema.{IsSchema}
 use Rattle.arrow_schema.specs.Written.{encoding_of}
 
--- slots that are copied from several columns have no dictionary in common: where those are dictionaries, they lie as texts
+-- slots that are copied from several columns have no dictionary in common: where those are
+-- dictionaries, they lie as texts
 abbrev pub copied_type : DataType → DataType
 copied_type (Dictionary encoding) = Utf8
 copied_type other = other
 
--- columns of the one type lie as one of the other: of that type itself, or of the one in which they are copied
+-- columns of the one type lie as one of the other: of that type itself, or of the one in which they
+-- are copied
 abbrev pub LiesAs : DataType → DataType → Type 0
 LiesAs data_type lies = (lies ≡ data_type) ⊎ (lies ≡ copied_type data_type)
 
--- The type of the result's column of this number, counted from 0, for values of this type. A dictionary of texts is answered as
--- the one of that id, with indices of 32 bits.
+-- The type of the result's column of this number, counted from 0, for values of this type. A
+-- dictionary of texts is answered as the one of that id, with indices of 32 bits.
 abbrev pub answered_at : ℕ → DataType → DataType
 answered_at number (Dictionary encoding) = Dictionary (record { id = number; index = Int32 })
 answered_at number other = other
 
--- the same of columns one beside another, the first of which has this number
+-- the same of columns one next to another, the first of which has this number
 abbrev pub answered_from : ℕ → List DataType → List DataType
 answered_from number [] = []
-answered_from number (data_type ∷ types) = answered_at number data_type ∷ answered_from (number + 1) types
+answered_from number (data_type ∷ types) =
+    answered_at number data_type ∷ answered_from (number + 1) types
 
 -- a column keeps its name, and whether it may be null
 abbrev pub answered_field : ℕ → Field → Field
 answered_field number field = record field { data_type = answered_at number field.data_type }
 
--- Columns of these types lie behind the fields of a result, which say as what their values are answered.
+-- Columns of these types lie after the fields of a result, which say as what their values are
+-- answered.
 pub record LieBehind (fields : List Field) (lies : List DataType) : Type 0 where
   pub types : List DataType
   pub answered : map (λ field. field.data_type) fields ≡ answered_from 0 types
@@ -52,7 +56,8 @@ PlainIsSchema = (schema : Schema) → IsSchema schema → IsSchema (plain_schema
 
 -- no column has a dictionary then
 abbrev pub PlainHasNone : Type 0
-PlainHasNone = (schema : Schema) → All (λ (field : Field). encoding_of field.data_type ≡ None) (plain_schema schema).fields
+PlainHasNone = (schema : Schema) →
+    All (λ (field : Field). encoding_of field.data_type ≡ None) (plain_schema schema).fields
 
 -- and there is nothing more to take away
 abbrev pub PlainStays : Type 0

@@ -1,7 +1,9 @@
 -- What the types of columns are.
 use Rattle.std.specs.Prelude.{ℕ, Bool, true, false}
 use Rattle.arrow_schema.specs.declared.data_type.IntegerType.{IntegerType}
-use Rattle.arrow_schema.specs.declared.data_type.IntegerType.TheVariants.{Int8, Int16, Int32, Int64, UInt8, UInt16, UInt32, UInt64}
+use Rattle.arrow_schema.specs.declared.data_type.IntegerType.TheVariants.{Int8, Int16, Int32, Int64}
+use Rattle.arrow_schema.specs.declared.data_type.IntegerType.TheVariants.{UInt8, UInt16, UInt32}
+use Rattle.arrow_schema.specs.declared.data_type.IntegerType.TheVariants.{UInt64}
 
 -- whether the numbers have a sign, and how many bits a number has
 abbrev pub integer_form : IntegerType → Bool × ℕ

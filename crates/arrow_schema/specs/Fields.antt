@@ -1,16 +1,21 @@
--- What a Field table names: a column. The first thing that is not so gives the fault, in the order in which the lines
--- below stand.
-use Rattle.std.specs.Prelude.{ℕ, ◌==◌, ◌&&◌, not, Bool, true, false, nat_lt, nat_le, length, List, [], ◌∷◌, Option, Some, None, Result, Ok, Err, if◌then◌else◌}
+-- What a Field table names: a column. The first thing that is not so gives the fault, in the order
+-- in which the lines below stand.
+use Rattle.std.specs.Prelude.{ℕ, ◌==◌, ◌&&◌, not, Bool, true, false, nat_lt, nat_le, length, List}
+use Rattle.std.specs.Prelude.{[], ◌∷◌, Option, Some, None, Result, Ok, Err, if◌then◌else◌}
 use Rattle.scan_base.specs.declared.fault.Fault.{Fault}
-use Rattle.scan_base.specs.declared.fault.Fault.TheVariants.{BadFlatbuffer, UnsupportedArrow, LimitReached}
+use Rattle.scan_base.specs.declared.fault.Fault.TheVariants.{BadFlatbuffer, UnsupportedArrow}
+use Rattle.scan_base.specs.declared.fault.Fault.TheVariants.{LimitReached}
 use Rattle.scan_base.specs.Limits.{most_name_bytes}
 use Rattle.scan_base.specs.Reading.{◌>>=◌, demand, wanted}
 use Rattle.flatbuf.specs.Layout.{TableAt, VectorAt}
 use Rattle.flatbuf.specs.Place.{field_of, scalar_of, table_of, text_of, vector_of}
 use Rattle.arrow_schema.specs.declared.data_type.IntegerType.{IntegerType}
-use Rattle.arrow_schema.specs.declared.data_type.IntegerType.TheVariants.{Int8, Int16, Int32, Int64, UInt8, UInt16, UInt32, UInt64}
+use Rattle.arrow_schema.specs.declared.data_type.IntegerType.TheVariants.{Int8, Int16, Int32, Int64}
+use Rattle.arrow_schema.specs.declared.data_type.IntegerType.TheVariants.{UInt8, UInt16, UInt32}
+use Rattle.arrow_schema.specs.declared.data_type.IntegerType.TheVariants.{UInt64}
 use Rattle.arrow_schema.specs.declared.data_type.DataType.{DataType}
-use Rattle.arrow_schema.specs.declared.data_type.DataType.TheVariants.{Integer, Utf8, Bool as Flags, Decimal128, Date, Dictionary}
+use Rattle.arrow_schema.specs.declared.data_type.DataType.TheVariants.{Integer, Utf8, Bool as Flags}
+use Rattle.arrow_schema.specs.declared.data_type.DataType.TheVariants.{Decimal128, Date, Dictionary}
 use Rattle.arrow_schema.specs.declared.reading.TypeKind.{TypeKind}
 use Rattle.arrow_schema.specs.declared.reading.TypeKind.TheVariants as kinds
 use Rattle.arrow_schema.specs.declared.schema.Field.{Field}
@@ -43,7 +48,8 @@ name_of field = do
 -- the whole numbers, by whether they have a sign and how many bits
 abbrev pub integer_type : Bool → ℕ → Result IntegerType Fault
 integer_type true bits = meaning_of ((8, Int8) ∷ (16, Int16) ∷ (32, Int32) ∷ (64, Int64) ∷ []) bits
-integer_type false bits = meaning_of ((8, UInt8) ∷ (16, UInt16) ∷ (32, UInt32) ∷ (64, UInt64) ∷ []) bits
+integer_type false bits =
+    meaning_of ((8, UInt8) ∷ (16, UInt16) ∷ (32, UInt32) ∷ (64, UInt64) ∷ []) bits
 
 -- what an Int table says
 unfoldable pub integer_of : TableAt → Result IntegerType Fault
@@ -52,7 +58,7 @@ integer_of table = do
   signed ← scalar_of 1 table 1 0
   integer_type (not (signed == 0)) bits
 
--- what a Decimal table says: 38 digits, none behind the point, 128 bits, which are the default
+-- what a Decimal table says: 38 digits, none after the point, 128 bits, which are the default
 unfoldable pub decimal_of : TableAt → Result DataType Fault
 decimal_of table = do
   precision ← scalar_of 4 table 0 0
@@ -61,7 +67,8 @@ decimal_of table = do
   _ ← demand ((precision == 38) && (scale == 0) && (bits == 128)) UnsupportedArrow
   Ok Decimal128
 
--- what a Date table says: a unit of whole days, which is 0; where none is said it is 1, milliseconds
+-- what a Date table says: a unit of whole days, which is 0; where none is said it is 1,
+-- milliseconds
 unfoldable pub date_of : TableAt → Result DataType Fault
 date_of table = do
   unit ← scalar_of 2 table 0 1
@@ -70,7 +77,8 @@ date_of table = do
 
 -- the kinds of types that there are here, by their numbers
 abbrev pub type_kind : ℕ → Result TypeKind Fault
-type_kind number = meaning_of ((2, kinds.Int) ∷ (5, kinds.Utf8) ∷ (6, kinds.Bool) ∷ (7, kinds.Decimal) ∷ (8, kinds.Date) ∷ []) number
+type_kind number = meaning_of ((2, kinds.Int) ∷ (5, kinds.Utf8) ∷ (6, kinds.Bool)
+    ∷ (7, kinds.Decimal) ∷ (8, kinds.Date) ∷ []) number
 
 -- the type that a kind and its table name; of Utf8 and Bool the table is not read
 unfoldable pub type_of : TypeKind → TableAt → Result DataType Fault
@@ -106,7 +114,8 @@ abbrev pub index_of : Option TableAt → Result IntegerType Fault
 index_of None = Ok Int32
 index_of (Some table) = integer_of table
 
--- what a DictionaryEncoding table says: an id, the type of the indices, and the one kind of dictionary that there is
+-- what a DictionaryEncoding table says: an id, the type of the indices, and the one kind of
+-- dictionary that there is
 unfoldable pub dictionary_of : TableAt → Result DataType Fault
 dictionary_of table = do
   id ← scalar_of 8 table 0 0

@@ -1,6 +1,7 @@
--- What the header of a message names, by the places of its tables. The first thing that is not so gives the fault, in
--- the order in which the lines below stand.
-use Rattle.std.specs.Prelude.{ℕ, ◌==◌, ◌&&◌, not, Bool, true, false, nat_lt, nat_le, List, [], ◌∷◌, Result, Ok}
+-- What the header of a message names, by the places of its tables. The first thing that is not so
+-- gives the fault, in the order in which the lines below stand.
+use Rattle.std.specs.Prelude.{ℕ, ◌==◌, ◌&&◌, not, Bool, true, false, nat_lt, nat_le, List, [], ◌∷◌}
+use Rattle.std.specs.Prelude.{Result, Ok}
 use Rattle.std.specs.List.{range_with_len}
 use Rattle.scan_base.specs.declared.fault.Fault.{Fault}
 use Rattle.scan_base.specs.declared.fault.Fault.TheVariants.{UnsupportedArrow, LimitReached}
@@ -27,7 +28,8 @@ pub record MessageAt : Type 0 where
 
 -- the kinds of headers that there are here, by their numbers
 abbrev pub header_kind : ℕ → Result HeaderKind Fault
-header_kind number = meaning_of ((1, header.Schema) ∷ (2, header.DictionaryBatch) ∷ (3, header.RecordBatch) ∷ []) number
+header_kind number = meaning_of ((1, header.Schema) ∷ (2, header.DictionaryBatch)
+    ∷ (3, header.RecordBatch) ∷ []) number
 
 -- the message that a buffer holds, of metadata version V5, which is 4
 unfoldable pub message_of : List ℕ → Result MessageAt Fault

@@ -1,13 +1,16 @@
 -- What a buffer says of a schema, in the words of Arrow's `Message.fbs` and `Schema.fbs` and of the
 -- FlatBuffers format: the slots of each table, with no order of reading.
-use Rattle.std.specs.Prelude.{◌≡◌, ◌↔◌, ◌≤◌, ℕ, ◌==◌, not, Bool, false, List, length, Option, Some, None, Ok, IsTrue, slice_get}
+use Rattle.std.specs.Prelude.{◌≡◌, ◌↔◌, ◌≤◌, ℕ, ◌==◌, not, Bool, false, List, length, Option, Some}
+use Rattle.std.specs.Prelude.{None, Ok, IsTrue, slice_get}
 use Rattle.scan_base.specs.Limits.{most_columns, most_name_bytes}
 use Rattle.scan_base.specs.Lists.{repeats}
-use Rattle.flatbuf.specs.Layout.{TableAt, VectorAt, IsBytes, HasRoot, HasScalar, HasTable, HasVector, HasText, HasElement}
+use Rattle.flatbuf.specs.Layout.{TableAt, VectorAt, IsBytes, HasRoot, HasScalar, HasTable}
+use Rattle.flatbuf.specs.Layout.{HasVector, HasText, HasElement}
 use Rattle.arrow_schema.specs.declared.data_type.IntegerType.{IntegerType}
 use Rattle.arrow_schema.specs.declared.data_type.IntegerType.TheVariants.{Int32}
 use Rattle.arrow_schema.specs.declared.data_type.DataType.{DataType}
-use Rattle.arrow_schema.specs.declared.data_type.DataType.TheVariants.{Integer, Utf8, Bool as Flags, Decimal128, Date, Dictionary}
+use Rattle.arrow_schema.specs.declared.data_type.DataType.TheVariants.{Integer, Utf8, Bool as Flags}
+use Rattle.arrow_schema.specs.declared.data_type.DataType.TheVariants.{Decimal128, Date, Dictionary}
 use Rattle.arrow_schema.specs.declared.data_type.DictionaryEncoding.{DictionaryEncoding}
 use Rattle.arrow_schema.specs.declared.schema.Field.{Field}
 use Rattle.arrow_schema.specs.declared.schema.Schema.{Schema}
@@ -62,7 +65,8 @@ pub record SaysDictionary (table : TableAt) (encoding : DictionaryEncoding) : Ty
 abbrev pub SaysEncoding : DataType → Option TableAt → DataType → Type 0
 SaysEncoding values None data_type = data_type ≡ values
 SaysEncoding values (Some table) data_type =
-    (values ≡ Utf8) × ((encoding : DictionaryEncoding) × (data_type ≡ Dictionary encoding) × SaysDictionary table encoding)
+    (values ≡ Utf8) × ((encoding : DictionaryEncoding) × (data_type ≡ Dictionary encoding)
+    × SaysDictionary table encoding)
 
 -- a Field table: name, nullable, the type's kind and table, the dictionary, and no children
 pub record SaysField (table : TableAt) (field : Field) : Type 0 where
@@ -84,9 +88,11 @@ pub record SaysField (table : TableAt) (field : Field) : Type 0 where
 
 -- an index of a vector of Field tables leads to one that says this field
 abbrev pub SaysFieldAt : VectorAt → ℕ → Field → Type 0
-SaysFieldAt vector index field = (table : TableAt) × HasElement vector index table × SaysField table field
+SaysFieldAt vector index field =
+    (table : TableAt) × HasElement vector index table × SaysField table field
 
--- a Schema table: little-endian (0), and one field or more, up to the limit, of which no two have one dictionary
+-- a Schema table: little-endian (0), and one field or more, up to the limit, of which no two have
+-- one dictionary
 pub record SaysColumns (table : TableAt) (schema : Schema) : Type 0 where
   pub endianness : HasScalar 2 table 0 0 0
   pub vector : VectorAt
@@ -94,7 +100,8 @@ pub record SaysColumns (table : TableAt) (schema : Schema) : Type 0 where
   pub count : length schema.fields ≡ vector.count
   pub some : 1 ≤ vector.count
   pub few : vector.count ≤ most_columns
-  pub fields : (index : ℕ) (field : Field) → slice_get schema.fields index ≡ Some field → SaysFieldAt vector index field
+  pub fields : (index : ℕ) (field : Field) → slice_get schema.fields index ≡ Some field →
+      SaysFieldAt vector index field
   pub apart : repeats same_dictionary schema.fields ≡ false
 
 -- the buffer of a schema: its root is a Message of version V5 (4), whose header is a Schema (1)
@@ -109,8 +116,10 @@ pub record SaysSchema (bytes : List ℕ) (schema : Schema) : Type 0 where
 
 -- what is read of a buffer is just what it says
 abbrev pub ReadIsSaid : Type 0
-ReadIsSaid = (bytes : List ℕ) (schema : Schema) → IsBytes bytes → (schema_of bytes ≡ Ok schema) ↔ SaysSchema bytes schema
+ReadIsSaid = (bytes : List ℕ) (schema : Schema) → IsBytes bytes →
+    (schema_of bytes ≡ Ok schema) ↔ SaysSchema bytes schema
 
 -- a schema that was read may be written
 abbrev pub ReadIsSchema : Type 0
-ReadIsSchema = (bytes : List ℕ) (schema : Schema) → IsBytes bytes → schema_of bytes ≡ Ok schema → IsSchema schema
+ReadIsSchema = (bytes : List ℕ) (schema : Schema) → IsBytes bytes → schema_of bytes ≡ Ok schema →
+    IsSchema schema

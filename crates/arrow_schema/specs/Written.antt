@@ -1,10 +1,13 @@
 -- How the header of a schema is laid out where it is written, and a header in a stream.
-use Rattle.std.specs.Prelude.{◌≡◌, ℕ, Bool, true, false, List, [], ◌∷◌, ◌++◌, length, map, replicate, Option, Some, None, option_map, Ok}
-use Rattle.flatbuf.specs.Block.{Part, Given, Absent, Number, Offset, little, padded, table_part, text_part, tables_part}
+use Rattle.std.specs.Prelude.{◌≡◌, ℕ, Bool, true, false, List, [], ◌∷◌, ◌++◌, length, map}
+use Rattle.std.specs.Prelude.{replicate, Option, Some, None, option_map, Ok}
+use Rattle.flatbuf.specs.Block.{Part, Given, Absent, Number, Offset, little, padded, table_part}
+use Rattle.flatbuf.specs.Block.{text_part, tables_part}
 use Rattle.arrow_schema.specs.declared.header.HeaderKind.TheVariants as header
 use Rattle.arrow_schema.specs.declared.data_type.IntegerType.{IntegerType}
 use Rattle.arrow_schema.specs.declared.data_type.DataType.{DataType}
-use Rattle.arrow_schema.specs.declared.data_type.DataType.TheVariants.{Integer, Utf8, Bool as Flags, Decimal128, Date, Dictionary}
+use Rattle.arrow_schema.specs.declared.data_type.DataType.TheVariants.{Integer, Utf8, Bool as Flags}
+use Rattle.arrow_schema.specs.declared.data_type.DataType.TheVariants.{Decimal128, Date, Dictionary}
 use Rattle.arrow_schema.specs.declared.data_type.DictionaryEncoding.{DictionaryEncoding}
 use Rattle.arrow_schema.specs.declared.schema.Field.{Field}
 use Rattle.arrow_schema.specs.declared.schema.Schema.{Schema}
@@ -29,9 +32,11 @@ type_number (Dictionary encoding) = 5
 
 -- an Int table: its width in bits, and whether it is signed
 unfoldable pub integer_part : IntegerType → Part
-integer_part integer = table_part (Number (bit_width integer) ∷ Number (flag (is_signed integer)) ∷ [])
+integer_part integer =
+    table_part (Number (bit_width integer) ∷ Number (flag (is_signed integer)) ∷ [])
 
--- the table of a type: that of a Decimal says 38 digits, none behind the point, and 128 bits; that of a Date says days
+-- the table of a type: that of a Decimal says 38 digits, none after the point, and 128 bits; that
+-- of a Date says days
 unfoldable pub type_part : DataType → Part
 type_part (Integer integer) = integer_part integer
 type_part Utf8 = table_part []
@@ -42,7 +47,8 @@ type_part (Dictionary encoding) = table_part []
 
 -- a DictionaryEncoding table: its id, and the type of its indices
 unfoldable pub dictionary_part : DictionaryEncoding → Part
-dictionary_part encoding = table_part (Number encoding.id ∷ Offset (integer_part encoding.index) ∷ [])
+dictionary_part encoding =
+    table_part (Number encoding.id ∷ Offset (integer_part encoding.index) ∷ [])
 
 -- the dictionary of a type, where it has one
 abbrev pub encoding_of : DataType → Option DictionaryEncoding
@@ -84,7 +90,7 @@ schema_bytes schema = message_bytes header.Schema (schema_part schema) 0
 abbrev pub SchemasReadBack : Type 0
 SchemasReadBack = (schema : Schema) → IsSchema schema → schema_of (schema_bytes schema) ≡ Ok schema
 
--- A header in IPC form: four bytes of 255, a length of four bytes, and the header with its zeros, which the
--- length counts.
+-- A header in IPC form: four bytes of 255, a length of four bytes, and the header with its zeros,
+-- which the length counts.
 unfoldable pub encapsulated : List ℕ → List ℕ
 encapsulated header = replicate 4 255 ++ (little 4 (length (padded header)) ++ padded header)

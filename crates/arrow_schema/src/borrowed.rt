@@ -21,7 +21,8 @@ impl<'a> Model for BorrowedField<'a> {
 
     ghost Value = { Field };
 
-    ghost view = { λ f. record { name = f.name.now; nullable = f.nullable; data_type = f.data_type } };
+    ghost view = { λ f.
+        record { name = f.name.now; nullable = f.nullable; data_type = f.data_type } };
 }
 
 // What an unused place of an `ArrayVec` holds.
@@ -29,7 +30,8 @@ impl Default for BorrowedField<'_> {
     ghost use Rattle.std.specs.Prelude.{◌≡◌, [], false};
     ghost use Rattle.arrow_schema.specs.declared.data_type.DataType.TheVariants as kinds;
 
-    ghost is_default = { λ blank. blank ≡ record { name = []; nullable = false; data_type = kinds.Bool } };
+    ghost is_default = { λ blank. blank
+        ≡ record { name = []; nullable = false; data_type = kinds.Bool } };
 
     fn default() -> Self {
         BorrowedField {

@@ -25,8 +25,9 @@ pub struct DictionaryEncoding {
     pub index: IntegerType,
 }
 
-/// The type of a column's values. A dictionary's values are Utf8, a decimal is one of 38 digits with
-/// none behind the point, and a date is a number of whole days from 1970-01-01 on, in 32 signed bits.
+/// The type of a column's values. A dictionary's values are Utf8, a decimal is one of 38 digits
+/// with none after the point, and a date is a number of whole days from 1970-01-01 on, in 32 signed
+/// bits.
 #[derive(Clone, Copy, Debug, PartialEq, Eq)]
 pub enum DataType {
     Integer(IntegerType),
@@ -64,8 +65,8 @@ impl IntegerType {
 }
 
 impl DataType {
-    /// The type in which slots lie that are copied from columns of this type: those of a dictionary lie
-    /// as texts.
+    /// The type in which slots lie that are copied from columns of this type: those of a dictionary
+    /// lie as texts.
     pub fn copied(self) -> DataType
         ensures { result ≡ copied_type self }
     {
@@ -75,8 +76,8 @@ impl DataType {
         }
     }
 
-    /// The type of the result's column of this number, counted from 0, for values of this type. A dictionary
-    /// of texts is answered as the one of that id, with indices of 32 bits.
+    /// The type of the result's column of this number, counted from 0, for values of this type. A
+    /// dictionary of texts is answered as the one of that id, with indices of 32 bits.
     pub fn answered(self, number: u64) -> DataType
         ensures { result ≡ answered_at number self }
     {

@@ -8,7 +8,8 @@ ghost use Rattle.scan_base.specs.Lists.{each, repeats};
 ghost use Rattle.arrow_schema.specs.Fields.{vector_wanted, name_of, integer_type, integer_of};
 ghost use Rattle.arrow_schema.specs.Fields.{decimal_of, date_of, type_kind, type_of, value_type_of};
 ghost use Rattle.arrow_schema.specs.Fields.{childless, index_of, dictionary_of, encoded, field_in};
-ghost use Rattle.arrow_schema.specs.Header.{field_at, fields_of, shares_dictionary, same_dictionary};
+ghost use Rattle.arrow_schema.specs.Header.{field_at, fields_of, shares_dictionary};
+ghost use Rattle.arrow_schema.specs.Header.{same_dictionary};
 ghost use Rattle.arrow_schema.specs.Header.{is_schema, schema_message_of, schema_in, schema_of};
 ghost use Rattle.arrow_schema.specs.Schema.{IsName, IsType, IsField, IsSchema};
 ghost use Rattle.arrow_schema.specs.Seen.{message_seen};
@@ -298,9 +299,9 @@ fn columns<'a>(message: &Message<'a>) -> Result<BorrowedFields<'a>, Fault>
 
 impl Message<'_> {
     /// The schema that the header names, of 1 to [`MAX_COLUMNS`] columns, as Arrow's `Schema.fbs`
-    /// says. The header's kind is not looked at: it is the caller who knows that it is a Schema. The
-    /// first fault in the order of the reads is the answer. The one thing that is kept in memory is
-    /// each column's name, and that once all else was read.
+    /// says. The header's kind is not looked at: it is the caller who knows that it is a Schema.
+    /// The first fault in the order of the reads is the answer. The one thing that is kept in
+    /// memory is each column's name, and that once all else was read.
     ///
     /// # Errors
     ///

@@ -41,9 +41,9 @@ impl Field {
         })
     }
 
-    /// The result's column of this number, counted from 0, that gives the values of this one: it keeps its
-    /// name, and whether a cell may be null. It fails with [`AllocError`] where memory is refused, and with no
-    /// other error.
+    /// The result's column of this number, counted from 0, that gives the values of this one: it
+    /// keeps its name, and whether a cell may be null. It fails with [`AllocError`] where memory is
+    /// refused, and with no other error.
     pub fn answered(&self, number: u64) -> Result<Field, AllocError>
         ensures { IfOk result (λ answer. answer ≡ answered_field number self.now) }
     {
@@ -54,8 +54,8 @@ impl Field {
         })
     }
 
-    /// The same column, and a dictionary of texts as texts. It fails with [`AllocError`] where memory is
-    /// refused, and with no other error.
+    /// The same column, and a dictionary of texts as texts. It fails with [`AllocError`] where
+    /// memory is refused, and with no other error.
     pub fn plain(&self) -> Result<Field, AllocError>
         ensures { IfOk result (λ plain. plain ≡ plain_field self.now) }
     {
@@ -68,8 +68,8 @@ impl Field {
 }
 
 impl Schema {
-    /// The same columns once more. It fails with [`AllocError`] where memory is refused, and with no
-    /// other error.
+    /// The same columns once more. It fails with [`AllocError`] where memory is refused, and with
+    /// no other error.
     pub fn copy(&self, alloc: Global) -> Result<Schema, AllocError>
         ensures { IfOk result (λ copy. copy ≡ self.now) }
     {
@@ -80,8 +80,8 @@ impl Schema {
         Ok(Schema { fields })
     }
 
-    /// The same columns, and each dictionary of texts as texts. It fails with [`AllocError`] where memory is
-    /// refused, and with no other error.
+    /// The same columns, and each dictionary of texts as texts. It fails with [`AllocError`] where
+    /// memory is refused, and with no other error.
     pub fn plain(&self, alloc: Global) -> Result<Schema, AllocError>
         ensures plain { IfOk result (λ plain. plain ≡ plain_schema self.now) }
         ensures valid { IsSchema self.now → IfOk result IsSchema }

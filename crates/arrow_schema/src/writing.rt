@@ -154,8 +154,8 @@ fn schema_block(alloc: Global, schema: &Schema) -> Result<Block, AllocError>
 }
 
 /// The buffer of a schema: a message of metadata version V5 with no body, which reads as this
-/// schema. It has a multiple of 8 bytes, and at most 2 to the 15. It fails with [`AllocError`] where
-/// memory is refused, and with no other error.
+/// schema. It has a multiple of 8 bytes, and at most 2 to the 15. It fails with [`AllocError`]
+/// where memory is refused, and with no other error.
 #[tactic(auto, using(crate::proofs::Again::written))]
 pub fn write_schema(alloc: Global, schema: &Schema) -> Result<Vec<u8>, AllocError>
     requires { IsSchema schema.now }

@@ -3,7 +3,8 @@ use Rattle.std.specs.Prelude.{◌≤◌, ◌<◌, ◌^◌, ℕ, List, length, ta
 use Rattle.arrays.specs.Written.{texts_joined}
 use Rattle.scan_base.specs.declared.value.Value.{Value}
 
--- offsets name each byte of the texts, and those of more than one value have no more than so many bytes
+-- offsets name each byte of the texts, and those of more than one value have no more than so many
+-- bytes
 pub record AreLight (most : ℕ) (values : List Value) : Type 0 where
   pub named : length (texts_joined values) < 2 ^ 31
   pub light : 1 < length values → length (texts_joined values) ≤ most

@@ -14,7 +14,8 @@ most_batch_cells = 131072
 abbrev pub most_batch_texts : ℕ
 most_batch_texts = 2097152
 
--- how many bytes the texts of a column of a type may have, where those of one may have so many: values of other types are no texts
+-- how many bytes the texts of a column of a type may have, where those of one may have so many:
+-- values of other types are no texts
 abbrev pub allowed : ℕ → DataType → ℕ
 allowed share data_type = if has_texts data_type then share else 0
 

@@ -8,8 +8,8 @@ ghost use Rattle.batch_room.specs.Room.{allowed, most_batch_cells, most_batch_te
 use array_select::{MOST_BATCH_ROWS, has_texts};
 use arrow_schema::DataType;
 
-/// As many cells as a batch has, where it has more than one row. A cell has 16 bytes or fewer beside its text, so that all of
-/// them have 2 MB.
+/// As many cells as a batch has, where it has more than one row. A cell has 16 bytes or fewer next
+/// to its text, so that all of them have 2 MB.
 pub const MOST_BATCH_CELLS: usize = 131_072;
 
 /// As many bytes as the texts of all columns of a batch have, where it has more than one row: 2 MB.
@@ -30,8 +30,8 @@ pub fn most_rows(columns: usize) -> usize
     (MOST_BATCH_CELLS / columns).min(MOST_BATCH_ROWS).max(1)
 }
 
-/// How many rows a batch of so many columns is tried with, of so many that are left and where it is to have so many at most: one
-/// at least.
+/// How many rows a batch of so many columns is tried with, of so many that are left and where it is
+/// to have so many at most: one at least.
 pub fn tried_rows(left: usize, columns: usize, most: usize) -> usize
     requires { 0 < left }
     ensures some { 0 < result }
@@ -42,8 +42,9 @@ pub fn tried_rows(left: usize, columns: usize, most: usize) -> usize
     left.min(most_rows(columns)).min(most.max(1))
 }
 
-/// How many rows the next batch is to have at most: as many as the last one has, where it was tried with more, and else twice as
-/// many as that was to have. So few batches are tried with many more rows than they have.
+/// How many rows the next batch is to have at most: as many as the last one has, where it was tried
+/// with more, and else twice as many as that was to have. So few batches are tried with many more
+/// rows than they have.
 pub fn next_most(most: usize, tried: usize, rows: usize) -> usize
     ensures { result ≡ if nat_lt rows tried then rows else min most 32768 * 2 }
 {
@@ -62,8 +63,8 @@ pub fn share_among(columns: usize) -> usize
     MOST_BATCH_TEXTS / columns.max(1)
 }
 
-/// How many bytes the texts of one column have at most, in a batch of more than one row with columns of these types: each
-/// column of texts has the same share.
+/// How many bytes the texts of one column have at most, in a batch of more than one row with
+/// columns of these types: each column of texts has the same share.
 pub fn text_share(types: &[DataType]) -> usize
     ensures few { result ≤ most_batch_texts }
     ensures all { sum_by (allowed result) types.now ≤ most_batch_texts }

@@ -10,9 +10,9 @@ use crate::room::MOST_OFFSET;
 use array_select::{SlotRef, texts_fit};
 use std::alloc::AllocError;
 
-/// How many of the slots, from the first on, stand in one column of a batch: all of them, halved until their texts have no
-/// more bytes than the column's share. One stands there whatever its text has, unless offsets cannot name each byte: that is
-/// a want of memory.
+/// How many of the slots, from the first on, stand in one column of a batch: all of them, halved
+/// until their texts have no more bytes than the column's share. One stands there whatever its text
+/// has, unless offsets cannot name each byte: that is a want of memory.
 ///
 /// # Errors
 ///
@@ -38,7 +38,8 @@ pub fn fitting(slots: &[SlotRef<'_>], share: usize) -> Result<usize, AllocError>
 fn alone(slots: &[SlotRef<'_>]) -> Result<usize, AllocError>
     requires there { All (λ slot. slot.place < slot.column.now.len) slots.now }
     requires some { 0 < length slots.now }
-    ensures fits { IfOk result (λ count. (share : ℕ) → Fits share (map slot_value slots.now) count) }
+    ensures fits { IfOk result
+        (λ count. (share : ℕ) → Fits share (map slot_value slots.now) count) }
     ensures refused { OnErr result (NoneFits (map slot_value slots.now)) }
 {
     if texts_fit(&slots[..1], MOST_OFFSET) {

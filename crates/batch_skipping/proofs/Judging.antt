@@ -33,7 +33,7 @@ module _ (test : ℕ → Bool) where
   more : (n : ℕ) → filter test (range_with_len 0 (n + 1)) ≡ filter test (range_with_len 0 n) ++ filter test (n ∷ [])
   more n = ap (filter test) (range_more 0 n n (omega arith)) ∙ filter-append test (range_with_len 0 n) (n ∷ [])
 
-  -- one that passes stands behind the others
+  -- one that passes stands after the others
   pub passes : (n : ℕ) → test n ≡ true → filter test (range_with_len 0 (n + 1)) ≡ filter test (range_with_len 0 n) ++ n ∷ []
   passes n on = more n ∙ ap (λ (b : Bool). filter test (range_with_len 0 n) ++ cond b (n ∷ []) []) on
 
@@ -48,7 +48,7 @@ module _ (test : ℕ → Bool) where
       ap (λ (m : ℕ). filter test (range_with_len 0 m)) e ∙ fails (n + d) (none (n + d) (omega arith) (omega arith))
       ∙ behind n d (λ k low high. none k low (omega (arith, high)))
 
-  -- nor are those behind the last one that passes
+  -- nor are those after the last one that passes
   pub none_behind : (n m : ℕ) → n ≤ m → ((k : ℕ) → n ≤ k → k < m → test k ≡ false) → filter test (range_with_len 0 m) ≡ filter test (range_with_len 0 n)
   none_behind n m h none =
       let e : n + (m - n) ≡ m = omega (arith, h) in

@@ -16,13 +16,13 @@ grows batches i j h =
     let front = ap (λ (some : List BatchAt). length (flat_map rows_of some)) (take-take i j batches h) in
     omega (arith, whole, front)
 
--- and all rows behind the last one
+-- and all rows after the last one
 pub in_all : (batches : List BatchAt) (i : ℕ) → i ≤ length batches → rows_before batches i ≤ length (flat_map rows_of batches)
 in_all batches i h =
     let all = ap (λ (some : List BatchAt). length (flat_map rows_of some)) (take_all (length batches) batches (omega arith)) in
     omega (arith, grows batches i (length batches) h, all)
 
--- behind all of them stand all rows
+-- after all of them stand all rows
 pub behind_all : (batches : List BatchAt) (i : ℕ) → length batches ≤ i → rows_before batches i ≡ length (flat_map rows_of batches)
 behind_all batches i h = ap (λ (some : List BatchAt). length (flat_map rows_of some)) (take_all i batches h)
 
@@ -36,7 +36,7 @@ module _ (table : TableAt) (index start end : ℕ) (s : start ≡ rows_before ta
       by (inr past) = let all = behind_all table.batches index past in absurd (omega (arith, all, s, more, ends))
 
   module _ (standing : BatchesAreRows) (batch : BatchAt) (there : slice_get table.batches index ≡ Some batch) where
-    -- the next one stands behind its rows
+    -- the next one stands after its rows
     pub start_next : start + batch.rows ≡ rows_before table.batches (index + 1)
     start_next = let e = ((standing table).1 index batch there).next in omega (arith, e, s)
 

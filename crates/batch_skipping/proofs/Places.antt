@@ -111,7 +111,7 @@ module _ (parts : List (Pred ℕ)) (from to : ℕ) where
       × AreOpened (suc place) (first + given_width columns (length table.schema.fields)) scans tables lists
   AreOpened place first _ _ _ = ⊥
 
-  -- the lists so far, behind which those of the other places may stand
+  -- the lists so far, after which those of the other places may stand
   abbrev pub AreBegun : List Columns → List TableAt → ℕ → ℕ → List OpenedList → Type 0
   AreBegun scans tables place first lists =
       (more : List OpenedList) → AreOpened place first (drop place scans) (drop place tables) more → AreOpened 0 0 scans tables (lists ++ more)
@@ -164,7 +164,7 @@ module _ (parts : List (Pred ℕ)) (from to : ℕ) where
       subst (λ (some : List OpenedList). AreOpened 0 0 scans tables some)
       (sym (append_assoc lists (list ∷ []) more) ∙ ap (λ (some : List OpenedList). some ++ more) (sym is)) (begun (list ∷ more) there)
 
-  -- behind the last one
+  -- after the last one
   pub begun_all : (scans : List Columns) (tables : List TableAt) (place first : ℕ) (lists : List OpenedList) → length scans ≤ place → length tables ≤ place →
       AreBegun scans tables place first lists → AreOpened 0 0 scans tables lists
   begun_all scans tables place first lists a b begun =

@@ -134,7 +134,7 @@ one_is_two-any stats = refl
 false-any : (stats : ℕ → StatsAt) → can stats (constant False) ≡ only False
 false-any stats = refl
 
--- a side with nulls alone, and a text beside numbers
+-- a side with nulls alone, and a text next to numbers
 nulls_alone : can (λ (column : ℕ). stats_of (Null ∷ [])) above_five ≡ only Unknown
 unfolding can_compare
 nulls_alone = refl

@@ -204,7 +204,7 @@ module _ (parts : List (Pred ℕ)) (first : ℕ) (columns : Columns) (begin end 
           by : (olds : List ℕ) (n : ℕ) → n ≡ narrowed_to end table.batches (olds ++ index ∷ []) → (news : List ℕ) → news ≡ olds ++ index ∷ [] → n ≡ narrowed_to end table.batches news
           by olds n e news is = e ∙ sym (ap (narrowed_to end table.batches) is)
 
-    -- behind the last one
+    -- after the last one
     pub all_read : last ≤ start → length (batches_in begin end table.batches) ≡ read_before begin end table index
     all_read done = ap length (none_behind (has_row_in begin end table.batches) index (length table.batches) so_far.inside
         (λ k low high. let order = grows table.batches index k low in let within = in_all table.batches (k + 1) (omega (arith, high)) in

@@ -80,7 +80,7 @@ module _ {X : Type 0} (f : X → Pred ℕ) where
           let c = ap size both in
           omega (arith, a, b, c, long)
 
-    -- another one goes behind the parts
+    -- another one goes after the parts
     module _ (single : conjuncts (f x) ≡ f x ∷ []) where
       pub part_taken : (parts more : List X) → more ≡ parts ++ x ∷ [] →
           map f more ++ pending (map f rest) ≡ map f parts ++ pending (map f waiting)

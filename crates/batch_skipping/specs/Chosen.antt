@@ -15,4 +15,5 @@ listed None = []
 -- the columns of these numbers, in the order of the numbers
 abbrev pub columns_at : List ℕ → List ColumnAt → List ColumnAt
 columns_at [] columns = []
-columns_at (number ∷ numbers) columns = listed (slice_get columns number) ++ columns_at numbers columns
+columns_at (number ∷ numbers) columns =
+    listed (slice_get columns number) ++ columns_at numbers columns

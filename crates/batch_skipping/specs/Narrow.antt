@@ -1,5 +1,6 @@
 -- Tables of which a scan reads some batches alone.
-use Rattle.std.specs.Prelude.{◌≡◌, ◌≤◌, ◌⊎◌, ◌<◌, ℕ, ◌+◌, ◌-◌, IsTrue, List, [], ◌∷◌, length, min, slice_get}
+use Rattle.std.specs.Prelude.{◌≡◌, ◌≤◌, ◌⊎◌, ◌<◌, ℕ, ◌+◌, ◌-◌, IsTrue, List, [], ◌∷◌, length, min}
+use Rattle.std.specs.Prelude.{slice_get}
 use Rattle.std.specs.List.{flat_map}
 use Rattle.std.specs.Option.{option_to_list}
 use Rattle.arrays.specs.Batch.{BatchAt, rows_of}
@@ -26,8 +27,8 @@ pub record CanNarrow (table : TableAt) (numbers : List ℕ) (rows : ℕ) : Type 
 abbrev pub BeginsInFirst : ℕ → List BatchAt → Type 0
 BeginsInFirst from batches = (from ≡ 0) ⊎ (from < rows_before batches 1)
 
--- The first row of a range, counted among the rows of the batches of these numbers. The first of them is the first batch that
--- has a row behind it.
+-- The first row of a range, counted among the rows of the batches of these numbers. The first of
+-- them is the first batch that has a row after it.
 abbrev pub narrowed_from : ℕ → List BatchAt → List ℕ → ℕ
 narrowed_from from batches [] = 0
 narrowed_from from batches (number ∷ numbers) = from - rows_before batches number
@@ -36,4 +37,5 @@ narrowed_from from batches (number ∷ numbers) = from - rows_before batches num
 abbrev pub narrowed_to : ℕ → List BatchAt → List ℕ → ℕ
 narrowed_to to batches [] = 0
 narrowed_to to batches (number ∷ numbers) =
-    min (rows_before batches (number + 1)) to - rows_before batches number + narrowed_to to batches numbers
+    min (rows_before batches (number + 1)) to - rows_before batches number
+    + narrowed_to to batches numbers

@@ -1,11 +1,12 @@
-//! The possible truths of comparisons of values of one class. Most batches are judged by these: a value is its number or its text,
-//! and no other kind is thought of.
+//! The possible truths of comparisons of values of one class. Most batches are judged by these: a
+//! value is its number or its text, and no other kind is thought of.
 
 ghost use Rattle.std.specs.Prelude.{◌≡◌, ◌∷◌, [], true, IfSome, is_some};
 ghost use Rattle.scan_base.specs.Comparison.{order_of};
 ghost use Rattle.scan_base.specs.declared.value.Value.{Value};
 ghost use Rattle.scan_base.specs.Value.{value_of};
-ghost use Rattle.batch_skipping.specs.Can.{can_be_within, can_compare, equal_between, is_one_value, less_between, of_sides};
+ghost use Rattle.batch_skipping.specs.Can.{can_be_within, can_compare, equal_between, is_one_value};
+ghost use Rattle.batch_skipping.specs.Can.{less_between, of_sides};
 ghost use Rattle.batch_skipping.specs.inside.Between.{stats_between};
 ghost use Rattle.batch_stats.specs.Sides.{side_at};
 ghost use Rattle.batch_stats.specs.Stats.{stand, stats_of};
@@ -96,7 +97,7 @@ impl<'a> OneClass<'a> for &'a str {
     }
 }
 
-// What some values of one class are between, and how many values beside them are null.
+// What some values of one class are between, and how many values next to them are null.
 #[derive(Clone, Copy, Drop)]
 pub(crate) struct Between<K> {
     pub(crate) least: K,
@@ -120,7 +121,8 @@ impl<'a, K: OneClass<'a>> Between<K> {
     // The possible truths of a comparison with a value of the other ones.
     #[tactic(auto, unfolding(crate::specs::Can::can_compare))]
     pub(crate) fn can_compare(&self, comparison: Comparison, other: &Between<K>) -> Possible
-        ensures { result ≡ can_compare comparison (stats_between K.as_value self.now) (stats_between K.as_value other.now) }
+        ensures { result ≡ can_compare comparison (stats_between K.as_value self.now)
+            (stats_between K.as_value other.now) }
     {
         match comparison {
             Comparison::Equal => self.can_equal(other),
@@ -135,7 +137,8 @@ impl<'a, K: OneClass<'a>> Between<K> {
     // The possible truths of `>=` with a value of `low`, and `<=` with one of `high`.
     #[tactic(auto, unfolding(crate::specs::Can::can_compare))]
     pub(crate) fn can_be_within(&self, low: &Between<K>, high: &Between<K>) -> Possible
-        ensures { result ≡ can_be_within (stats_between K.as_value self.now) (stats_between K.as_value low.now) (stats_between K.as_value high.now) }
+        ensures { result ≡ can_be_within (stats_between K.as_value self.now)
+            (stats_between K.as_value low.now) (stats_between K.as_value high.now) }
     {
         self.can_be_less(low)
             .not()
@@ -144,7 +147,8 @@ impl<'a, K: OneClass<'a>> Between<K> {
 
     // The possible truths of `=`.
     fn can_equal(&self, other: &Between<K>) -> Possible
-        ensures { result ≡ of_sides equal_between (stats_between K.as_value self.now) (stats_between K.as_value other.now) }
+        ensures { result ≡ of_sides equal_between (stats_between K.as_value self.now)
+            (stats_between K.as_value other.now) }
     {
         self.least.have_order(&other.least);
         let can_true = self.least.stands(Comparison::LessOrEqual, &other.greatest)
@@ -156,9 +160,11 @@ impl<'a, K: OneClass<'a>> Between<K> {
         }
     }
 
-    // Whether all values of both are one value. Mostly the least ones differ, so they are looked at first.
+    // Whether all values of both are one value. Mostly the least ones differ, so they are looked at
+    // first.
     fn is_one_value(&self, other: &Between<K>) -> bool
-        ensures { result ≡ is_one_value (K.as_value (self.now).least, K.as_value (self.now).greatest)
+        ensures { result
+            ≡ is_one_value (K.as_value (self.now).least, K.as_value (self.now).greatest)
             (K.as_value (other.now).least, K.as_value (other.now).greatest) }
     {
         if !self.least.stands(Comparison::Equal, &other.least) {
@@ -170,7 +176,8 @@ impl<'a, K: OneClass<'a>> Between<K> {
 
     // The possible truths of `<`.
     fn can_be_less(&self, other: &Between<K>) -> Possible
-        ensures { result ≡ of_sides less_between (stats_between K.as_value self.now) (stats_between K.as_value other.now) }
+        ensures { result ≡ of_sides less_between (stats_between K.as_value self.now)
+            (stats_between K.as_value other.now) }
     {
         self.least.have_order(&other.least);
         Possible {

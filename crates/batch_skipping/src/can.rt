@@ -4,7 +4,8 @@ ghost use Rattle.std.specs.Prelude.{◌≡◌, Bool, IfSome, IsTrue, None, true}
 ghost use Rattle.std.specs.List.{list_all};
 ghost use Rattle.scan_base.specs.Predicate.{names_only, operand_names};
 ghost use Rattle.scan_base.specs.View.{pred_of};
-ghost use Rattle.batch_skipping.specs.Can.{can, can_be_among, can_be_null, can_be_within, can_compare, side_of};
+ghost use Rattle.batch_skipping.specs.Can.{can, can_be_among, can_be_null, can_be_within};
+ghost use Rattle.batch_skipping.specs.Can.{can_compare, side_of};
 ghost use Rattle.batch_skipping.specs.inside.Between.{stats_between};
 ghost use Rattle.batch_skipping.specs.inside.Standing.{StandSo};
 ghost use Rattle.batch_stats.specs.Beginnings.{AreBeginnings};
@@ -31,7 +32,8 @@ pub trait Measured<C> {
         requires { IsTrue (has self.now column.now) }
         ensures { side_at result ≡ stats self.now column.now };
 
-    /// How the least and the greatest text of a column begin, where this is known without them. It is `None` of other values.
+    /// How the least and the greatest text of a column begin, where this is known without them. It
+    /// is `None` of other values.
     fn beginnings(&self, column: &C) -> Option<Beginnings<'_>>
         requires { IsTrue (has self.now column.now) }
         ensures { IfSome result (λ known. AreBeginnings known (stats self.now column.now)) };
@@ -55,7 +57,8 @@ fn range_of<'a, K: OneClass<'a>, C, M: Measured<C>>(
     batch: &'a M,
 ) -> Option<Between<K>>
     requires { IsTrue (operand_names (M.has batch.now) operand.now) }
-    ensures { IfSome result (λ range. stats_between K.as_value range ≡ side_of (M.stats batch.now) operand.now) }
+    ensures { IfSome result
+        (λ range. stats_between K.as_value range ≡ side_of (M.stats batch.now) operand.now) }
 {
     match operand {
         Operand::Column(column) => Between::of_side(&batch.side(column)),
@@ -75,8 +78,8 @@ fn is_null_alone<C, M: Measured<C>>(operand: &Operand<C>, batch: &M) -> bool
     }
 }
 
-// The possible truths of a comparison of values of one class. It is `None` of others. The right side is mostly a literal, so it
-// is looked at first.
+// The possible truths of a comparison of values of one class. It is `None` of others. The right
+// side is mostly a literal, so it is looked at first.
 #[tactic(auto, using(crate::proofs::Nulls::nulls_compared))]
 fn ranges_compared<'a, K: OneClass<'a>, C, M: Measured<C>>(
     comparison: Comparison,
@@ -86,7 +89,8 @@ fn ranges_compared<'a, K: OneClass<'a>, C, M: Measured<C>>(
 ) -> Option<Possible>
     requires left { IsTrue (operand_names (M.has batch.now) left.now) }
     requires right { IsTrue (operand_names (M.has batch.now) right.now) }
-    ensures { IfSome result (λ possible. possible ≡ can_compare comparison (side_of (M.stats batch.now) left.now) (side_of (M.stats batch.now) right.now)) }
+    ensures { IfSome result (λ possible. possible ≡ can_compare comparison
+        (side_of (M.stats batch.now) left.now) (side_of (M.stats batch.now) right.now)) }
 {
     let right: Between<K> = range_of(right, batch)?;
     let range: Option<Between<K>> = range_of(left, batch);
@@ -108,7 +112,8 @@ fn range_within<'a, K: OneClass<'a>, C, M: Measured<C>>(
     requires operand { IsTrue (operand_names (M.has batch.now) operand.now) }
     requires low { IsTrue (operand_names (M.has batch.now) low.now) }
     requires high { IsTrue (operand_names (M.has batch.now) high.now) }
-    ensures { IfSome result (λ possible. possible ≡ can_be_within (side_of (M.stats batch.now) operand.now)
+    ensures { IfSome result
+        (λ possible. possible ≡ can_be_within (side_of (M.stats batch.now) operand.now)
         (side_of (M.stats batch.now) low.now) (side_of (M.stats batch.now) high.now)) }
 {
     let low: Between<K> = range_of(low, batch)?;
@@ -127,7 +132,8 @@ fn beginnings_of<'a, C, M: Measured<C>>(
     batch: &'a M,
 ) -> Option<Beginnings<'a>>
     requires { IsTrue (operand_names (M.has batch.now) operand.now) }
-    ensures { IfSome result (λ known. AreBeginnings known (side_of (M.stats batch.now) operand.now)) }
+    ensures { IfSome result
+        (λ known. AreBeginnings known (side_of (M.stats batch.now) operand.now)) }
 {
     match operand {
         Operand::Column(column) => batch.beginnings(column),
@@ -137,7 +143,8 @@ fn beginnings_of<'a, C, M: Measured<C>>(
 
 // How texts that begin so stand to a literal, where this is a text and their first bytes tell.
 fn standing_to<C>(known: &Beginnings<'_>, literal: &Operand<C>) -> Option<Standing>
-    ensures { IfSome result (λ standing. (stats : C → StatsAt) (a : StatsAt) → AreBeginnings known.now a → StandSo standing a (side_of stats literal.now)) }
+    ensures { IfSome result (λ standing. (stats : C → StatsAt) (a : StatsAt) →
+        AreBeginnings known.now a → StandSo standing a (side_of stats literal.now)) }
 {
     match literal {
         Operand::Literal(value) => Standing::of(known, value.borrowed()),
@@ -145,7 +152,8 @@ fn standing_to<C>(known: &Beginnings<'_>, literal: &Operand<C>) -> Option<Standi
     }
 }
 
-// The possible truths of a comparison of a column of texts with a literal, on either side, where their first bytes tell.
+// The possible truths of a comparison of a column of texts with a literal, on either side, where
+// their first bytes tell.
 fn begun_compared<C, M: Measured<C>>(
     comparison: Comparison,
     left: &Operand<C>,
@@ -154,7 +162,8 @@ fn begun_compared<C, M: Measured<C>>(
 ) -> Option<Possible>
     requires left { IsTrue (operand_names (M.has batch.now) left.now) }
     requires right { IsTrue (operand_names (M.has batch.now) right.now) }
-    ensures { IfSome result (λ possible. possible ≡ can_compare comparison (side_of (M.stats batch.now) left.now) (side_of (M.stats batch.now) right.now)) }
+    ensures { IfSome result (λ possible. possible ≡ can_compare comparison
+        (side_of (M.stats batch.now) left.now) (side_of (M.stats batch.now) right.now)) }
 {
     if let Some(known) = beginnings_of(left, batch) {
         return Some(standing_to(&known, right)?.can_compare(comparison));
@@ -163,7 +172,8 @@ fn begun_compared<C, M: Measured<C>>(
     Some(standing_to(&known, left)?.can_compare_turned(comparison))
 }
 
-// The same of a literal in front of a column. It is asked before any side is read as a range, which may need the batch.
+// The same of a literal in front of a column. It is asked before any side is read as a range, which
+// may need the batch.
 fn literal_compared<C, M: Measured<C>>(
     comparison: Comparison,
     left: &Operand<C>,
@@ -172,7 +182,8 @@ fn literal_compared<C, M: Measured<C>>(
 ) -> Option<Possible>
     requires left { IsTrue (operand_names (M.has batch.now) left.now) }
     requires right { IsTrue (operand_names (M.has batch.now) right.now) }
-    ensures { IfSome result (λ possible. possible ≡ can_compare comparison (side_of (M.stats batch.now) left.now) (side_of (M.stats batch.now) right.now)) }
+    ensures { IfSome result (λ possible. possible ≡ can_compare comparison
+        (side_of (M.stats batch.now) left.now) (side_of (M.stats batch.now) right.now)) }
 {
     match left {
         Operand::Literal(_) => begun_compared(comparison, left, right, batch),
@@ -190,7 +201,8 @@ fn begun_within<C, M: Measured<C>>(
     requires operand { IsTrue (operand_names (M.has batch.now) operand.now) }
     requires low { IsTrue (operand_names (M.has batch.now) low.now) }
     requires high { IsTrue (operand_names (M.has batch.now) high.now) }
-    ensures { IfSome result (λ possible. possible ≡ can_be_within (side_of (M.stats batch.now) operand.now)
+    ensures { IfSome result
+        (λ possible. possible ≡ can_be_within (side_of (M.stats batch.now) operand.now)
         (side_of (M.stats batch.now) low.now) (side_of (M.stats batch.now) high.now)) }
 {
     if let Some(known) = beginnings_of(operand, batch) {
@@ -211,7 +223,8 @@ fn begun_among<C, M: Measured<C>>(
 ) -> Option<Possible>
     requires operand { IsTrue (operand_names (M.has batch.now) operand.now) }
     requires items { IsTrue (list_all (operand_names (M.has batch.now)) items.now) }
-    ensures { IfSome result (λ possible. possible ≡ can_be_among (M.stats batch.now) (side_of (M.stats batch.now) operand.now) items.now) }
+    ensures { IfSome result (λ possible. possible
+        ≡ can_be_among (M.stats batch.now) (side_of (M.stats batch.now) operand.now) items.now) }
 {
     let known = beginnings_of(operand, batch)?;
     let mut found = Possible::only(Truth::False);
@@ -222,7 +235,8 @@ fn begun_among<C, M: Measured<C>>(
     Some(found)
 }
 
-// The functions of the leaves are not inlined: a chain has a frame of `can` for each side, which is to be small.
+// The functions of the leaves are not inlined: a chain has a frame of `can` for each side, which is
+// to be small.
 
 // left comparison right, of any values
 #[inline(never)]
@@ -234,7 +248,8 @@ fn sides_compared<C, M: Measured<C>>(
 ) -> Possible
     requires left { IsTrue (operand_names (M.has batch.now) left.now) }
     requires right { IsTrue (operand_names (M.has batch.now) right.now) }
-    ensures { result ≡ can_compare comparison (side_of (M.stats batch.now) left.now) (side_of (M.stats batch.now) right.now) }
+    ensures { result ≡ can_compare comparison (side_of (M.stats batch.now) left.now)
+        (side_of (M.stats batch.now) right.now) }
 {
     can_compare(comparison, &side_of(left, batch), &side_of(right, batch))
 }
@@ -249,7 +264,8 @@ fn can_be_compared<C, M: Measured<C>>(
 ) -> Possible
     requires left { IsTrue (operand_names (M.has batch.now) left.now) }
     requires right { IsTrue (operand_names (M.has batch.now) right.now) }
-    ensures { result ≡ can_compare comparison (side_of (M.stats batch.now) left.now) (side_of (M.stats batch.now) right.now) }
+    ensures { result ≡ can_compare comparison (side_of (M.stats batch.now) left.now)
+        (side_of (M.stats batch.now) right.now) }
 {
     if let Some(possible) = literal_compared(comparison, left, right, batch) {
         return possible;
@@ -319,7 +335,8 @@ fn range_among<'a, K: OneClass<'a>, C, M: Measured<C>>(
 ) -> Option<Possible>
     requires operand { IsTrue (operand_names (M.has batch.now) operand.now) }
     requires items { IsTrue (list_all (operand_names (M.has batch.now)) items.now) }
-    ensures { IfSome result (λ possible. possible ≡ can_be_among (M.stats batch.now) (side_of (M.stats batch.now) operand.now) items.now) }
+    ensures { IfSome result (λ possible. possible
+        ≡ can_be_among (M.stats batch.now) (side_of (M.stats batch.now) operand.now) items.now) }
 {
     let range: Between<K> = range_of(operand, batch)?;
     let mut found = Possible::only(Truth::False);
@@ -335,7 +352,8 @@ fn range_among<'a, K: OneClass<'a>, C, M: Measured<C>>(
 fn sides_among<C, M: Measured<C>>(operand: &Operand<C>, items: &[Operand<C>], batch: &M) -> Possible
     requires operand { IsTrue (operand_names (M.has batch.now) operand.now) }
     requires items { IsTrue (list_all (operand_names (M.has batch.now)) items.now) }
-    ensures { result ≡ can_be_among (M.stats batch.now) (side_of (M.stats batch.now) operand.now) items.now }
+    ensures { result
+        ≡ can_be_among (M.stats batch.now) (side_of (M.stats batch.now) operand.now) items.now }
 {
     let side = side_of(operand, batch);
     let mut found = Possible::only(Truth::False);
@@ -355,7 +373,8 @@ fn others_among<C, M: Measured<C>>(
 ) -> Possible
     requires operand { IsTrue (operand_names (M.has batch.now) operand.now) }
     requires items { IsTrue (list_all (operand_names (M.has batch.now)) items.now) }
-    ensures { result ≡ can_be_among (M.stats batch.now) (side_of (M.stats batch.now) operand.now) items.now }
+    ensures { result
+        ≡ can_be_among (M.stats batch.now) (side_of (M.stats batch.now) operand.now) items.now }
 {
     if items.len() > 0 && is_null_alone(operand, batch) {
         return Possible::only(Truth::Unknown);
@@ -372,7 +391,8 @@ fn can_be_among<C, M: Measured<C>>(
 ) -> Possible
     requires operand { IsTrue (operand_names (M.has batch.now) operand.now) }
     requires items { IsTrue (list_all (operand_names (M.has batch.now)) items.now) }
-    ensures { result ≡ can_be_among (M.stats batch.now) (side_of (M.stats batch.now) operand.now) items.now }
+    ensures { result
+        ≡ can_be_among (M.stats batch.now) (side_of (M.stats batch.now) operand.now) items.now }
 {
     if let Some(possible) = begun_among(operand, items, batch) {
         return possible;
@@ -435,7 +455,8 @@ fn can<C, M: Measured<C>>(predicate: &Predicate<C>, batch: &M) -> Possible
     }
 }
 
-/// Whether a predicate can be true in a row of a batch, by the statistics of its columns. It takes no memory.
+/// Whether a predicate can be true in a row of a batch, by the statistics of its columns. It takes
+/// no memory.
 pub fn may_hold<C, M: Measured<C>>(conjunct: &Predicate<C>, batch: &M) -> bool
     requires { IsTrue (names_only (M.has batch.now) (pred_of conjunct.now)) }
     ensures { result ≡ (can (M.stats batch.now) (pred_of conjunct.now)).can_true }

@@ -4,7 +4,8 @@ ghost use Rattle.std.specs.Prelude.{◌≡◌, is_some};
 ghost use Rattle.std.specs.Ordering.{int_cmp};
 ghost use Rattle.scan_base.specs.Comparison.{order_of, satisfies};
 ghost use Rattle.scan_base.specs.Value.{value_of};
-ghost use Rattle.batch_skipping.specs.Can.{can_be_null, can_compare, equal_between, is_one_value, less_between, of_sides};
+ghost use Rattle.batch_skipping.specs.Can.{can_be_null, can_compare, equal_between, is_one_value};
+ghost use Rattle.batch_skipping.specs.Can.{less_between, of_sides};
 ghost use Rattle.batch_stats.specs.Sides.{ends_at, side_at};
 ghost use Rattle.batch_stats.specs.Stats.{stand};
 
@@ -46,8 +47,8 @@ fn values_stand(comparison: Comparison, left: &ValueRef<'_>, right: &ValueRef<'_
     left.compare(comparison, *right) == Truth::True
 }
 
-// The same. Most values are numbers, which are compared without a call; so this function is small, and where the comparison
-// is known nothing is left of it but two numbers.
+// The same. Most values are numbers, which are compared without a call; so this function is small,
+// and where the comparison is known nothing is left of it but two numbers.
 fn stand(comparison: Comparison, left: &ValueRef<'_>, right: &ValueRef<'_>) -> bool
     ensures { result ≡ stand comparison (value_of left.now) (value_of right.now) }
 {
@@ -57,7 +58,8 @@ fn stand(comparison: Comparison, left: &ValueRef<'_>, right: &ValueRef<'_>) -> b
     values_stand(comparison, left, right)
 }
 
-// Whether all values between these ends are one value. Mostly the least ones differ, so they are looked at first.
+// Whether all values between these ends are one value. Mostly the least ones differ, so they are
+// looked at first.
 fn are_one_value(left: &Ends<'_>, right: &Ends<'_>) -> bool
     ensures { result ≡ is_one_value (ends_at left.now) (ends_at right.now) }
 {

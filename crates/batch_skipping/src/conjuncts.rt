@@ -12,14 +12,15 @@ use typed_plan::Plan;
 
 // The conjuncts of the outermost filters, in order.
 pub(crate) fn where_parts(alloc: Global, plan: &Plan) -> Result<Vec<&Predicate<usize>>, AllocError>
-    ensures { IfOk result (λ parts. map (λ part. pred_of part.now) parts.items ≡ where_parts (tree_of plan.now)) }
+    ensures { IfOk result
+        (λ parts. map (λ part. pred_of part.now) parts.items ≡ where_parts (tree_of plan.now)) }
 {
     let mut parts = Vec::new(alloc);
     push_where(alloc, &mut parts, plan)?;
     Ok(parts)
 }
 
-// Puts the conjuncts of the outermost filters behind others.
+// Puts the conjuncts of the outermost filters after others.
 fn push_where<'a>(
     alloc: Global,
     parts: &mut Vec<&'a Predicate<usize>>,
@@ -37,8 +38,8 @@ fn push_where<'a>(
     }
 }
 
-// Puts the conjuncts of a predicate behind others. What is still to be taken apart waits: a query may be a chain of thousands
-// of ANDs.
+// Puts the conjuncts of a predicate after others. What is still to be taken apart waits: a query
+// may be a chain of thousands of ANDs.
 fn push_conjuncts<'a>(
     alloc: Global,
     parts: &mut Vec<&'a Predicate<usize>>,

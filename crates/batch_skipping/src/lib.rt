@@ -1,4 +1,5 @@
-//! What a batch may hold: the possible truths of a predicate, from the least and the greatest value and the nulls of each column.
+//! What a batch may hold: the possible truths of a predicate, from the least and the greatest value
+//! and the nulls of each column; and the batches of a table that are opened for a predicate.
 #![tactic(auto)]
 
 mod between;

@@ -1,6 +1,7 @@
 //! Which batches are opened.
 
-ghost use Rattle.std.specs.Prelude.{◌≡◌, ◌<◌, ◌≤◌, ◌+◌, ◌-◌, ◌*◌, ◌^◌, ◌==◌, ◌∷◌, ◌++◌, [], if◌then◌else◌, All, IfOk, IsTrue, OnOk, length, map, min};
+ghost use Rattle.std.specs.Prelude.{◌≡◌, ◌<◌, ◌≤◌, ◌+◌, ◌-◌, ◌*◌, ◌^◌, ◌==◌, ◌∷◌, ◌++◌, []};
+ghost use Rattle.std.specs.Prelude.{if◌then◌else◌, All, IfOk, IsTrue, OnOk, length, map, min};
 ghost use Rattle.std.specs.List.{list_all};
 ghost use Rattle.scan_base.specs.Predicate.{names_only};
 ghost use Rattle.scan_base.specs.View.{pred_of};
@@ -9,7 +10,8 @@ ghost use Rattle.table_versions.specs.Kept.{IsKept};
 ghost use Rattle.table_versions.specs.Stored.{TableAt, table_of};
 ghost use Rattle.typed_plan.specs.Typed.{has_columns};
 ghost use Rattle.batch_skipping.specs.Listed.{AreLists, IsListOf};
-ghost use Rattle.batch_skipping.specs.Opened.{batches_in, given_width, judged_count, opened_numbers};
+ghost use Rattle.batch_skipping.specs.Opened.{batches_in, given_width, judged_count};
+ghost use Rattle.batch_skipping.specs.Opened.{opened_numbers};
 ghost use Rattle.work_watch.specs.Told.{ToldAtLeast};
 ghost use Rattle.batch_skipping.specs.inside.Judged.{judged_before};
 
@@ -32,7 +34,7 @@ pub struct OpenedList {
     pub rows: usize,
     /// The first of these rows that is read.
     pub from: usize,
-    /// The first row behind those that are read.
+    /// The first row after those that are read.
     pub to: usize,
 }
 
@@ -44,15 +46,16 @@ struct TableRows<'a> {
     to: usize,
 }
 
-/// What a plan reads of its places, over the rows `range.start` up to, not with, `range.end` of the first one. A batch is left out
-/// where a conjunct of WHERE that names no column of another place can be true in none of its rows, by the statistics of its
-/// columns. Who watches is told of each batch that is judged: of 64 rows for each comparison that these conjuncts make for a row, and
-/// of one where they make none.
+/// What a plan reads of its places, over the rows `range.start` up to, not with, `range.end` of the
+/// first one. A batch is left out where a conjunct of WHERE that names no column of another place
+/// can be true in none of its rows, by the statistics of its columns. Who watches is told of each
+/// batch that is judged: of 64 rows for each comparison that these conjuncts make for a row, and of
+/// one where they make none.
 ///
 /// # Errors
 ///
-/// `AllocError` where memory is refused: that of the numbers of the batches, and some for each conjunct and place. Also where who
-/// watches ends it.
+/// `AllocError` where memory is refused: that of the numbers of the batches, and some for each
+/// conjunct and place. Also where who watches ends it.
 pub fn opened_lists<W: Watches>(
     alloc: Global,
     plan: &TypedPlan,
@@ -60,12 +63,16 @@ pub fn opened_lists<W: Watches>(
     watch: &mut W,
 ) -> Result<Vec<OpenedList>, AllocError>
     requires ready { W.ready watch.old }
-    ensures numbers { IfOk result (λ lists. map (λ list. list.numbers.items) lists.items ≡ opened_numbers plan.now range.start range.end) }
-    ensures lists { IfOk result (λ lists. AreLists range.start range.end plan.now.tables lists.items) }
-    ensures kept { IfOk result (λ _. All (λ (table : TableAt). IsKept table (length (table_of table).rows)) plan.now.tables) }
+    ensures numbers { IfOk result (λ lists. map (λ list. list.numbers.items) lists.items
+        ≡ opened_numbers plan.now range.start range.end) }
+    ensures lists { IfOk result
+        (λ lists. AreLists range.start range.end plan.now.tables lists.items) }
+    ensures kept { IfOk result (λ _.
+        All (λ (table : TableAt). IsKept table (length (table_of table).rows)) plan.now.tables) }
     ensures ready { OnOk result (W.ready watch.new) }
     ensures watched { W.watched watch.old watch.new }
-    ensures told { OnOk result (ToldAtLeast W.told (judged_count range.start range.end plan.now.tables) watch.old watch.new) }
+    ensures told { OnOk result (ToldAtLeast W.told
+        (judged_count range.start range.end plan.now.tables) watch.old watch.new) }
 {
     let conjuncts = where_parts(alloc, plan.plan())?;
     let scans = scans_of(alloc, plan.plan())?;
@@ -94,35 +101,42 @@ pub fn opened_lists<W: Watches>(
     Ok(lists)
 }
 
-// The number of the column behind so many. Columns that no number counts are more than memory holds.
+// The number of the column after so many. Columns that no number counts are more than memory holds.
 fn column_behind(first: usize, width: usize) -> Result<usize, AllocError>
     ensures { IfOk result (λ behind. behind ≡ first + width) }
 {
     first.checked_add(width).ok_or(AllocError)
 }
 
-// The batches of a table with a row that is read in which each conjunct of a filter can be true. The first is looked for by halves.
-// Who watches is told of each batch that is judged.
+// The batches of a table with a row that is read in which each conjunct of a filter can be true.
+// The first is looked for by halves. Who watches is told of each batch that is judged.
 fn place_list<W: Watches>(
     alloc: Global,
     read: &TableRows<'_>,
     filter: &PlaceFilter<'_>,
     watch: &mut W,
 ) -> Result<OpenedList, AllocError>
-    requires own { IsTrue (list_all (names_only (is_between filter.now.place.first filter.now.place.width))
+    requires own { IsTrue
+        (list_all (names_only (is_between filter.now.place.first filter.now.place.width))
         (map (λ part. pred_of part.now) filter.now.parts.items)) }
-    requires fit { IsTrue (has_columns (length read.now.table.now.schema.fields) filter.now.place.columns.now) }
-    requires wide { filter.now.place.width ≡ given_width filter.now.place.columns.now (length read.now.table.now.schema.fields) }
+    requires fit { IsTrue
+        (has_columns (length read.now.table.now.schema.fields) filter.now.place.columns.now) }
+    requires wide { filter.now.place.width
+        ≡ given_width filter.now.place.columns.now (length read.now.table.now.schema.fields) }
     requires weight { 1 ≤ filter.now.weight }
     requires ready { W.ready watch.old }
     ensures numbers { IfOk result (λ list. list.numbers.items
-        ≡ judged_before (map (λ part. pred_of part.now) filter.now.parts.items) filter.now.place.first filter.now.place.columns.now
+        ≡ judged_before (map (λ part. pred_of part.now) filter.now.parts.items)
+        filter.now.place.first filter.now.place.columns.now
         read.now.from read.now.to read.now.table.now (length read.now.table.now.batches)) }
-    ensures list { IfOk result (λ list. IsListOf read.now.from read.now.to read.now.table.now list) }
-    ensures kept { IfOk result (λ _. IsKept read.now.table.now (length (table_of read.now.table.now).rows)) }
+    ensures list { IfOk result
+        (λ list. IsListOf read.now.from read.now.to read.now.table.now list) }
+    ensures kept { IfOk result
+        (λ _. IsKept read.now.table.now (length (table_of read.now.table.now).rows)) }
     ensures ready { OnOk result (W.ready watch.new) }
     ensures watched { W.watched watch.old watch.new }
-    ensures told { OnOk result (ToldAtLeast W.told (length (batches_in read.now.from read.now.to read.now.table.now.batches))
+    ensures told { OnOk result (ToldAtLeast W.told
+        (length (batches_in read.now.from read.now.to read.now.table.now.batches))
         watch.old watch.new) }
 {
     batches_are_rows();
@@ -162,7 +176,8 @@ impl OpenedList {
         requires before { place.start < end }
         requires rows { self.old.rows + rows < 2 ^ 64 }
         requires to { self.old.to ≤ self.old.rows }
-        ensures numbers { OnOk result (self.new.numbers.items ≡ self.old.numbers.items ++ place.index ∷ []) }
+        ensures numbers { OnOk result
+            (self.new.numbers.items ≡ self.old.numbers.items ++ place.index ∷ []) }
         ensures rows { OnOk result (self.new.rows ≡ self.old.rows + rows) }
         ensures from { OnOk result (self.new.from
             ≡ (if length self.old.numbers.items == 0 then from - place.start else self.old.from)) }

@@ -18,7 +18,8 @@ use table_versions::TableVersion;
 use typed_plan::Columns;
 use work_watch::comparisons_in;
 
-// The columns of a place that its scan gives: how many they are, and the number of the first among those of all places.
+// The columns of a place that its scan gives: how many they are, and the number of the first among
+// those of all places.
 #[derive(Clone, Copy, Drop)]
 pub(crate) struct PlaceColumns<'a> {
     pub(crate) columns: &'a Columns,
@@ -46,14 +47,16 @@ impl PlaceColumns<'_> {
 
     // Whether each of some operands is.
     fn has_operands(&self, operands: &[Operand<usize>]) -> bool
-        ensures { result ≡ list_all (operand_names (is_between self.now.first self.now.width)) operands.now }
+        ensures { result
+            ≡ list_all (operand_names (is_between self.now.first self.now.width)) operands.now }
     {
         operands.iter().all(|operand| self.has_operand(operand))
     }
 
     // Whether a predicate names no other column.
     fn has_all_of(&self, predicate: &Predicate<usize>) -> bool
-        ensures { result ≡ names_only (is_between self.now.first self.now.width) (pred_of predicate.now) }
+        ensures { result
+            ≡ names_only (is_between self.now.first self.now.width) (pred_of predicate.now) }
     {
         match predicate {
             Predicate::And(left, right) => self.has_all_of(left) && self.has_all_of(right),
@@ -78,7 +81,8 @@ impl PlaceColumns<'_> {
     }
 }
 
-// Conjuncts that name no column of another place. A batch that is judged by them counts as `weight` rows.
+// Conjuncts that name no column of another place. A batch that is judged by them counts as `weight`
+// rows.
 #[derive(Drop)]
 pub(crate) struct PlaceFilter<'a> {
     pub(crate) parts: Vec<&'a Predicate<usize>>,
@@ -94,7 +98,8 @@ impl<'a> PlaceFilter<'a> {
         place: PlaceColumns<'a>,
     ) -> Result<PlaceFilter<'a>, AllocError>
         ensures parts { IfOk result (λ made. map (λ part. pred_of part.now) made.parts.items
-            ≡ filter (names_only (is_between place.entry.first place.entry.width)) (map (λ part. pred_of part.now) conjuncts.now)) }
+            ≡ filter (names_only (is_between place.entry.first place.entry.width))
+            (map (λ part. pred_of part.now) conjuncts.now)) }
         ensures place { IfOk result (λ made. made.place ≡ place.entry) }
         ensures weight { IfOk result (λ made. 1 ≤ made.weight) }
     {
@@ -117,10 +122,15 @@ impl<'a> PlaceFilter<'a> {
     // Whether each conjunct can be true in a batch of the place's table.
     pub(crate) fn can_hold(&self, table: &TableVersion, index: usize) -> bool
         requires there { index < length table.now.batches }
-        requires own { IsTrue (list_all (names_only (is_between self.now.place.first self.now.place.width)) (map (λ part. pred_of part.now) self.now.parts.items)) }
-        requires fit { IsTrue (has_columns (length table.now.schema.fields) self.now.place.columns.now) }
-        requires wide { self.now.place.width ≡ given_width self.now.place.columns.now (length table.now.schema.fields) }
-        ensures { result ≡ all_can (map (λ part. pred_of part.now) self.now.parts.items) self.now.place.first
+        requires own { IsTrue
+            (list_all (names_only (is_between self.now.place.first self.now.place.width))
+            (map (λ part. pred_of part.now) self.now.parts.items)) }
+        requires fit { IsTrue
+            (has_columns (length table.now.schema.fields) self.now.place.columns.now) }
+        requires wide { self.now.place.width
+            ≡ given_width self.now.place.columns.now (length table.now.schema.fields) }
+        ensures { result
+            ≡ all_can (map (λ part. pred_of part.now) self.now.parts.items) self.now.place.first
             (given_columns self.now.place.columns.now (batch_columns table.now index)) }
     {
         let place = self.place;
@@ -154,11 +164,13 @@ impl Measured<usize> for PlaceBatch<'_> {
     ghost use Rattle.batch_skipping.specs.Opened.{given_columns, given_width};
     ghost use Rattle.batch_skipping.specs.inside.Judged.{batch_columns};
 
-    ghost stats = { λ of column. stats_in (given_columns of.place.columns.now (batch_columns of.table.now of.index)) (column - of.place.first) };
+    ghost stats = { λ of column. stats_in (given_columns of.place.columns.now
+        (batch_columns of.table.now of.index)) (column - of.place.first) };
 
     ghost has = { λ of column. nat_lt of.index (length of.table.now.batches)
         && (has_columns (length of.table.now.schema.fields) of.place.columns.now
-        && is_between of.place.first (given_width of.place.columns.now (length of.table.now.schema.fields)) column) };
+        && is_between of.place.first
+        (given_width of.place.columns.now (length of.table.now.schema.fields)) column) };
 
     fn side(&self, column: &usize) -> Side<'_> {
         let number = *column - self.place.first;

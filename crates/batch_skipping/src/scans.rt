@@ -9,14 +9,15 @@ use typed_plan::{Columns, Plan};
 
 // The columns that the scan of each place gives, place by place.
 pub(crate) fn scans_of(alloc: Global, plan: &Plan) -> Result<Vec<&Columns>, AllocError>
-    ensures { IfOk result (λ scans. map (λ columns. columns.now) scans.items ≡ scans_of (tree_of plan.now)) }
+    ensures { IfOk result
+        (λ scans. map (λ columns. columns.now) scans.items ≡ scans_of (tree_of plan.now)) }
 {
     let mut scans = Vec::new(alloc);
     push_scans(&mut scans, plan)?;
     Ok(scans)
 }
 
-// Puts the columns that scans give behind others.
+// Puts the columns that scans give after others.
 fn push_scans<'a>(scans: &mut Vec<&'a Columns>, plan: &'a Plan) -> Result<(), AllocError>
     ensures { OnOk result (map (λ columns. columns.now) scans.new.items
         ≡ map (λ columns. columns.now) scans.old.items ++ scans_of (tree_of plan.now)) }

@@ -1,10 +1,12 @@
-//! The possible truths of comparisons of texts with one text. They are told by how the least and the greatest of the texts begin.
+//! The possible truths of comparisons of texts with one text. They are told by how the least and
+//! the greatest of the texts begin.
 
 ghost use Rattle.std.specs.Prelude.{◌≡◌, ◌∷◌, ◌++◌, [], ℕ, List, IfSome};
 ghost use Rattle.std.specs.Cmp.Lexicographic.{slice_cmp};
 ghost use Rattle.std.specs.Ordering.{nat_cmp};
 ghost use Rattle.scan_base.specs.Value.{value_of};
-ghost use Rattle.batch_skipping.specs.Can.{can_be_null, can_compare, equal_between, less_between, of_sides};
+ghost use Rattle.batch_skipping.specs.Can.{can_be_null, can_compare, equal_between, less_between};
+ghost use Rattle.batch_skipping.specs.Can.{of_sides};
 ghost use Rattle.batch_skipping.specs.inside.Standing.{StandSo};
 ghost use Rattle.batch_stats.specs.Beginnings.{AreBeginnings, AreFirst};
 ghost use Rattle.batch_stats.specs.Stats.{StatsAt, stats_of};
@@ -14,7 +16,8 @@ use batch_stats::{Beginning, Beginnings};
 use scan_base::{Comparison, ValueRef};
 use std::cmp::Ordering;
 
-// How the least and the greatest of some texts stand to one text, and how many values beside them are null.
+// How the least and the greatest of some texts stand to one text, and how many values next to them
+// are null.
 #[derive(Clone, Copy, Drop)]
 pub(crate) struct Standing {
     pub(crate) least: Ordering,
@@ -22,10 +25,11 @@ pub(crate) struct Standing {
     pub(crate) nulls: usize,
 }
 
-// How a longer text that begins so stands to another, where its first bytes tell: it may be anything to one that goes on
-// behind all of them.
+// How a longer text that begins so stands to another, where its first bytes tell: it may be
+// anything to one that goes on after all of them.
 fn cut_order(first: &str, text: &str) -> Option<Ordering>
-    ensures { IfSome result (λ order. (next : ℕ) (rest : List ℕ) → order ≡ slice_cmp nat_cmp (first.now ++ next ∷ rest) text.now) }
+    ensures { IfSome result (λ order. (next : ℕ) (rest : List ℕ) →
+        order ≡ slice_cmp nat_cmp (first.now ++ next ∷ rest) text.now) }
 {
     if first.cmp(text).is_ge() {
         return Some(Ordering::Greater);
@@ -38,8 +42,8 @@ fn cut_order(first: &str, text: &str) -> Option<Ordering>
 
 // How a text that begins so stands to another, where its first bytes tell.
 fn text_order(beginning: Beginning<'_>, text: &str) -> Option<Ordering>
-    ensures { IfSome result (λ order. (whole : List ℕ) → AreFirst beginning.entry.first.now beginning.entry.is_whole whole
-        → order ≡ slice_cmp nat_cmp whole text.now) }
+    ensures { IfSome result (λ order. (whole : List ℕ) → AreFirst beginning.entry.first.now
+        beginning.entry.is_whole whole → order ≡ slice_cmp nat_cmp whole text.now) }
 {
     if beginning.is_whole {
         return Some(beginning.first.cmp(text));
@@ -80,7 +84,8 @@ impl Standing {
         }
     }
 
-    // The possible truths of a comparison of the one text with one of the texts: the literal stands in front.
+    // The possible truths of a comparison of the one text with one of the texts: the literal stands
+    // in front.
     #[tactic(auto, unfolding(crate::specs::Can::can_compare), using(crate::proofs::Standings::equal_turned))]
     pub(crate) fn can_compare_turned(self, comparison: Comparison) -> Possible
         ensures { (a b : StatsAt) → StandSo self a b → result ≡ can_compare comparison b a }

@@ -15,8 +15,9 @@ pub(crate) fn batch_weight(comparisons: usize) -> usize
     comparisons.saturating_mul(COMPARISON_ROWS).max(1)
 }
 
-/// As how many rows the judging of all batches of a plan's places counts at most ([`opened_lists`](crate::opened_lists)). It takes no
-/// memory, and the time of a walk over WHERE. Contracts say nothing of it: it tells whether the judging may take long.
+/// As how many rows the judging of all batches of a plan's places counts at most
+/// ([`opened_lists`](crate::opened_lists)). It takes no memory, and the time of a walk over WHERE.
+/// Contracts say nothing of it: it tells whether the judging may take long.
 pub fn judging_rows(plan: &TypedPlan) -> usize {
     let mut batches = 0usize;
     for table in plan.tables() {

@@ -130,7 +130,7 @@ first_bits count few =
     each (λ n. slice_index FIRST_BYTES n ≡ 2 ^ 64 - 2 ^ (64 - 8 * min n 7)) 9 count
     (refl, (refl, (refl, (refl, (refl, (refl, (refl, (refl, (refl, tt))))))))) (omega arith)
 
--- a word without the bytes behind the first ones, and without its last
+-- a word without the bytes after the first ones, and without its last
 pub word_front : (word count : ℕ) → word < 2 ^ 64 → count ≤ 7 →
     word / 256 / 2 ^ (56 - 8 * count) * 2 ^ (56 - 8 * count) % 2 ^ 64 ≡ word / 256 ^ (8 - count) * 256 ^ (7 - count)
 word_front word count fits few =
@@ -142,7 +142,7 @@ word_front word count fits few =
     ∙ mod-eq_of_lt (omega (arith, most, fits))
     ∙ ap (λ (n : ℕ). n * 256 ^ (7 - count)) (div-div-eq-div-mul word 256 (256 ^ (7 - count)) ∙ ap (λ (n : ℕ). word / n) (sym (ap (λ (n : ℕ). 256 ^ n) more ∙ pow-succ' 256 (7 - count))))
 
--- a word with zeros in place of the bytes behind the first ones
+-- a word with zeros in place of the bytes after the first ones
 pub word_masked : (word count : ℕ) → word < 2 ^ 64 → count ≤ 8 →
     bit_and word (slice_index FIRST_BYTES count) ≡ 256 * (word / 256 ^ (8 - min count 7) * 256 ^ (7 - min count 7))
 word_masked word count fits few =
@@ -302,7 +302,7 @@ pub key_keeps : (least greatest text : List ℕ) → Bytes least → Bytes great
 key_keeps least greatest text least_bytes greatest_bytes bytes low high =
     stands_kept (Some (Text least, Text greatest)) (Text text) (not_below_low text least bytes least_bytes low, not_above_high text greatest bytes greatest_bytes high)
 
--- whether a key is one from `low` up to `high`, by how far it is behind `low` and how many there are
+-- whether a key is one from `low` up to `high`, by how far it is after `low` and how many there are
 pub told_by_count : (low high key count : ℕ) → key < 2 ^ 64 → high < 2 ^ 64 → count ≡ high + 1 - low →
     nat_lt ((key + (2 ^ 64 - low)) % 2 ^ 64) count ≡ (nat_le low key && nat_le key high)
 told_by_count low high key count fits high_fits is = elim (cases_lt key low) [

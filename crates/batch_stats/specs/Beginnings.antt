@@ -9,7 +9,8 @@ abbrev pub AreFirst : List ℕ → Bool → List ℕ → Type 0
 AreFirst first true text = text ≡ first
 AreFirst first false text = (next : ℕ) × (rest : List ℕ) × (text ≡ first ++ next ∷ rest)
 
--- the statistics are of texts with so many nulls, and these are the first bytes of the least text and of the greatest
+-- the statistics are of texts with so many nulls, and these are the first bytes of the least text
+-- and of the greatest
 pub record BeginSo (low high : List ℕ × Bool) (count : ℕ) (stats : StatsAt) : Type 0 where
   pub least : List ℕ
   pub greatest : List ℕ
@@ -20,4 +21,5 @@ pub record BeginSo (low high : List ℕ × Bool) (count : ℕ) (stats : StatsAt)
 
 -- the same, as the code has them
 abbrev pub AreBeginnings : Beginnings → StatsAt → Type 0
-AreBeginnings known stats = BeginSo (known.least.first.now, known.least.is_whole) (known.greatest.first.now, known.greatest.is_whole) known.nulls stats
+AreBeginnings known stats = BeginSo (known.least.first.now, known.least.is_whole)
+    (known.greatest.first.now, known.greatest.is_whole) known.nulls stats

@@ -9,7 +9,9 @@ use Rattle.batch_stats.specs.Stats.{StatsAt}
 -- the statistics are the ones that are kept: of texts their first bytes are
 abbrev pub AreKept : OwnedStats → StatsAt → Type 0
 AreKept (Nulls nulls) stats = stats ≡ record { ends = None; nulls = nulls }
-AreKept (Flags least greatest nulls) stats = stats ≡ record { ends = Some (Flag least, Flag greatest); nulls = nulls }
-AreKept (Numbers least greatest nulls) stats = stats ≡ record { ends = Some (Int least, Int greatest); nulls = nulls }
+AreKept (Flags least greatest nulls) stats =
+    stats ≡ record { ends = Some (Flag least, Flag greatest); nulls = nulls }
+AreKept (Numbers least greatest nulls) stats =
+    stats ≡ record { ends = Some (Int least, Int greatest); nulls = nulls }
 AreKept (Texts least_is_whole greatest_is_whole least greatest nulls) stats =
     BeginSo (least.bytes, least_is_whole) (greatest.bytes, greatest_is_whole) nulls stats

@@ -15,7 +15,7 @@ pub struct Beginning<'a> {
     pub is_whole: bool,
 }
 
-/// How the least and the greatest of some texts begin, and how many values beside them are null.
+/// How the least and the greatest of some texts begin, and how many values next to them are null.
 #[derive(Clone, Copy, Drop)]
 pub struct Beginnings<'a> {
     pub least: Beginning<'a>,
@@ -27,7 +27,8 @@ impl<'a> Beginnings<'a> {
     // What the texts are between, where both are whole.
     #[tactic(auto, using(crate::proofs::Begun::whole_stats))]
     pub(crate) fn whole(self) -> Option<Side<'a>>
-        ensures { IfSome result (λ side. (stats : StatsAt) → AreBeginnings self.entry stats → stats ≡ side_at side) }
+        ensures { IfSome result
+            (λ side. (stats : StatsAt) → AreBeginnings self.entry stats → stats ≡ side_at side) }
     {
         if self.least.is_whole && self.greatest.is_whole {
             let least = ValueRef::Text(self.least.first);

@@ -23,7 +23,8 @@ pub(crate) trait CodeSet {
         ensures all { (other : ℕ) → has self.new other → (other ≡ code) ⊎ has self.old other };
 }
 
-/// For each remainder by 2,048 the code that came last. It forgets none of codes below 2,048, and takes no memory.
+/// For each remainder by 2,048 the code that came last. It forgets none of codes below 2,048, and
+/// takes no memory.
 #[derive(Drop)]
 pub(crate) struct LastCodes {
     pub(crate) codes: [u64; MOST_LAST],
@@ -99,7 +100,8 @@ pub(crate) struct SortedCodes {
 }
 
 impl SortedCodes {
-    /// A set of no code, with marks for those of the valid ones of the slots `from` up to, not with, `to`.
+    /// A set of no code, with marks for those of the valid ones of the slots `from` up to, not
+    /// with, `to`.
     ///
     /// # Errors
     ///
@@ -113,7 +115,8 @@ impl SortedCodes {
         requires width { C.BYTES ≡ byte_width (cells.now).index }
         requires ordered { from ≤ to }
         requires within { to ≤ (cells.now).len }
-        ensures { IfOk result (λ set. set.marked.marks.items ≡ replicate (length set.codes.items) false) }
+        ensures { IfOk result
+            (λ set. set.marked.marks.items ≡ replicate (length set.codes.items) false) }
     {
         let mut codes = codes_of::<C>(alloc, cells, from, to)?;
         codes.sort_unstable();

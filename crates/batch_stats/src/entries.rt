@@ -14,8 +14,9 @@ use arrays::{Cells, Column, Indices};
 use arrow_schema::IntegerType;
 use std::alloc::Global;
 
-// The statistics of a column by the codes of its slots, of which the one at `start` is the first valid one. The value of
-// a code that the set has been given is not looked at again, where the set has it still.
+// The statistics of a column by the codes of its slots, of which the one at `start` is the first
+// valid one. The value of a code that the set has been given is not looked at again, where the set
+// has it still.
 fn stats_with<C: Code, S: CodeSet>(
     column: &Column,
     cells: &Indices<'_>,
@@ -24,8 +25,10 @@ fn stats_with<C: Code, S: CodeSet>(
 ) -> Stats
     requires layout { (column.now).layout ≡ IndicesLayout cells.now }
     requires width { C.BYTES ≡ byte_width (cells.now).index }
-    requires start { IsFirstValid (cells.now).validity (column.now).first ((column.now).first + (column.now).len) start }
-    requires known { (code : ℕ) → S.has known.old code → code ≡ element_at (byte_width (cells.now).index) (cells.now).values start }
+    requires start { IsFirstValid (cells.now).validity (column.now).first
+        ((column.now).first + (column.now).len) start }
+    requires known { (code : ℕ) → S.has known.old code →
+        code ≡ element_at (byte_width (cells.now).index) (cells.now).values start }
     ensures { IsStatsOf column.now result }
 {
     let _count = cells.len();
@@ -44,7 +47,8 @@ fn stats_with<C: Code, S: CodeSet>(
 fn stats_by_last<C: Code>(column: &Column, cells: &Indices<'_>, start: usize) -> Stats
     requires layout { (column.now).layout ≡ IndicesLayout cells.now }
     requires width { C.BYTES ≡ byte_width (cells.now).index }
-    requires start { IsFirstValid (cells.now).validity (column.now).first ((column.now).first + (column.now).len) start }
+    requires start { IsFirstValid (cells.now).validity (column.now).first
+        ((column.now).first + (column.now).len) start }
     ensures { IsStatsOf column.now result }
 {
     let (_count, _len) = (cells.len(), column.len());
@@ -52,8 +56,8 @@ fn stats_by_last<C: Code>(column: &Column, cells: &Indices<'_>, start: usize) ->
     stats_with::<C, LastCodes>(column, cells, start, &mut last)
 }
 
-// The same, each used value looked at once, unless memory is refused: by marks of the dictionary's values where they are
-// not many more than the slots, and else by marks of the slots' codes.
+// The same, each used value looked at once, unless memory is refused: by marks of the dictionary's
+// values where they are not many more than the slots, and else by marks of the slots' codes.
 fn stats_by_code<C: Code>(
     alloc: Global,
     column: &Column,
@@ -62,7 +66,8 @@ fn stats_by_code<C: Code>(
 ) -> Stats
     requires layout { (column.now).layout ≡ IndicesLayout cells.now }
     requires width { C.BYTES ≡ byte_width (cells.now).index }
-    requires start { IsFirstValid (cells.now).validity (column.now).first ((column.now).first + (column.now).len) start }
+    requires start { IsFirstValid (cells.now).validity (column.now).first
+        ((column.now).first + (column.now).len) start }
     ensures { IsStatsOf column.now result }
 {
     let count = cells.dictionary().len();

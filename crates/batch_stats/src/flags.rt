@@ -13,12 +13,14 @@ use crate::stats::Stats;
 use crate::validity::{first_valid, is_valid};
 use arrays::Bools;
 
-// The statistics of one truth value and of the slots `from` up to, not with, `to`: it ends where both are found.
+// The statistics of one truth value and of the slots `from` up to, not with, `to`: it ends where
+// both are found.
 fn with_flags(flag: bool, cells: &Bools<'_>, from: usize, to: usize) -> Stats
     requires stands { AreBools cells.now }
     requires within { to ≤ length (cells.now).values }
-    ensures ends { (column : ColumnAt) → ends_held column result ≡ ends_with (Some (Flag flag, Flag flag))
-        (where_valid (cells.now).validity (λ place. Flag (get_or (cells.now).values place false))) from to }
+    ensures ends { (column : ColumnAt) → ends_held column result
+        ≡ ends_with (Some (Flag flag, Flag flag)) (where_valid (cells.now).validity
+        (λ place. Flag (get_or (cells.now).values place false))) from to }
     ensures slots { (column : ColumnAt) → AreSlots column result }
 {
     for place in from..to {
@@ -39,7 +41,8 @@ fn with_flags(flag: bool, cells: &Bools<'_>, from: usize, to: usize) -> Stats
 pub(crate) fn flags_stats(cells: &Bools<'_>, first: usize, len: usize) -> Stats
     requires stands { AreBools cells.now }
     requires within { first + len ≤ length (cells.now).values }
-    ensures { IsStatsOf (record { layout = BoolsLayout cells.now; first = first; len = len }) result }
+    ensures { IsStatsOf (record { layout = BoolsLayout cells.now; first = first; len = len })
+        result }
 {
     let _count = cells.values().len();
     let to = first + len;

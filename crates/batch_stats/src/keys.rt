@@ -1,6 +1,7 @@
 //! The keys of texts, which mostly tell their order.
 
-ghost use Rattle.std.specs.Prelude.{◌≡◌, ◌≤◌, ◌+◌, ◌-◌, ◌*◌, ◌/◌, ◌%◌, ◌^◌, ◌&&◌, min, nat_le, length, slice_range, slice_index};
+ghost use Rattle.std.specs.Prelude.{◌≡◌, ◌≤◌, ◌+◌, ◌-◌, ◌*◌, ◌/◌, ◌%◌, ◌^◌, ◌&&◌, min, nat_le};
+ghost use Rattle.std.specs.Prelude.{length, slice_range, slice_index};
 ghost use Rattle.byteorder.specs.Endian.{big_from};
 ghost use Rattle.batch_stats.specs.inside.TextKeys.{key_of};
 
@@ -19,7 +20,8 @@ static FIRST_BYTES: [u64; 9] = [
     0xffff_ffff_ffff_ff00,
 ];
 
-/// The keys from one up to, and with, another. Their count tells by one comparison whether a key is one of them.
+/// The keys from one up to, and with, another. Their count tells by one comparison whether a key is
+/// one of them.
 #[derive(Clone, Copy, Drop)]
 pub(crate) struct KeyRange {
     pub(crate) low: u64,
@@ -64,7 +66,7 @@ pub(crate) fn key_at(bytes: &[u8], begin: usize, end: usize) -> u64
     first_bytes(word_at(bytes, begin), count) + count as u64
 }
 
-// The first of the eight bytes of a word, at most seven, with zeros behind them up to eight.
+// The first of the eight bytes of a word, at most seven, with zeros after them up to eight.
 fn first_bytes(word: u64, count: usize) -> u64
     requires { count ≤ 8 }
     ensures { result ≡ 256 * (word / 256 ^ (8 - min count 7) * 256 ^ (7 - min count 7)) }

@@ -1,4 +1,5 @@
-//! The statistics of a column: the least and the greatest value that is not null, and how many are null.
+//! The statistics of a column: the least and the greatest value that is not null, and how many are
+//! null.
 #![tactic(auto)]
 
 pub mod beginnings;

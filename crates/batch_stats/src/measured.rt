@@ -75,7 +75,8 @@ impl MeasuredBatch {
         self.stats[column].side(&self.batch.columns()[column])
     }
 
-    /// The statistics of a column, to be kept without it. It is `None` only of texts that are none: no column has such ends.
+    /// The statistics of a column, to be kept without it. It is `None` only of texts that are none:
+    /// no column has such ends.
     pub fn owned_stats(&self, column: usize) -> Option<OwnedStats>
         requires { column < length self.now.columns }
         ensures { IfSome result (λ owned. AreKept owned (stats_in self.now.columns column)) }

@@ -5,7 +5,8 @@ ghost use Rattle.scan_base.specs.declared.value.Value.TheVariants.{Int};
 ghost use Rattle.arrays.specs.Column.{ColumnAt};
 ghost use Rattle.arrays.specs.Number.{element_at};
 ghost use Rattle.arrays.specs.Validity.{where_valid};
-ghost use Rattle.arrays.specs.declared.layout.Layout.TheVariants.{Integers as IntegersLayout, Decimals as DecimalsLayout};
+ghost use Rattle.arrays.specs.declared.layout.Layout.TheVariants.{Integers as IntegersLayout};
+ghost use Rattle.arrays.specs.declared.layout.Layout.TheVariants.{Decimals as DecimalsLayout};
 ghost use Rattle.batch_stats.specs.Held.{ends_held, AreSlots, IsStatsOf};
 ghost use Rattle.batch_stats.specs.Stats.{with_value};
 ghost use Rattle.batch_stats.specs.inside.Slots.{ends_with, HasBits};
@@ -38,7 +39,8 @@ impl<E: Wide> NumberRange<E> {
     // The same with one number more.
     fn with(self, number: E) -> NumberRange<E>
         ensures { Some (Int (E.value result.least), Int (E.value result.greatest))
-            ≡ with_value (Some (Int (E.value self.least), Int (E.value self.greatest))) (Int (E.value number)) }
+            ≡ with_value (Some (Int (E.value self.least), Int (E.value self.greatest)))
+            (Int (E.value number)) }
     {
         NumberRange {
             least: if number < self.least {
@@ -56,8 +58,9 @@ impl<E: Wide> NumberRange<E> {
 
     // Whether a number lies between, and so changes no end.
     fn has(self, number: E) -> bool
-        ensures { result ≡ true → with_value (Some (Int (E.value self.least), Int (E.value self.greatest))) (Int (E.value number))
-            ≡ Some (Int (E.value self.least), Int (E.value self.greatest)) }
+        ensures { result ≡ true →
+            with_value (Some (Int (E.value self.least), Int (E.value self.greatest)))
+            (Int (E.value number)) ≡ Some (Int (E.value self.least), Int (E.value self.greatest)) }
     {
         !(number < self.least) && !(self.greatest < number)
     }
@@ -79,8 +82,10 @@ impl<E: Wide> NumberRange<E> {
     // How many of the numbers `from` up to, not with, `to` do not lie between. It reads each.
     fn count_outside(self, values: &[u8], from: usize, to: usize) -> usize
         requires { E.WIDTH * to ≤ length values.now }
-        ensures { result ≡ 0 → (place : ℕ) → from ≤ place → place < to → with_value (Some (Int (E.value self.least), Int (E.value self.greatest)))
-            (Int (E.value (E.of_bits (element_at E.WIDTH values.now place)))) ≡ Some (Int (E.value self.least), Int (E.value self.greatest)) }
+        ensures { result ≡ 0 → (place : ℕ) → from ≤ place → place < to →
+            with_value (Some (Int (E.value self.least), Int (E.value self.greatest)))
+            (Int (E.value (E.of_bits (element_at E.WIDTH values.now place))))
+            ≡ Some (Int (E.value self.least), Int (E.value self.greatest)) }
     {
         let mut outside = 0;
         for place in from..to {
@@ -89,13 +94,15 @@ impl<E: Wide> NumberRange<E> {
         outside
     }
 
-    // The same with those that are valid, one after another. Only of a number that changes an end, its bit is looked at.
+    // The same with those that are valid, one after another. Only of a number that changes an end,
+    // its bit is looked at.
     fn with_each_valid(self, packed: &Packed<'_>, from: usize, to: usize) -> NumberRange<E>
         requires room { E.WIDTH * to ≤ length packed.now.values.now }
         requires bits { HasBits packed.now.validity.now to }
         ensures { Some (Int (E.value result.least), Int (E.value result.greatest))
             ≡ ends_with (Some (Int (E.value self.least), Int (E.value self.greatest)))
-            (where_valid packed.now.validity.now (λ place. Int (E.value (E.of_bits (element_at E.WIDTH packed.now.values.now place))))) from to }
+            (where_valid packed.now.validity.now (λ place.
+            Int (E.value (E.of_bits (element_at E.WIDTH packed.now.values.now place))))) from to }
     {
         let mut range = self;
         for place in from..to {
@@ -107,13 +114,15 @@ impl<E: Wide> NumberRange<E> {
         range
     }
 
-    // The same of a block of slots. In most blocks no number changes an end, and so no bit is looked at.
+    // The same of a block of slots. In most blocks no number changes an end, and so no bit is
+    // looked at.
     fn with_block(self, packed: &Packed<'_>, from: usize, to: usize) -> NumberRange<E>
         requires room { E.WIDTH * to ≤ length packed.now.values.now }
         requires bits { HasBits packed.now.validity.now to }
         ensures { Some (Int (E.value result.least), Int (E.value result.greatest))
             ≡ ends_with (Some (Int (E.value self.least), Int (E.value self.greatest)))
-            (where_valid packed.now.validity.now (λ place. Int (E.value (E.of_bits (element_at E.WIDTH packed.now.values.now place))))) from to }
+            (where_valid packed.now.validity.now (λ place.
+            Int (E.value (E.of_bits (element_at E.WIDTH packed.now.values.now place))))) from to }
     {
         if self.count_outside(packed.values, from, to) == 0 {
             return self;
@@ -127,7 +136,8 @@ impl<E: Wide> NumberRange<E> {
         requires bits { HasBits packed.now.validity.now to }
         ensures { Some (Int (E.value result.least), Int (E.value result.greatest))
             ≡ ends_with (Some (Int (E.value self.least), Int (E.value self.greatest)))
-            (where_valid packed.now.validity.now (λ place. Int (E.value (E.of_bits (element_at E.WIDTH packed.now.values.now place))))) from to }
+            (where_valid packed.now.validity.now (λ place.
+            Int (E.value (E.of_bits (element_at E.WIDTH packed.now.values.now place))))) from to }
     {
         let blocks = to.saturating_sub(from) / BLOCK_LEN;
         let mut range = self;
@@ -144,7 +154,8 @@ impl<E: Wide> NumberRange<E> {
         requires bits { HasBits packed.now.validity.now to }
         ensures { Some (Int (E.value result.least), Int (E.value result.greatest))
             ≡ ends_with (Some (Int (E.value self.least), Int (E.value self.greatest)))
-            (where_valid packed.now.validity.now (λ place. Int (E.value (E.of_bits (element_at E.WIDTH packed.now.values.now place))))) from to }
+            (where_valid packed.now.validity.now (λ place.
+            Int (E.value (E.of_bits (element_at E.WIDTH packed.now.values.now place))))) from to }
     {
         match packed.validity {
             None => self.with_all(packed.values, from, to),
@@ -159,7 +170,9 @@ fn numbers_stats<E: Wide>(packed: &Packed<'_>, from: usize, to: usize) -> Stats
     requires room { E.WIDTH * to ≤ length packed.now.values.now }
     requires bits { HasBits packed.now.validity.now to }
     ensures ends { (column : ColumnAt) → ends_held column result ≡ ends_with None
-        (where_valid packed.now.validity.now (λ place. Int (E.value (E.of_bits (element_at E.WIDTH packed.now.values.now place))))) from to }
+        (where_valid packed.now.validity.now
+        (λ place. Int (E.value (E.of_bits (element_at E.WIDTH packed.now.values.now place))))) from
+        to }
     ensures slots { (column : ColumnAt) → AreSlots column result }
 {
     let Some(start) = first_valid(packed.validity, from, to) else {
@@ -180,7 +193,8 @@ fn numbers_stats<E: Wide>(packed: &Packed<'_>, from: usize, to: usize) -> Stats
 /// The statistics of `len` slots of integers from `first` on.
 pub(crate) fn integers_stats(cells: &Integers<'_>, first: usize, len: usize) -> Stats
     requires { first + len ≤ (cells.now).len }
-    ensures { IsStatsOf (record { layout = IntegersLayout cells.now; first = first; len = len }) result }
+    ensures { IsStatsOf (record { layout = IntegersLayout cells.now; first = first; len = len })
+        result }
 {
     let _count = cells.len();
     let packed = Packed {
@@ -203,7 +217,8 @@ pub(crate) fn integers_stats(cells: &Integers<'_>, first: usize, len: usize) -> 
 /// The statistics of `len` slots of decimals from `first` on.
 pub(crate) fn decimals_stats(cells: &Decimals<'_>, first: usize, len: usize) -> Stats
     requires { first + len ≤ (cells.now).len }
-    ensures { IsStatsOf (record { layout = DecimalsLayout cells.now; first = first; len = len }) result }
+    ensures { IsStatsOf (record { layout = DecimalsLayout cells.now; first = first; len = len })
+        result }
 {
     let _count = cells.len();
     let packed = Packed {

@@ -71,7 +71,10 @@ impl OwnedStats {
         nulls: usize,
     ) -> Option<OwnedStats>
         ensures { IfSome result (λ owned. AreKept owned
-            (record { ends = Some (value_of least.entry, value_of greatest.entry); nulls = nulls })) }
+            (record {
+              ends = Some (value_of least.entry, value_of greatest.entry);
+              nulls = nulls;
+            })) }
     {
         let (ValueRef::Text(least), ValueRef::Text(greatest)) = (least, greatest) else {
             return None;
@@ -87,9 +90,11 @@ impl OwnedStats {
         })
     }
 
-    /// What the values are between, and how many are null. It is `None` of texts of which one is not whole.
+    /// What the values are between, and how many are null. It is `None` of texts of which one is
+    /// not whole.
     pub fn side(&self) -> Option<Side<'_>>
-        ensures { IfSome result (λ side. (stats : StatsAt) → AreKept self.now stats → stats ≡ side_at side) }
+        ensures { IfSome result
+            (λ side. (stats : StatsAt) → AreKept self.now stats → stats ≡ side_at side) }
     {
         match self {
             OwnedStats::Nulls { nulls } => Some(Side {
@@ -118,7 +123,8 @@ impl OwnedStats {
 
     /// How the least and the greatest text begin. It is `None` of other values.
     pub fn beginnings(&self) -> Option<Beginnings<'_>>
-        ensures { IfSome result (λ known. (stats : StatsAt) → AreKept self.now stats → AreBeginnings known stats) }
+        ensures { IfSome result
+            (λ known. (stats : StatsAt) → AreKept self.now stats → AreBeginnings known stats) }
     {
         match self {
             OwnedStats::Texts {

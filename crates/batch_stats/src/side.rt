@@ -25,7 +25,10 @@ pub struct Side<'a> {
 impl<'a> Side<'a> {
     // Values between these two, and so many nulls.
     pub(crate) fn between(least: ValueRef<'a>, greatest: ValueRef<'a>, nulls: usize) -> Side<'a>
-        ensures { side_at result ≡ record { ends = Some (value_of least.entry, value_of greatest.entry); nulls = nulls } }
+        ensures { side_at result ≡ record {
+          ends = Some (value_of least.entry, value_of greatest.entry);
+          nulls = nulls;
+        } }
     {
         Side {
             ends: Some(Ends { least, greatest }),

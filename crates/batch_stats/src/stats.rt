@@ -31,8 +31,9 @@ pub enum Stats {
 }
 
 impl Stats {
-    /// The statistics of a column. Of one of a dictionary with more than 2,048 values it asks for memory for a while: at most
-    /// nine bytes for each slot and 2,055 more. Where that is refused it takes longer.
+    /// The statistics of a column. Of one of a dictionary with more than 2,048 values it asks for
+    /// memory for a while: at most nine bytes for each slot and 2,055 more. Where that is refused
+    /// it takes longer.
     pub fn of(alloc: Global, column: &Column) -> Stats
         ensures { IsStatsOf column.now result }
     {
@@ -50,7 +51,8 @@ impl Stats {
     pub(crate) fn with_slot(self, column: &Column, place: usize) -> Stats
         requires slots { AreSlots column.now self }
         requires place { place < (column.now).len }
-        ensures ends { ends_held column.now result ≡ with_value (ends_held column.now self) (slot_of column.now place) }
+        ensures ends { ends_held column.now result
+            ≡ with_value (ends_held column.now self) (slot_of column.now place) }
         ensures slots { AreSlots column.now result }
     {
         let value = column.value_at(place);
@@ -87,7 +89,8 @@ impl Stats {
 
     // The statistics of the value of one slot.
     fn of_slot(value: ValueRef<'_>, place: usize) -> Stats
-        ensures ends { (column : ColumnAt) → slot_of column place ≡ value_of value.entry → ends_held column result ≡ with_value None (value_of value.entry) }
+        ensures ends { (column : ColumnAt) → slot_of column place ≡ value_of value.entry →
+            ends_held column result ≡ with_value None (value_of value.entry) }
         ensures slots { (column : ColumnAt) → place < column.len → AreSlots column result }
     {
         match value {
@@ -140,8 +143,8 @@ impl Stats {
         }
     }
 
-    /// The same without the column. Of texts it keeps the first characters, at most 36 bytes. It is `None` only of texts that are
-    /// none: no column has such ends.
+    /// The same without the column. Of texts it keeps the first characters, at most 36 bytes. It is
+    /// `None` only of texts that are none: no column has such ends.
     pub fn owned(&self, column: &Column) -> Option<OwnedStats>
         requires { IsStatsOf column.now self.now }
         ensures { IfSome result (λ owned. AreKept owned (stats_of (values_of column.now))) }

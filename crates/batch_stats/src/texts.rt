@@ -11,7 +11,8 @@ ghost use Rattle.batch_stats.specs.Held.{IsStatsOf};
 ghost use Rattle.batch_stats.specs.Stats.{stand, with_value};
 ghost use Rattle.batch_stats.specs.inside.Slots.{ends_with};
 ghost use Rattle.batch_stats.specs.inside.TextKeys.{key_of};
-ghost use Rattle.batch_stats.specs.inside.TextSlots.{AreEndsAt, AreKeyed, IsKeyed, IsTextAt, KeepsEnds};
+ghost use Rattle.batch_stats.specs.inside.TextSlots.{AreEndsAt, AreKeyed, IsKeyed, IsTextAt};
+ghost use Rattle.batch_stats.specs.inside.TextSlots.{KeepsEnds};
 
 use crate::keys::{KeyRange, key_at};
 use crate::stats::Stats;
@@ -51,7 +52,8 @@ fn slot_key(offsets: &[u8], bytes: &[u8], place: usize) -> u64
     requires room { 4 * (place + 2) ≤ length offsets.now }
     requires rise { element_at 4 offsets.now place ≤ element_at 4 offsets.now (place + 1) }
     requires within { element_at 4 offsets.now (place + 1) ≤ length bytes.now }
-    ensures key { result ≡ key_of (slice_range bytes.now (element_at 4 offsets.now place) (element_at 4 offsets.now (place + 1))) }
+    ensures key { result ≡ key_of (slice_range bytes.now (element_at 4 offsets.now place)
+        (element_at 4 offsets.now (place + 1))) }
     ensures bytes { AreBytes bytes.now }
 {
     let begin = u32::read(offsets, place) as usize;
@@ -62,7 +64,10 @@ impl<'a> TextRange<'a> {
     // The keys of texts that change no end.
     fn kept_keys(self) -> KeyRange
         requires { AreKeyed self }
-        ensures kept { KeepsEnds (Some (Text self.entry.least.text.now, Text self.entry.greatest.text.now)) result.low result.high }
+        ensures kept { KeepsEnds (Some (
+          Text self.entry.least.text.now,
+          Text self.entry.greatest.text.now,
+        )) result.low result.high }
         ensures count { result.count ≡ result.high + 1 - result.low }
     {
         KeyRange::new(self.least.key, self.greatest.key)
@@ -74,8 +79,10 @@ impl<'a> TextRange<'a> {
         requires keys { AreKeyed self }
         requires key { IsKeyed text }
         ensures ends { Some (Text result.least.text.now, Text result.greatest.text.now)
-            ≡ with_value (Some (Text self.entry.least.text.now, Text self.entry.greatest.text.now)) (Text text.entry.text.now) }
-        ensures places { (slot : ℕ → Value) (from to : ℕ) → AreEndsAt slot from to self.entry → IsTextAt slot from to text.entry → AreEndsAt slot from to result }
+            ≡ with_value (Some (Text self.entry.least.text.now, Text self.entry.greatest.text.now))
+            (Text text.entry.text.now) }
+        ensures places { (slot : ℕ → Value) (from to : ℕ) → AreEndsAt slot from to self.entry →
+            IsTextAt slot from to text.entry → AreEndsAt slot from to result }
         ensures keys { AreKeyed result }
     {
         TextRange {
@@ -92,15 +99,18 @@ impl<'a> TextRange<'a> {
         }
     }
 
-    // The same with those of the slots `from` up to, not with, `to` that are valid. Most are told by their keys to change
-    // no end.
+    // The same with those of the slots `from` up to, not with, `to` that are valid. Most are told
+    // by their keys to change no end.
     #[inline(never)]
     fn with_slots(self, cells: &TextsRef<'a>, from: usize, to: usize) -> TextRange<'a>
         requires within { to ≤ (cells.now).len }
         requires keys { AreKeyed self }
         ensures ends { Some (Text result.least.text.now, Text result.greatest.text.now)
-            ≡ ends_with (Some (Text self.entry.least.text.now, Text self.entry.greatest.text.now)) (texts_slot cells.now) from to }
-        ensures places { (first : ℕ) → first ≤ from → AreEndsAt (texts_slot cells.now) first to self.entry → AreEndsAt (texts_slot cells.now) first to result }
+            ≡ ends_with (Some (Text self.entry.least.text.now, Text self.entry.greatest.text.now))
+            (texts_slot cells.now) from to }
+        ensures places { (first : ℕ) → first ≤ from →
+            AreEndsAt (texts_slot cells.now) first to self.entry →
+            AreEndsAt (texts_slot cells.now) first to result }
     {
         let _count = cells.len();
         let (offsets, bytes) = (cells.offsets(), cells.bytes());
@@ -124,7 +134,8 @@ impl<'a> TextRange<'a> {
 /// The statistics of `len` slots of texts from `first` on.
 pub(crate) fn texts_stats(cells: &TextsRef<'_>, first: usize, len: usize) -> Stats
     requires { first + len ≤ (cells.now).len }
-    ensures { IsStatsOf (record { layout = TextsLayout cells.now; first = first; len = len }) result }
+    ensures { IsStatsOf (record { layout = TextsLayout cells.now; first = first; len = len })
+        result }
 {
     let _count = cells.len();
     let to = first + len;

@@ -11,9 +11,9 @@ use bytes::{Bytes, BytesMut};
 use std::alloc::{AllocError, Global};
 use std::marker::Model;
 
-/// Packed bits of a buffer, from any bit of it on, the least significant bit of each byte first. The
-/// buffer is shared, and its other bits are never read as bits of this list. A contract sees the list of
-/// truth values, `true` for a bit that is 1.
+/// Packed bits of a buffer, from any bit of it on, the least significant bit of each byte first.
+/// The buffer is shared, and its other bits are never read as bits of this list. A contract sees
+/// the list of truth values, `true` for a bit that is 1.
 #[derive(Drop)]
 pub struct Bits {
     bytes: Bytes,

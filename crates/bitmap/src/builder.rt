@@ -1,4 +1,4 @@
-//! Bits that are put one behind another.
+//! Bits that are put one after another.
 
 ghost use Rattle.std.specs.Prelude.{◌≡◌, ◌++◌, ◌∷◌, [], length, IfOk, OnOk, OnErr};
 
@@ -7,7 +7,8 @@ use bytes::Bytes;
 use std::alloc::{AllocError, Global};
 use std::marker::Model;
 
-/// Bits that are put one behind another, packed as they come. A contract sees the list of truth values.
+/// Bits that are put one after another, packed as they come. A contract sees the list of truth
+/// values.
 #[derive(Drop)]
 pub struct BitsBuilder {
     bytes: Vec<u8>,
@@ -58,7 +59,7 @@ impl BitsBuilder {
         self.len
     }
 
-    /// Puts a bit behind the others, which stay as they are where that fails.
+    /// Puts a bit after the others, which stay as they are where that fails.
     ///
     /// # Errors
     ///

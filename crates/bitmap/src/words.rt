@@ -1,6 +1,7 @@
 //! Bits of a byte slice, 64 at a time. A word's lowest bit is the first of them.
 
-ghost use Rattle.std.specs.Prelude.{◌≡◌, ◌≤◌, ◌<◌, ◌+◌, ◌*◌, ◌^◌, length, count_by, IfOk, List, Bool, ℕ, map, get_or, slice_index};
+ghost use Rattle.std.specs.Prelude.{◌≡◌, ◌≤◌, ◌<◌, ◌+◌, ◌*◌, ◌^◌, length, count_by, IfOk, List};
+ghost use Rattle.std.specs.Prelude.{Bool, ℕ, map, get_or, slice_index};
 ghost use Rattle.std.specs.Simd.Lanes.{mask_l, zip2};
 ghost use Rattle.byteorder.specs.Endian.{little_from};
 ghost use Rattle.bitmap.specs.Bits.{bit_of, bits_of, IsRoomy};
@@ -158,7 +159,7 @@ fn word_at_places(bytes: &[u8], first: usize, places: &[u32]) -> u64
     word
 }
 
-/// The bytes of the bits at places, which are counted from `first` on, with zeros behind them.
+/// The bytes of the bits at places, which are counted from `first` on, with zeros after them.
 pub(crate) fn gather_bits(
     alloc: Global,
     bytes: &[u8],

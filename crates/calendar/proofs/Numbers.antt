@@ -11,7 +11,7 @@ use Rattle.jiff_core.proofs.CalendarLemmas.{days_from_civil-day_count, day_count
 use Rattle.calendar.specs.Shown.{last_that, year_at, month_at, day_of_month_at, has_date}
 use Rattle.calendar.proofs.Parts.{int_le-true, int_le-false, from_to-true, from_to-parts}
 
--- where k passes and no number behind it does, k is the last one
+-- where k passes and no number after it does, k is the last one
 pub last_is : (passes : ℕ → Bool) (n k : ℕ) → 1 ≤ k → k ≤ n → IsTrue (passes k) → ((j : ℕ) → k < j → passes j ≡ false) → last_that passes n ≡ k
 unfolding last_that
 last_is passes zero k low high here none = absurd (omega arith)

@@ -1,5 +1,7 @@
 -- What is printed of a day.
-use Rattle.std.specs.Prelude.{◌≡◌, ℕ, zero, suc, ◌+◌, ◌/◌, ◌%◌, Bool, if◌then◌else◌, List, [], ◌∷◌, ◌++◌, codes, ℤ, pos, ◌-ℤ◌, unsigned_abs, Option, Some, None, IsTrue, int_le}
+use Rattle.std.specs.Prelude.{◌≡◌, ℕ, zero, suc, ◌+◌, ◌/◌, ◌%◌, Bool, if◌then◌else◌, List, [], ◌∷◌}
+use Rattle.std.specs.Prelude.{◌++◌, codes, ℤ, pos, ◌-ℤ◌, unsigned_abs, Option, Some, None, IsTrue}
+use Rattle.std.specs.Prelude.{int_le}
 use Rattle.std.specs.Fmt.{signed_decimal}
 use Rattle.std.specs.Str.{byte}
 use Rattle.jiff_core.specs.Calendar.{days_from_civil}
@@ -46,7 +48,8 @@ date_within day = if has_date day then Some (date_of day) else None
 -- what is printed of a day: DATE 'yyyy-mm-dd' in the years 1 to 9999, and else DATE(number)
 abbrev pub date_shown : ℤ → List ℕ
 date_shown day =
-    if has_date day then codes "DATE '" ++ (date_of day ++ codes "'") else codes "DATE(" ++ (signed_decimal day ++ codes ")")
+    if has_date day then codes "DATE '" ++ (date_of day ++ codes "'")
+    else codes "DATE(" ++ (signed_decimal day ++ codes ")")
 
 -- the date of a day of those years reads as that day
 abbrev pub ReadsBack : ℤ → Type 0
@@ -54,4 +57,5 @@ ReadsBack day = IsTrue (has_date day) → day_in (date_of day) ≡ Some day
 
 -- no other text reads as that day
 abbrev pub TextsAreDates : Type 0
-TextsAreDates = (text : List ℕ) (day : ℤ) → day_in text ≡ Some day → IsTrue (has_date day) × (text ≡ date_of day)
+TextsAreDates = (text : List ℕ) (day : ℤ) → day_in text ≡ Some day →
+    IsTrue (has_date day) × (text ≡ date_of day)

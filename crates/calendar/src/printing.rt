@@ -3,13 +3,15 @@
 ghost use Rattle.std.specs.Prelude.{◌≡◌, ◌<◌, ◌≤◌, ◌+◌, ◌++◌, codes, length, option_map};
 ghost use Rattle.std.specs.Fmt.{signed_decimal};
 ghost use Rattle.arrayvec.specs.ArrayString.{array_string_len};
-ghost use Rattle.calendar.specs.Shown.{ReadsBack, date_shown, date_text, date_within, in_two_digits};
+ghost use Rattle.calendar.specs.Shown.{ReadsBack, date_shown, date_text, date_within};
+ghost use Rattle.calendar.specs.Shown.{in_two_digits};
 
 use arrayvec::ArrayString;
 use itoa::Buffer;
 use jiff_core::civil::Date;
 
-/// The date of a day as `yyyy-mm-dd`, where 1970-01-01 is 0. `None` outside the years 0001 to 9999. It takes no memory.
+/// The date of a day as `yyyy-mm-dd`, where 1970-01-01 is 0. `None` outside the years 0001 to 9999.
+/// It takes no memory.
 pub fn date_of(day: i128) -> Option<ArrayString<10>>
     ensures exact { option_map (λ text. text.bytes) result ≡ date_within day }
     ensures reads_back { ReadsBack day }
@@ -20,8 +22,8 @@ pub fn date_of(day: i128) -> Option<ArrayString<10>>
     }
 }
 
-/// What is printed of a day, where 1970-01-01 is 0: `DATE 'yyyy-mm-dd'` in the years 0001 to 9999, and else `DATE(n)`
-/// with its number. It takes no memory.
+/// What is printed of a day, where 1970-01-01 is 0: `DATE 'yyyy-mm-dd'` in the years 0001 to 9999,
+/// and else `DATE(n)` with its number. It takes no memory.
 pub fn date_shown(day: i128) -> ArrayString<48>
     ensures exact { result.bytes ≡ date_shown day }
     ensures reads_back { ReadsBack day }
@@ -60,7 +62,7 @@ fn digits_of(year: u16, month: u8, day: u8) -> ArrayString<10>
     text
 }
 
-// A date in quotes, behind the word.
+// A date in quotes, after the word.
 fn shown_by_date(date: &str) -> ArrayString<48>
     requires { length date.now ≤ 10 }
     ensures { result.bytes ≡ codes "DATE '" ++ (date.now ++ codes "'") }
@@ -82,7 +84,7 @@ fn push_two_digits(text: &mut ArrayString<10>, number: u8)
     text.push(char::from(b'0' + number % 10));
 }
 
-// The number of a day in brackets, behind the word.
+// The number of a day in brackets, after the word.
 fn shown_by_number(day: i128) -> ArrayString<48>
     ensures { result.bytes ≡ codes "DATE(" ++ (signed_decimal day ++ codes ")") }
 {

@@ -1,12 +1,14 @@
 //! The day number of a date's text.
 
 ghost use Rattle.std.specs.Prelude.{◌≡◌, ◌<◌, ◌+◌, ◌&&◌, IsTrue, length, pos};
-ghost use Rattle.calendar.specs.Dates.{day_in, day_of, two_digits, four_digits, two_stand, is_date_form};
+ghost use Rattle.calendar.specs.Dates.{day_in, day_of, two_digits, four_digits, two_stand};
+ghost use Rattle.calendar.specs.Dates.{is_date_form};
 
 use jiff_core::civil::Date;
 
-/// The day number of a date, where 1970-01-01 is 0: of a text of four digits, `-`, two digits, `-` and two digits that is
-/// a date of the Gregorian calendar in the years 0001 to 9999. `None` for any other text. It takes no memory.
+/// The day number of a date, where 1970-01-01 is 0: of a text of four digits, `-`, two digits, `-`
+/// and two digits that is a date of the Gregorian calendar in the years 0001 to 9999. `None` for
+/// any other text. It takes no memory.
 pub fn day_in(text: &str) -> Option<i32>
     ensures { result ≡ day_in text.now }
 {

@@ -21,7 +21,8 @@ fn header_in(form: &[u8]) -> Result<&[u8], Fault> {
     Ok(header)
 }
 
-// Adds the columns of a schema in IPC form, which is the message's first field, and the bytes after that field.
+// Adds the columns of a schema in IPC form, which is the message's first field, and the bytes after
+// that field.
 fn push_described(
     alloc: Global,
     told: &mut String,

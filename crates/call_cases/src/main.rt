@@ -1,22 +1,27 @@
-//! Rows of three rooms: puts, streams of a client, and connections. Each is answered by a line or more.
+//! Rows of three rooms: puts, streams of a client, and connections. Each is answered by a line or
+//! more.
 //!
 //! The first word of a row says what it is. Any other row is printed as it is.
 //!
-//! - `bytes NAME WORD` and `payload NAME WORD` name bytes, and print nothing. A WORD is pieces with a `+` between
-//!   (`words::Names::bytes_of`).
-//! - `log` begins an empty log. `put PAYLOAD PAYLOAD ..` and `fetch TICKET` are answered by a step, and the answer is
-//!   printed. `cut TICKET` prints how many rows each message of the answer has, `bits TICKET` the first two bytes of
-//!   its last body, and `runs TICKET` its rows, equal ones once.
-//! - `join STREAM | STREAM ..` prints what the joined streams say, where a STREAM is `NAME NAME .. = CODE TEXT`,
-//!   payloads and a status, or payloads only; before it, of each refused payload its fault. `status CODE TEXT` prints
-//!   the fault that has that status, and `info WORD` the tickets of an info.
-//! - `pipe OPTIONS | KIND:NAME KIND:NAME ..` gives calls to one `pipe` with these options. It prints a line for each
-//!   answer, with its status and what its messages say, and one for the end, with the exit status and how long what
-//!   was printed is. For the KIND `info` messages are a FlightInfo, for `schema` a SchemaResult, for `rows` FlightData,
-//!   for `bodies` the bodies of FlightData, and else bytes. `bytewise` is `pipe` whose input comes in single bytes.
-//!   With `--workers W` up to W workers make the answer to a fetch, however few rows it has.
+//! - `bytes NAME WORD` and `payload NAME WORD` name bytes, and print nothing. A WORD is pieces with
+//!   a `+` between (`words::Names::bytes_of`).
+//! - `log` begins an empty log. `put PAYLOAD PAYLOAD ..` and `fetch TICKET` are answered by a step,
+//!   and the answer is printed. `cut TICKET` prints how many rows each message of the answer has,
+//!   `bits TICKET` the first two bytes of its last body, and `runs TICKET` its rows, equal ones
+//!   once.
+//! - `join STREAM | STREAM ..` prints what the joined streams say, where a STREAM is
+//!   `NAME NAME .. = CODE TEXT`, payloads and a status, or payloads only; before it, of each
+//!   refused payload its fault. `status CODE TEXT` prints the fault that has that status, and
+//!   `info WORD` the tickets of an info.
+//! - `pipe OPTIONS | KIND:NAME KIND:NAME ..` gives calls to one `pipe` with these options. It
+//!   prints a line for each answer, with its status and what its messages say, and one for the end,
+//!   with the exit status and how long what was printed is. For the KIND `info` messages are a
+//!   FlightInfo, for `schema` a SchemaResult, for `rows` FlightData, for `bodies` the bodies of
+//!   FlightData, and else bytes. `bytewise` is `pipe` whose input comes in single bytes. With
+//!   `--workers W` up to W workers make the answer to a fetch, however few rows it has.
 //!
-//! The scripts of `vectors/puts`, `vectors/client` and `vectors/calls` write the rows, and what has to be printed.
+//! The scripts of `vectors/puts`, `vectors/client` and `vectors/calls` write the rows, and what has
+//! to be printed.
 #![tactic(auto)]
 
 mod connections;

@@ -51,7 +51,8 @@ fn all_rows(alloc: Global, rows: &Rows) -> Result<String, AllocError> {
     Ok(told)
 }
 
-// Adds rows that end with a semicolon each: of equal ones after each other how many they are, and one of them.
+// Adds rows that end with a semicolon each: of equal ones after each other how many they are, and
+// one of them.
 fn push_runs(told: &mut String, rows: &str) -> Result<(), AllocError> {
     let mut count: u32 = 0;
     let mut last = "";
@@ -116,7 +117,8 @@ impl Puts {
         reply_to(alloc, &OneWorker, &mut self.alone, &event)
     }
 
-    /// What an empty log, a put or a fetch is answered. The words of a fetch say what is told of its rows.
+    /// What an empty log, a put or a fetch is answered. The words of a fetch say what is told of
+    /// its rows.
     pub fn answer(
         &mut self,
         alloc: Global,

@@ -82,8 +82,9 @@ impl Names {
         Ok(())
     }
 
-    /// The bytes of a word: of pieces with a `+` between, each a name or a text. `N*` stands before one that comes N
-    /// times, and `N/STEP` is N numbers of 4 bytes, from 0 on, each by STEP above the one before.
+    /// The bytes of a word: of pieces with a `+` between, each a name or a text. `N*` stands before
+    /// one that comes N times, and `N/STEP` is N numbers of 4 bytes, from 0 on, each by STEP above
+    /// the one before.
     pub fn bytes_of(&self, alloc: Global, word: &str) -> Result<Vec<u8>, Fault> {
         let mut bytes = Vec::new(alloc);
         for piece in word.split('+') {

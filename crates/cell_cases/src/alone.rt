@@ -24,8 +24,8 @@ fn seen<C: CellName>(seat: &mut Scanner<C>) -> Result<(u64, usize), Fault> {
     Ok((number, seat.at(0)?.catalog().len()))
 }
 
-/// A version of a number that is not there, a put that is refused, the next put with what its seat then sees, and a look
-/// behind the end of the putter: the fault of each, or the numbers.
+/// A version of a number that is not there, a put that is refused, the next put with what its seat
+/// then sees, and a look after the end of the putter: the fault of each, or the numbers.
 pub fn refusals<R: Wait>(rt: &R, alloc: Global, seed: HashSeed) -> Result<String, Fault> {
     let blank = open(alloc, seed, 1, Opened::new())?;
     refuses::<Brand, R>(rt, alloc, blank)
@@ -49,8 +49,9 @@ fn refuses<C: CellName, R: Wait>(rt: &R, alloc: Global, blank: Blank) -> Result<
     Ok(format!(in alloc; "{unknown:?} {refused:?} {put} {number} {tables} {gone:?}")?)
 }
 
-/// Behind three puts: expiries of the versions below 2, 5 and 1, and looks at versions 1, 2 and 4. Then an expiry of those below 3, a
-/// look at version 3, and the number of the next put: the floor, the number or the fault of each.
+/// After three puts: expiries of the versions below 2, 5 and 1, and looks at versions 1, 2 and 4.
+/// Then an expiry of those below 3, a look at version 3, and the number of the next put: the floor,
+/// the number or the fault of each.
 pub fn expiries<R: Wait>(rt: &R, alloc: Global, seed: HashSeed) -> Result<String, Fault> {
     let blank = open(alloc, seed, 1, Opened::new())?;
     expires::<Brand, R>(rt, alloc, blank)

@@ -10,7 +10,7 @@ use std::alloc::Global;
 use table_versions::apply;
 use version_log::VersionIndex;
 
-// The versions so far, and the one behind a put of one row.
+// The versions so far, and the one after a put of one row.
 fn longer(alloc: Global, index: &VersionIndex) -> Result<VersionIndex, Fault>
     requires { index.now.floor + length index.now.versions ≤ most_commits }
     ensures { IfOk result (λ next. (next.floor ≡ index.now.floor)
@@ -28,7 +28,8 @@ fn of_one_put(alloc: Global, seed: HashSeed) -> Result<VersionIndex, Fault>
     longer(alloc, &opened)
 }
 
-// The number and the rows of the newest version, behind a longer index that was made of this one; and those of its newest.
+// The number and the rows of the newest version, after a longer index that was made of this one;
+// and those of its newest.
 fn newest_of_both(
     alloc: Global,
     index: &VersionIndex,
@@ -54,7 +55,8 @@ fn found(index: &VersionIndex, number: u64, table: &Text) -> Result<(u64, u64), 
     Ok((version.number(), rows_of(&version, table)))
 }
 
-/// An index stays as it is when a longer one is made of it: the newest version of it, and then of the longer one.
+/// An index stays as it is when a longer one is made of it: the newest version of it, and then of
+/// the longer one.
 pub fn an_index_stays(alloc: Global, seed: HashSeed) -> Result<String, Fault> {
     let table = Text::new(alloc, "t")?;
     let index = of_one_put(alloc, seed)?;
@@ -80,8 +82,8 @@ fn of_two_puts(alloc: Global, index: &VersionIndex) -> Result<VersionIndex, Faul
     longer(alloc, &kept)
 }
 
-/// An index of which version 0 was dropped, with a version more: the oldest version's number, and versions 1 and 2, each found by
-/// its number. Then version 0 of the index of which it was made.
+/// An index of which version 0 was dropped, with a version more: the oldest version's number, and
+/// versions 1 and 2, each found by its number. Then version 0 of the index of which it was made.
 pub fn a_version_is_dropped(alloc: Global, seed: HashSeed) -> Result<String, Fault> {
     let table = Text::new(alloc, "t")?;
     let index = of_one_put(alloc, seed)?;

@@ -1,5 +1,5 @@
-//! What calls of a cell answer, in one thread and in several: of each case a line, with its name and what it saw.
-//! `stdout` has what is wanted.
+//! What calls of a cell answer, in one thread and in several: of each case a line, with its name
+//! and what it saw. `stdout` has what is wanted.
 #![tactic(auto)]
 
 mod alone;

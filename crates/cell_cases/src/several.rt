@@ -65,7 +65,7 @@ impl<C: CellName> Job<C> for Looking {
     }
 }
 
-// What is done in a thread of its own beside that.
+// What is done in a thread of its own next to that.
 trait Puts {
     // It tells how many puts were right, up to the first that was not.
     fn put_all(&mut self) -> u64;
@@ -91,7 +91,7 @@ impl<C: CellName, R: Wait + Drop> Puts for ManyPuts<C, R> {
     }
 }
 
-// Puts, beside the work with each seat in threads of their own. It tells how many puts were right.
+// Puts, next to the work with each seat in threads of their own. It tells how many puts were right.
 fn put_beside<C, J, P, T>(rt: &T, puts: &mut P, job: &J, seats: &mut [Scanner<C>]) -> u64
 where
     C: CellName + Send + Sync,
@@ -111,8 +111,8 @@ fn rows_at<C: CellName>(seat: &mut Scanner<C>, number: u64, table: &Text) -> u64
     }
 }
 
-// The newest version that a seat sees while nobody told it of the puts, and how many rows it finds in version 500 once it
-// learnt what was told.
+// The newest version that a seat sees while nobody told it of the puts, and how many rows it finds
+// in version 500 once it learnt what was told.
 fn sees<C: CellName>(seat: &mut Scanner<C>, told: &Told<C>, table: &Text) -> (u64, u64) {
     let newest = look(seat, table).unwrap_or(0);
     seat.learn(told);
@@ -135,8 +135,8 @@ fn see_all<C: CellName>(
     Ok(all)
 }
 
-/// One thread puts 1,000 times, while two look 1,000 times each: how many puts were right, of how many seats all looks were,
-/// of how many puts the putter tells, and what each seat then sees.
+/// One thread puts 1,000 times, while two look 1,000 times each: how many puts were right, of how
+/// many seats all looks were, of how many puts the putter tells, and what each seat then sees.
 pub fn two_look_while_one_puts<R: Threads + Wait + Sync>(
     rt: &R,
     alloc: Global,
@@ -166,7 +166,8 @@ fn looked_at_by_two<C: CellName + Send + Sync, R: Threads + Wait + Sync>(
     Ok(format!(in alloc; "{put} {looked} {}{seen}", told.number())?)
 }
 
-/// Two threads put by one lock, and each then sees its own put: the sum of the puts' numbers, and how many puts were seen.
+/// Two threads put by one lock, and each then sees its own put: the sum of the puts' numbers, and
+/// how many puts were seen.
 pub fn two_put_by_one_lock<R: Threads + Wait + Sync>(
     rt: &R,
     alloc: Global,
@@ -176,7 +177,7 @@ pub fn two_put_by_one_lock<R: Threads + Wait + Sync>(
     put_by_two::<Brand, R>(rt, alloc, blank)
 }
 
-// A put, and a look behind it: the puts' numbers added up, and how many were seen by their seats.
+// A put, and a look after it: the puts' numbers added up, and how many were seen by their seats.
 #[derive(Drop)]
 struct Putting<'a, C: CellName, R: Wait> {
     rt: &'a R,

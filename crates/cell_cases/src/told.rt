@@ -21,8 +21,9 @@ fn tell<C: CellName>(ahead: &Scanner<C>, behind: &mut Scanner<C>) {
     behind.learn(&told);
 }
 
-/// A put is made through one of two seats, and the other is told of it: the put's number, of how many puts each seat was
-/// told before, of how many the other was told then, and how many there are in all.
+/// A put is made through one of two seats, and the other is told of it: the put's number, of how
+/// many puts each seat was told before, of how many the other was told then, and how many there are
+/// in all.
 pub fn one_seat_tells_another<R: Wait>(
     rt: &R,
     alloc: Global,
@@ -56,8 +57,9 @@ fn told_by_another<C: CellName, R: Wait>(
     Ok(format!(in alloc; "{} {told} {before} {learnt} {whole}", put?)?)
 }
 
-/// One of two seats holds version 1, while an expiry through the other drops it: the floor, the fault of a look at that version, how
-/// many rows the one that is held has, and how many puts there are in all.
+/// One of two seats holds version 1, while an expiry through the other drops it: the floor, the
+/// fault of a look at that version, how many rows the one that is held has, and how many puts there
+/// are in all.
 pub fn one_seat_holds_what_expires<R: Wait>(
     rt: &R,
     alloc: Global,

@@ -32,7 +32,7 @@ use Rattle.client_calls.proofs.Streams.{stream_stops, stream_answers, stream_ref
 
 -- ---- one payload
 
--- what was said behind a state, said behind a stream of that state
+-- what was said after a state, said after a stream of that state
 said_of_stream : (stream : StreamAt) (before : State) (payload : Payload) (found : Fault) → stream.state ≡ before → payload_news before payload ≡ Err found → after_payload stream payload ≡ Err found
 said_of_stream stream before payload found is e = rw (is, e) refl
 
@@ -231,7 +231,7 @@ valid_known (Some schema) state known is value valid =
     let one : schema.now ≡ known.schema = cc in
     subst IsSchema one valid
 
--- so a batch behind it has few columns
+-- so a batch after it has few columns
 few_columns : (before after : State) (known : Known) (batch : Option BatchAt) → before ≡ Some known → IsSchema known.schema → KeepsSchema before after → HasColumns batch after
     → IfSome batch (λ b. length b.columns ≤ most_columns)
 few_columns before after known None is valid kept has = tt

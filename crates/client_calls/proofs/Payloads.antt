@@ -14,7 +14,7 @@ use Rattle.client_calls.specs.declared.putting.Target.{Target}
 use Rattle.client_calls.specs.Commands.{put_descriptor, put_payloads, carried_in}
 use Rattle.client_calls.specs.inside.Heads.{put_command_bytes, first_payload}
 
--- a head and the body behind it
+-- a head and the body after it
 pub head_and_body : (front head header body : List ℕ) → head ≡ front ++ data_head header (length body)
     → head ++ body ≡ front ++ data_bytes None (record { data_header = header; data_body = body })
 head_and_body front head header body is =
@@ -22,14 +22,14 @@ head_and_body front head header body is =
     ∙ append_assoc front (data_head header (length body)) body
     ∙ ap (λ (l : List ℕ). front ++ l) (sym (bodies_follow_heads (record { data_header = header; data_body = body })))
 
--- a descriptor, and what is carried behind it
+-- a descriptor, and what is carried after it
 behind_descriptor : (descriptor : DescriptorSaid) (carried : DataSaid)
     → data_bytes (Some descriptor) (record { data_header = []; data_body = [] }) ++ data_bytes None carried ≡ data_bytes (Some descriptor) carried
 behind_descriptor descriptor carried =
     ap (λ (l : List ℕ). l ++ spelled (set_fields (chunk_entry 2 carried.data_header ∷ chunk_entry 1000 carried.data_body ∷ [])))
     (append-nil (spelling (chunk_entry 1 (descriptor_bytes descriptor))))
 
--- the messages of the stream behind the first
+-- the messages of the stream after the first
 abbrev pub later_payloads : List IpcMessage → List Payload
 later_payloads messages = map (λ message. data_bytes None (carried_in message)) messages
 

@@ -38,7 +38,7 @@ parts_sent r a b c before mid after head body payload len long is front behind =
 abbrev pub messages_bytes : List Payload → List ℕ
 messages_bytes messages = flat_map spelling (map Message messages)
 
--- the Open, and these messages behind it
+-- the Open, and these messages after it
 abbrev pub front_bytes : Method → List Payload → List ℕ
 front_bytes method messages = spelling (Open (path_of method)) ++ messages_bytes messages
 
@@ -75,7 +75,7 @@ message_sent a b c before mid after method messages i message inside is sent mor
         ∙ ap (λ l. spelling (Open (path_of method)) ++ l) (bytes_more (take i messages) message)
         ∙ sym (append_assoc (spelling (Open (path_of method))) (messages_bytes (take i messages)) (spelling (Message message)))
 
--- what stands behind a message
+-- what stands after a message
 abbrev behind_bytes : List Payload → ℕ → List ℕ
 behind_bytes messages i = flat_map spelling (map Message (drop (i + 1) messages) ++ End ∷ [])
 

@@ -37,7 +37,7 @@ fronts_then all left records more p = record {
   place = p.place;
 }
 
--- others behind them
+-- others after them
 pub fronts_both : (all mid left : Received) (records others : List Record) → Fronts records all mid → Fronts others mid left → Fronts (records ++ others) all left
 fronts_both all mid left records others p q = record {
   whole = p.whole ∙ ap (λ (b : List ℕ). flat_map spelling records ++ b) q.whole

@@ -1,5 +1,6 @@
 -- What comes for a call.
-use Rattle.std.specs.Prelude.{◌≡◌, ◌≢◌, ◌⊎◌, ℕ, ◌+◌, List, [], ◌∷◌, ◌++◌, map, All, Some, Result, Ok, Err}
+use Rattle.std.specs.Prelude.{◌≡◌, ◌≢◌, ◌⊎◌, ℕ, ◌+◌, List, [], ◌∷◌, ◌++◌, map, All, Some, Result}
+use Rattle.std.specs.Prelude.{Ok, Err}
 use Rattle.std.specs.List.{flat_map}
 use Rattle.std.specs.Io.KnownBytes.{IsAtEnd}
 use Rattle.scan_base.specs.declared.fault.Fault.{Fault}
@@ -32,11 +33,12 @@ pub record Stop : Type 0 where
   pub fault : Fault
   pub at : Received
 
--- nothing more is read behind this fault, which was met here
+-- nothing more is read after this fault, which was met here
 abbrev pub stopped_at : Fault → Received → Result Received Stop
 stopped_at fault at = Err (record { fault = fault; at = at })
 
--- the end that is read: its tape, how many reads failed, and what came and is not taken yet, or why a call stopped
+-- the end that is read: its tape, how many reads failed, and what came and is not taken yet, or why
+-- a call stopped
 pub record Incoming : Type 0 where
   pub input : Tape
   pub failed : ℕ
@@ -50,21 +52,25 @@ Quiet old new = new.failed ≡ old.failed
 abbrev pub NoMore : Incoming → Incoming → Type 0
 NoMore old new = (new.failed ≡ old.failed + 1) ⊎ (IsAtEnd new.input.left × Quiet old new)
 
--- what came is the answer of these messages and this status, and what stands behind it is left
-pub record IsAnswer (messages : List Payload) (code : ℕ) (text : List ℕ) (old new : Incoming) (all : Received) : Type 0 where
+-- what came is the answer of these messages and this status, and what stands after it is left
+pub record IsAnswer (messages : List Payload) (code : ℕ) (text : List ℕ) (old new : Incoming)
+    (all : Received) : Type 0 where
   pub left : Received
   pub fronts : Fronts (answer_records messages code text) all left
   pub is_left : new.left ≡ Ok left
   pub quiet : Quiet old new
 
--- why no record is taken from here: no more comes, and it is cut; or it is faulty; or memory was refused, and it is not
+-- why no record is taken from here: no more comes, and it is cut; or it is faulty; or memory was
+-- refused, and it is not
 abbrev pub Halts : Fault → Received → Incoming → Incoming → Type 0
 Halts fault at old new =
     ((fault ≡ Transport) × IsCut at × NoMore old new)
     ⊎ ((Breaks at fault ⊎ ((fault ≡ OutOfMemory) × IsSound at)) × Quiet old new)
 
--- an answer did not come to its Status: these messages stand in front, and behind them the connection has stopped
-pub record StopsBehind (messages : List Payload) (fault : Fault) (old new : Incoming) (all : Received) : Type 0 where
+-- an answer did not come to its Status: these messages stand in front, and after them the
+-- connection has stopped
+pub record StopsBehind (messages : List Payload) (fault : Fault) (old new : Incoming)
+    (all : Received) : Type 0 where
   pub at : Received
   pub fronts : Fronts (map Message messages) all at
   pub stopped : new.left ≡ stopped_at fault at
@@ -86,21 +92,26 @@ IsNone old new all = (text : List ℕ) × IsAnswer [] 0 text old new all
 abbrev pub IsMore : Incoming → Incoming → Received → Type 0
 IsMore old new all =
     (first : Payload) × (second : Payload) × (at : Received)
-    × Fronts (Message first ∷ Message second ∷ []) all at × (new.left ≡ stopped_at BadProto at) × Quiet old new
+    × Fronts (Message first ∷ Message second ∷ []) all at × (new.left ≡ stopped_at BadProto at)
+    × Quiet old new
 
--- it did not come to its Status, behind one message or none
+-- it did not come to its Status, after one message or none
 abbrev pub Stops : Fault → Incoming → Incoming → Received → Type 0
 Stops fault old new all =
-    StopsBehind [] fault old new all ⊎ ((message : Payload) × StopsBehind (message ∷ []) fault old new all)
+    StopsBehind [] fault old new all
+    ⊎ ((message : Payload) × StopsBehind (message ∷ []) fault old new all)
 
 -- the answer is this one message and status 0
 abbrev pub IsOne : Payload → Incoming → Incoming → Received → Type 0
 IsOne message old new all = (text : List ℕ) × IsAnswer (message ∷ []) 0 text old new all
 
--- What reading the one message of an answer gives, by `Reads`; else the server's fault; or one of this end: the answer did
--- not come to its end, is not one message (F4), or its message does not read.
-abbrev pub AnswersOne : {A : Type 0} → (Result A Fault → Payload → Type 0) → Result A Failure → Incoming → Incoming → Received → Type 0
-AnswersOne Reads (Ok x) old new all = (message : Payload) × IsOne message old new all × Reads (Ok x) message
+-- What reading the one message of an answer gives, by `Reads`; else the server's fault; or one of
+-- this end: the answer did not come to its end, is not one message (F4), or its message does not
+-- read.
+abbrev pub AnswersOne : {A : Type 0} → (Result A Fault → Payload → Type 0) → Result A Failure →
+    Incoming → Incoming → Received → Type 0
+AnswersOne Reads (Ok x) old new all =
+    (message : Payload) × IsOne message old new all × Reads (Ok x) message
 AnswersOne Reads (Err (Answered fault)) old new all = IsAnswered fault old new all
 AnswersOne Reads (Err (Found fault)) old new all =
     Stops fault old new all
@@ -117,18 +128,20 @@ pub record IsStream (stream : StreamAt) (old new : Incoming) (all : Received) : 
   pub came : Came payloads stream
   pub ended : stream.end ≡ Some (Ok tt)
 
--- the answer did not come to its Status, behind payloads that came to a stream
+-- the answer did not come to its Status, after payloads that came to a stream
 abbrev pub StopsStream : Fault → Incoming → Incoming → Received → Type 0
 StopsStream fault old new all =
-    (payloads : List Payload) × (stream : StreamAt) × Came payloads stream × StopsBehind payloads fault old new all
+    (payloads : List Payload) × (stream : StreamAt) × Came payloads stream
+    × StopsBehind payloads fault old new all
 
--- what is answered for a fault that was met here: for want of memory the fault of a faulty record, if one stands here
+-- what is answered for a fault that was met here: for want of memory the fault of a faulty record,
+-- if one stands here
 abbrev pub Stands : Received → Fault → Fault → Type 0
 Stands at OutOfMemory fault = Breaks at fault ⊎ ((fault ≡ OutOfMemory) × IsSound at)
 Stands at found fault = fault ≡ found
 
--- the last of the payloads in front is refused, for want of memory only if a glance at it refuses nothing: this fault is
--- answered
+-- the last of the payloads in front is refused, for want of memory only if a glance at it refuses
+-- nothing: this fault is answered
 pub record IsRefused (fault : Fault) (old new : Incoming) (all : Received) : Type 0 where
   pub payloads : List Payload
   pub last : Payload
@@ -143,8 +156,10 @@ pub record IsRefused (fault : Fault) (old new : Incoming) (all : Received) : Typ
   pub stopped : new.left ≡ stopped_at fault at
   pub quiet : Quiet old new
 
--- the stream of an answer; or the server's fault; or one of this end: the answer did not end, or a payload is refused
+-- the stream of an answer; or the server's fault; or one of this end: the answer did not end, or a
+-- payload is refused
 abbrev pub AnswersStream : Result StreamAt Failure → Incoming → Incoming → Received → Type 0
 AnswersStream (Ok stream) old new all = IsStream stream old new all
 AnswersStream (Err (Answered fault)) old new all = IsAnswered fault old new all
-AnswersStream (Err (Found fault)) old new all = StopsStream fault old new all ⊎ IsRefused fault old new all
+AnswersStream (Err (Found fault)) old new all =
+    StopsStream fault old new all ⊎ IsRefused fault old new all

@@ -7,7 +7,8 @@ use Rattle.grpc_frame.specs.declared.record.Record.TheVariants.{Open, Message, E
 use Rattle.grpc_frame.specs.Records.{spelling}
 use Rattle.flight_info.specs.Payloads.{Payload}
 use Rattle.client_calls.specs.declared.call.Method.{Method}
-use Rattle.client_calls.specs.declared.call.Method.TheVariants.{DoPut, GetFlightInfo, DoGet, DoAction}
+use Rattle.client_calls.specs.declared.call.Method.TheVariants.{DoPut, GetFlightInfo, DoGet}
+use Rattle.client_calls.specs.declared.call.Method.TheVariants.{DoAction}
 
 -- the service's part of a path
 abbrev pub service : List ℕ

@@ -1,5 +1,6 @@
 -- The messages of the calls that are made.
-use Rattle.std.specs.Prelude.{ℕ, ℤ, pos, negsuc, List, [], ◌∷◌, map, false, Some, None, Result, Ok, Err}
+use Rattle.std.specs.Prelude.{ℕ, ℤ, pos, negsuc, List, [], ◌∷◌, map, false, Some, None, Result, Ok}
+use Rattle.std.specs.Prelude.{Err}
 use Rattle.scan_base.specs.declared.fault.Fault.{Fault}
 use Rattle.scan_base.specs.declared.fault.Fault.TheVariants.{BadProto}
 use Rattle.scan_base.specs.declared.put_options.PutMode.{PutMode}
@@ -20,8 +21,8 @@ use Rattle.client_calls.specs.declared.putting.Target.{Target}
 
 -- ---- a put
 
--- What is done where the table is absent, where 1 is CREATE and 2 is FAIL, and where it is there, where 1 is FAIL, 2 is
--- APPEND and 3 is REPLACE.
+-- What is done where the table is absent, where 1 is CREATE and 2 is FAIL, and where it is there,
+-- where 1 is FAIL, 2 is APPEND and 3 is REPLACE.
 abbrev pub options_of_mode : PutMode → OptionsSaid
 options_of_mode Create = record { if_not_exist = 1; if_exists = 1 }
 options_of_mode Append = record { if_not_exist = 2; if_exists = 2 }
@@ -41,22 +42,28 @@ ingest_command table mode = record {
 -- the Any of the command
 abbrev pub ingest_any : List ℕ → PutMode → AnySaid
 ingest_any table mode =
-    record { type_url = type_url_of statement_ingest_name; value = statement_bytes (ingest_command table mode) }
+    record {
+      type_url = type_url_of statement_ingest_name;
+      value = statement_bytes (ingest_command table mode);
+    }
 
 -- the descriptor of a put: its type is CMD
 abbrev pub put_descriptor : Target → DescriptorSaid
-put_descriptor target = record { descriptor_type = 2; cmd = any_bytes (ingest_any target.table.now target.mode) }
+put_descriptor target =
+    record { descriptor_type = 2; cmd = any_bytes (ingest_any target.table.now target.mode) }
 
 -- what a FlightData carries of a message of a stream
 abbrev pub carried_in : IpcMessage → DataSaid
 carried_in message = record { data_header = message.header; data_body = message.body }
 
--- the messages of a put: a FlightData for each message of the stream, of which the first has the descriptor; where the
--- stream is empty, one with the descriptor alone
+-- the messages of a put: a FlightData for each message of the stream, of which the first has the
+-- descriptor; where the stream is empty, one with the descriptor alone
 abbrev pub put_payloads : Target → List IpcMessage → List Payload
-put_payloads target [] = data_bytes (Some (put_descriptor target)) (record { data_header = []; data_body = [] }) ∷ []
+put_payloads target [] =
+    data_bytes (Some (put_descriptor target)) (record { data_header = []; data_body = [] }) ∷ []
 put_payloads target (first ∷ others) =
-    data_bytes (Some (put_descriptor target)) (carried_in first) ∷ map (λ message. data_bytes None (carried_in message)) others
+    data_bytes (Some (put_descriptor target)) (carried_in first)
+    ∷ map (λ message. data_bytes None (carried_in message)) others
 
 -- ---- what answers a put
 
@@ -86,5 +93,7 @@ abbrev pub endpoints_of : Payload → Result (List EndpointSaid) Fault
 endpoints_of message = info_answered message >>= λ info. Ok info.endpoints
 
 -- reading it gives those, seen by `view`, or its fault; want of memory only of what is a FlightInfo
-abbrev pub ReadsEndpoints : {A : Type 0} → (A → List EndpointSaid) → Result A Fault → Payload → Type 0
-ReadsEndpoints view result message = GivesUnlessMemory view result (endpoints_of message) × RefusesFirst result (info_of message)
+abbrev pub ReadsEndpoints : {A : Type 0} → (A → List EndpointSaid) → Result A Fault →
+    Payload → Type 0
+ReadsEndpoints view result message =
+    GivesUnlessMemory view result (endpoints_of message) × RefusesFirst result (info_of message)

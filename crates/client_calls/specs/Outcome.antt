@@ -2,7 +2,8 @@
 use Rattle.std.specs.Prelude.{◌≡◌, ◌⊎◌, ℕ, ◌+◌, List, Option, Some, None, Result, Ok, Err}
 use Rattle.std.specs.Io.KnownBytes.{Appends}
 use Rattle.scan_base.specs.declared.fault.Fault.{Fault}
-use Rattle.scan_base.specs.declared.fault.Fault.TheVariants.{MessageTooLarge, OutOfMemory, Transport}
+use Rattle.scan_base.specs.declared.fault.Fault.TheVariants.{MessageTooLarge, OutOfMemory}
+use Rattle.scan_base.specs.declared.fault.Fault.TheVariants.{Transport}
 use Rattle.grpc_frame.specs.Records.{Received, with_more}
 use Rattle.grpc_frame.specs.Ends.{Advances, AppendsBeginning}
 use Rattle.flight_info.specs.Payloads.{Payload}
@@ -27,7 +28,7 @@ abbrev pub left_of : Option Fault → Received → Result Received Stop
 left_of None left = Ok left
 left_of (Some fault) left = stopped_at fault left
 
--- the same behind this fault
+-- the same after this fault
 abbrev pub stopped_by : Fault → Result Received Stop → Result Received Stop
 stopped_by fault (Ok left) = stopped_at fault left
 stopped_by fault (Err stop) = Err stop
@@ -48,28 +49,37 @@ pub record IsBegun (method : Method) (messages : List Payload) (old new : Outgoi
 
 -- ---- a call and its answer
 
--- the call was written, and these bytes came behind what was left, which answer it so
-pub record IsCalled (method : Method) (messages : List Payload) (Answers : Incoming → Incoming → Received → Type 0) (left : Received) (old new : Line) : Type 0 where
+-- the call was written, and these bytes came after what was left, which answer it so
+pub record IsCalled (method : Method) (messages : List Payload)
+    (Answers : Incoming → Incoming → Received → Type 0) (left : Received)
+    (old new : Line) : Type 0 where
   pub written : IsWritten method messages old.outgoing new.outgoing
   pub came : List ℕ
   pub consumed : Advances old.incoming.input new.incoming.input came
   pub answers : Answers old.incoming new.incoming (with_more left came)
 
--- why a call was not written: a write failed, and the connection has stopped; or nothing is done, since a message is too
--- long or memory was refused
+-- why a call was not written: a write failed, and the connection has stopped; or nothing is done,
+-- since a message is too long or memory was refused
 abbrev pub WhyNot : Fault → Method → List Payload → Line → Line → Type 0
 WhyNot fault method messages old new =
     ((fault ≡ Transport) × IsBegun method messages old.outgoing new.outgoing
     × (new.incoming ≡ record old.incoming { left = stopped_by Transport old.incoming.left }))
     ⊎ ((((fault ≡ MessageTooLarge) × ¬ Fit messages) ⊎ (fault ≡ OutOfMemory)) × (new ≡ old))
 
--- A call of a method with these messages was made, and the result is what its answer says; or it was not written. Where
--- a call before it stopped, the fault of that one is the result, and nothing is done.
-abbrev pub CallsAt : {A : Type 0} → Result Received Stop → Method → List Payload → (Result A Failure → Incoming → Incoming → Received → Type 0) → Result A Failure → Line → Line → Type 0
+-- A call of a method with these messages was made, and the result is what its answer says; or it
+-- was not written. Where a call before it stopped, the fault of that one is the result, and nothing
+-- is done.
+abbrev pub CallsAt : {A : Type 0} → Result Received Stop → Method → List Payload →
+    (Result A Failure → Incoming → Incoming → Received → Type 0) → Result A Failure → Line →
+    Line → Type 0
 CallsAt (Ok left) method messages Answers result old new =
     IsCalled method messages (Answers result) left old new
     ⊎ ((fault : Fault) × (result ≡ Err (Found fault)) × WhyNot fault method messages old new)
-CallsAt (Err stop) method messages Answers result old new = (result ≡ Err (Found stop.fault)) × (new ≡ old)
+CallsAt (Err stop) method messages Answers result old new =
+    (result ≡ Err (Found stop.fault)) × (new ≡ old)
 
-abbrev pub Calls : {A : Type 0} → Method → List Payload → (Result A Failure → Incoming → Incoming → Received → Type 0) → Result A Failure → Line → Line → Type 0
-Calls method messages Answers result old new = CallsAt old.incoming.left method messages Answers result old new
+abbrev pub Calls : {A : Type 0} → Method → List Payload →
+    (Result A Failure → Incoming → Incoming → Received → Type 0) → Result A Failure → Line →
+    Line → Type 0
+Calls method messages Answers result old new =
+    CallsAt old.incoming.left method messages Answers result old new

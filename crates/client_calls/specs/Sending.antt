@@ -2,7 +2,8 @@
 use Rattle.std.specs.Prelude.{◌≡◌, ◌⊎◌, ℕ, ◌+◌, List, [], ◌∷◌, map, None, Result, Ok, Err}
 use Rattle.std.specs.List.{flat_map}
 use Rattle.scan_base.specs.declared.fault.Fault.{Fault}
-use Rattle.scan_base.specs.declared.fault.Fault.TheVariants.{MessageTooLarge, OutOfMemory, Transport}
+use Rattle.scan_base.specs.declared.fault.Fault.TheVariants.{MessageTooLarge, OutOfMemory}
+use Rattle.scan_base.specs.declared.fault.Fault.TheVariants.{Transport}
 use Rattle.grpc_frame.specs.declared.record.Record.TheVariants.{Open, Message}
 use Rattle.grpc_frame.specs.Ends.{AppendsBeginning}
 use Rattle.grpc_frame.specs.Records.{spelling, Received}
@@ -27,7 +28,7 @@ pub record PutAt : Type 0 where
 abbrev pub put_at : Line → List ℕ → PutAt
 put_at line waiting = record { line = line; waiting = waiting }
 
--- a message of the stream behind the first, as a put has it
+-- a message of the stream after the first, as a put has it
 abbrev pub later_payload : IpcMessage → Payload
 later_payload message = data_bytes None (carried_in message)
 
@@ -35,36 +36,44 @@ later_payload message = data_bytes None (carried_in message)
 abbrev pub unended_bytes : List Payload → List ℕ
 unended_bytes messages = flat_map spelling (Open (path_of DoPut) ∷ map Message messages)
 
--- a put of these messages was sent, without its End: it is written, but for what waits, and nothing was read
+-- a put of these messages was sent, without its End: it is written, but for what waits, and nothing
+-- was read
 pub record IsPutting (messages : List Payload) (old : Line) (now : PutAt) : Type 0 where
   pub left : Received
   pub is_open : old.incoming.left ≡ Ok left
   pub fit : Fit messages
-  pub sent : Sent old.outgoing.output now.line.outgoing.output [] now.waiting (unended_bytes messages)
+  pub sent : Sent old.outgoing.output now.line.outgoing.output [] now.waiting
+      (unended_bytes messages)
   pub quiet : now.line.outgoing.failed ≡ old.outgoing.failed
   pub unread : now.line.incoming ≡ old.incoming
 
--- A put of these messages was cut short by a fault: a beginning of it is written, without its End, or nothing. Nothing was read,
--- and the connection has stopped.
+-- A put of these messages was cut short by a fault: a beginning of it is written, without its End,
+-- or nothing. Nothing was read, and the connection has stopped.
 pub record IsCutShort (fault : Fault) (messages : List Payload) (old new : Line) : Type 0 where
   pub wrote : AppendsBeginning old.outgoing.output new.outgoing.output (unended_bytes messages)
   pub stopped : new.incoming ≡ record old.incoming { left = stopped_by fault old.incoming.left }
 
--- why: a write failed and was counted (F22); or a message is too long (F2), memory was refused (F21), or a call before had stopped
+-- why: a write failed and was counted (F22); or a message is too long (F2), memory was refused
+-- (F21), or a call before had stopped
 abbrev pub WhyCut : Fault → List Payload → Line → Line → Type 0
 WhyCut fault messages old new =
     ((fault ≡ Transport) × (new.outgoing.failed ≡ old.outgoing.failed + 1))
-    ⊎ ((((fault ≡ MessageTooLarge) × ¬ Fit messages) ⊎ ((fault ≡ OutOfMemory) ⊎ ((stop : Stop) × (old.incoming.left ≡ Err stop) × (fault ≡ stop.fault))))
+    ⊎ ((((fault ≡ MessageTooLarge) × ¬ Fit messages) ⊎ ((fault ≡ OutOfMemory)
+    ⊎ ((stop : Stop) × (old.incoming.left ≡ Err stop) × (fault ≡ stop.fault))))
     × (new.outgoing.failed ≡ old.outgoing.failed))
 
 -- a put failed while these messages were sent
 abbrev pub FailsPut : Failure → List Payload → Line → Line → Type 0
-FailsPut failure messages old new = (fault : Fault) × (failure ≡ Found fault) × WhyCut fault messages old new × IsCutShort fault messages old new
+FailsPut failure messages old new = (fault : Fault) × (failure ≡ Found fault)
+    × WhyCut fault messages old new × IsCutShort fault messages old new
 
 -- a put was begun, seen by `view`: the first message of its stream was sent; or it failed
-abbrev pub BeginsPut : {A : Type 0} → (A → PutAt) → Target → IpcMessage → Result A Failure → Line → Type 0
-BeginsPut view target first (Ok putting) old = IsPutting (put_payloads target (first ∷ [])) old (view putting)
-BeginsPut view target first (Err failure) old = (new : Line) × FailsPut failure (put_payloads target (first ∷ [])) old new
+abbrev pub BeginsPut : {A : Type 0} → (A → PutAt) → Target → IpcMessage → Result A Failure →
+    Line → Type 0
+BeginsPut view target first (Ok putting) old =
+    IsPutting (put_payloads target (first ∷ [])) old (view putting)
+BeginsPut view target first (Err failure) old =
+    (new : Line) × FailsPut failure (put_payloads target (first ∷ [])) old new
 
 -- a put of these messages was sent so far, or it failed
 abbrev pub SendsPut : Result (Unit {0}) Failure → List Payload → Line → PutAt → Type 0

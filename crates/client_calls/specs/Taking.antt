@@ -1,5 +1,6 @@
 -- The answer of a fetch while it is taken, payload by payload.
-use Rattle.std.specs.Prelude.{◌≡◌, ◌⊎◌, ℕ, List, [], ◌∷◌, ◌++◌, map, Option, Some, None, Result, Ok, Err}
+use Rattle.std.specs.Prelude.{◌≡◌, ◌⊎◌, ℕ, List, [], ◌∷◌, ◌++◌, map, Option, Some, None, Result, Ok}
+use Rattle.std.specs.Prelude.{Err}
 use Rattle.scan_base.specs.declared.fault.Fault.TheVariants.{BadBatch}
 use Rattle.arrays.specs.Batch.{BatchAt, rows_of}
 use Rattle.grpc_frame.specs.Ends.{Advances, Tape}
@@ -14,7 +15,8 @@ use Rattle.client_calls.specs.declared.failure.Failure.TheVariants.{Found}
 use Rattle.client_calls.specs.Answers.{AnswersStream, Fronts, Quiet}
 use Rattle.client_calls.specs.Outcome.{Calls, IsWritten, Line}
 
--- a fetch whose answer is being taken: its connection, what the payloads so far leave behind, and how much can come yet
+-- a fetch whose answer is being taken: its connection, what the payloads so far leave after, and
+-- how much can come yet
 pub record FetchAt : Type 0 where
   pub line : Line
   pub state : State
@@ -38,7 +40,8 @@ pub record IsTaken (ticket : Payload) (payloads : List Payload) (old new : Line)
 
 -- a stream is being fetched: the payloads that were taken of its answer came to it
 abbrev pub IsFetching : Payload → StreamAt → Line → Line → Type 0
-IsFetching ticket stream old new = (payloads : List Payload) × Came payloads stream × IsTaken ticket payloads old new
+IsFetching ticket stream old new =
+    (payloads : List Payload) × Came payloads stream × IsTaken ticket payloads old new
 
 -- what a whole fetch gives: the stream, or a failure
 abbrev pub FetchGives : Payload → Result StreamAt Failure → Line → Line → Type 0
@@ -48,10 +51,11 @@ FetchGives ticket result old new = Calls DoGet (ticket ∷ []) AnswersStream res
 abbrev pub ended : StreamAt → StreamAt
 ended stream = record stream { end = Some (Ok tt) }
 
--- a stream as it is left behind one more batch, or behind no batch
+-- a stream as it is left after one more batch, or after no batch
 abbrev pub with_batch : StreamAt → State → Option BatchAt → StreamAt
 with_batch stream state None = record stream { state = state }
-with_batch stream state (Some batch) = record stream { state = state; rows = stream.rows ++ rows_of batch }
+with_batch stream state (Some batch) =
+    record stream { state = state; rows = stream.rows ++ rows_of batch }
 
 -- a schema that came is kept
 abbrev pub KeepsSchema : State → State → Type 0
@@ -59,9 +63,12 @@ KeepsSchema None new = Unit {0}
 KeepsSchema (Some known) new = (after : Known) × (new ≡ Some after) × (after.schema ≡ known.schema)
 
 -- What comes next of a stream that is being fetched: a batch; or its end; or the fetch failed.
-abbrev pub TakesNext : Payload → StreamAt → Line → Result (Option BatchAt) Failure → State → Line → Type 0
-TakesNext ticket stream old (Ok (Some batch)) state new = IsFetching ticket (with_batch stream state (Some batch)) old new
-TakesNext ticket stream old (Ok None) state new = FetchGives ticket (Ok (ended (with_batch stream state None))) old new
+abbrev pub TakesNext : Payload → StreamAt → Line → Result (Option BatchAt) Failure → State →
+    Line → Type 0
+TakesNext ticket stream old (Ok (Some batch)) state new =
+    IsFetching ticket (with_batch stream state (Some batch)) old new
+TakesNext ticket stream old (Ok None) state new =
+    FetchGives ticket (Ok (ended (with_batch stream state None))) old new
 TakesNext ticket stream old (Err failure) state new = FetchGives ticket (Err failure) old new
 
 -- the first payload of a stream came: its schema, and no row
@@ -82,6 +89,7 @@ pub record HasNoSchema (ticket : Payload) (failure : Failure) (old new : Line) :
 
 -- a fetch was begun, seen by `view`; or it failed, or its stream ended without a schema
 abbrev pub BeginsFetch : {A : Type 0} → (A → FetchAt) → Payload → Result A Failure → Line → Type 0
-BeginsFetch view ticket (Ok fetching) old = IsBegun ticket (view fetching).state old (view fetching).line
+BeginsFetch view ticket (Ok fetching) old =
+    IsBegun ticket (view fetching).state old (view fetching).line
 BeginsFetch view ticket (Err failure) old =
     (new : Line) × (FetchGives ticket (Err failure) old new ⊎ HasNoSchema ticket failure old new)

@@ -67,7 +67,8 @@ pub(crate) fn next_arrival<R: Input>(inbox: &mut Inbox, reader: &mut R) -> Resul
 /// - F1 (`Fault::BadFrame`) and F2 (`Fault::MessageTooLarge`) where a record is faulty.
 /// - F4 (`Fault::BadProto`) where a second message came.
 /// - F21 (`Fault::OutOfMemory`) where memory is refused, and the record at hand is not faulty.
-/// - F22 (`Fault::Transport`) where a read failed, which is counted, or the input ended inside the answer.
+/// - F22 (`Fault::Transport`) where a read failed, which is counted, or the input ended inside the
+///   answer.
 pub(crate) fn read_one<R: Input>(
     inbox: &mut Inbox,
     reader: &mut R,
@@ -94,7 +95,8 @@ pub(crate) fn read_one<R: Input>(
     }
 }
 
-/// Why an answer is not read on where a payload is refused by this fault: want of memory gives way to a faulty record.
+/// Why an answer is not read on where a payload is refused by this fault: want of memory gives way
+/// to a faulty record.
 pub(crate) fn refusal_of(inbox: &Inbox, fault: Fault) -> Fault
     ensures { Stands inbox.now fault result }
 {
@@ -110,8 +112,8 @@ pub(crate) fn refusal_of(inbox: &Inbox, fault: Fault) -> Fault
 ///
 /// Why the answer did not come to its Status:
 /// - F1, F2, F21 and F22 as `read_one` gives them.
-/// - The fault of a payload, as `Stream::message` gives it (F4, F6, F7, F8, F12 or F21). For F21 stands the fault of the
-///   record behind it, where that is faulty.
+/// - The fault of a payload, as `Stream::message` gives it (F4, F6, F7, F8, F12 or F21). For F21
+///   stands the fault of the record after it, where that is faulty.
 pub(crate) fn read_stream<R: Input>(
     alloc: Global,
     inbox: &mut Inbox,

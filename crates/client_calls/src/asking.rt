@@ -39,19 +39,23 @@ fn read_endpoints(alloc: Global, message: &[u8]) -> Result<Vec<FlightEndpoint>, 
     Ok(info.endpoints)
 }
 
-/// Asks where what is wanted is fetched: the endpoints, of which there is one or more, in the order in which their streams
-/// are joined.
+/// Asks where what is wanted is fetched: the endpoints, of which there is one or more, in the order
+/// in which their streams are joined.
 ///
 /// # Errors
 ///
 /// `Failure::Answered` with the server's fault. `Failure::Found`:
-/// - F1 (`Fault::BadFrame`) and F2 (`Fault::MessageTooLarge`) where a record of the answer is faulty.
-/// - F2 where the message of the call would have more than 16,777,216 bytes. Nothing is written then.
+/// - F1 (`Fault::BadFrame`) and F2 (`Fault::MessageTooLarge`) where a record of the answer is
+///   faulty.
+/// - F2 where the message of the call would have more than 16,777,216 bytes. Nothing is written
+///   then.
 /// - F4 (`Fault::BadProto`) where the answer is not one FlightInfo with an endpoint.
-/// - F21 (`Fault::OutOfMemory`) where memory is refused, the record at hand is not faulty, and what is read is a FlightInfo.
-/// - F22 (`Fault::Transport`) where a read or a write failed, which is counted, or the input ended inside the answer.
+/// - F21 (`Fault::OutOfMemory`) where memory is refused, the record at hand is not faulty, and what
+///   is read is a FlightInfo.
+/// - F22 (`Fault::Transport`) where a read or a write failed, which is counted, or the input ended
+///   inside the answer.
 ///
-/// Behind a fault of this end the connection may have stopped.
+/// After a fault of this end the connection may have stopped.
 pub fn info<R: Input, W: Output>(
     alloc: Global,
     connection: &mut Connection<R, W>,

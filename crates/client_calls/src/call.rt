@@ -1,6 +1,7 @@
 //! Writing a call.
 
-ghost use Rattle.std.specs.Prelude.{◌≡◌, ◌<◌, ◌≤◌, ◌++◌, [], ℕ, List, Option, length, true, false, Result};
+ghost use Rattle.std.specs.Prelude.{◌≡◌, ◌<◌, ◌≤◌, ◌++◌, [], ℕ, List, Option, length, true, false};
+ghost use Rattle.std.specs.Prelude.{Result};
 ghost use Rattle.scan_base.specs.Limits.{most_path_bytes};
 ghost use Rattle.grpc_frame.specs.declared.record.Record.TheVariants.{Open, Message, End};
 ghost use Rattle.grpc_frame.specs.Records.{spelling};
@@ -56,7 +57,8 @@ impl Method {
     }
 }
 
-/// A message of a call: a head that is made for it, and a body, which is not copied. A contract sees its bytes.
+/// A message of a call: a head that is made for it, and a body, which is not copied. A contract
+/// sees its bytes.
 #[derive(Drop)]
 pub(crate) struct Payload {
     pub head: Vec<u8>,
@@ -175,7 +177,8 @@ pub(crate) fn begin_call<W: Output>(
 /// Sends the End of a call, and writes what waits.
 pub(crate) fn end_call<W: Output>(outbox: &mut Outbox, writer: &mut W) -> Result<(), Fault>
     requires { CanFail (W.failures writer.old) }
-    ensures bytes { (start : Option (List ℕ)) (bytes : List ℕ) → Sent start (W.contents writer.old) [] outbox.old bytes →
+    ensures bytes { (start : Option (List ℕ)) (bytes : List ℕ) →
+        Sent start (W.contents writer.old) [] outbox.old bytes →
         Writes result start (W.contents writer.new) (bytes ++ spelling End) }
     ensures counted { CountsFailure result (W.failures writer.old) (W.failures writer.new) }
     ensures kind { FailsByTransport result }
@@ -188,8 +191,10 @@ pub(crate) fn end_call<W: Output>(outbox: &mut Outbox, writer: &mut W) -> Result
 ///
 /// # Errors
 ///
-/// - F2 (`Fault::MessageTooLarge`) where a message has more than `MAX_MESSAGE_LEN` bytes. Nothing is written then.
-/// - F22 (`Fault::Transport`) where a write failed. It is counted, and a beginning of the call is written.
+/// - F2 (`Fault::MessageTooLarge`) where a message has more than `MAX_MESSAGE_LEN` bytes. Nothing
+///   is written then.
+/// - F22 (`Fault::Transport`) where a write failed. It is counted, and a beginning of the call is
+///   written.
 pub(crate) fn write_call<W: Output>(
     alloc: Global,
     writer: &mut W,

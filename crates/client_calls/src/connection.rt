@@ -1,6 +1,7 @@
 //! A client's connection.
 
-ghost use Rattle.std.specs.Prelude.{◌≡◌, ◌≢◌, ◌≤◌, ◌++◌, [], List, Some, None, Ok, OnOk, MatchResult, length};
+ghost use Rattle.std.specs.Prelude.{◌≡◌, ◌≢◌, ◌≤◌, ◌++◌, [], List, Some, None, Ok, OnOk};
+ghost use Rattle.std.specs.Prelude.{MatchResult, length};
 ghost use Rattle.grpc_frame.specs.Ends.{CanFail};
 ghost use Rattle.scan_base.specs.declared.fault.Fault.TheVariants.{Transport};
 ghost use Rattle.grpc_frame.specs.declared.place.Place.TheVariants.{InAnswer};
@@ -12,7 +13,8 @@ ghost use Rattle.client_calls.specs.Answers.{AnswersOne, AnswersStream};
 ghost use Rattle.client_calls.specs.Calls.{path_of};
 ghost use Rattle.client_calls.specs.Outcome.{Calls, Line};
 ghost use Rattle.client_calls.specs.Sending.{IsPutting, put_at};
-ghost use Rattle.client_calls.specs.inside.Parts.{IsOpen, HasStopped, SendsCall, SendsPart, StopsAt, Receives, line_of, outgoing_of};
+ghost use Rattle.client_calls.specs.inside.Parts.{IsOpen, HasStopped, SendsCall, SendsPart};
+ghost use Rattle.client_calls.specs.inside.Parts.{StopsAt, Receives, line_of, outgoing_of};
 
 use crate::answer::{read_one, read_stream};
 use crate::call::{Method, Payload, begin_call, end_call, send_payload, write_call};
@@ -24,11 +26,11 @@ use scan_base::Fault;
 use std::alloc::Global;
 use std::marker::Model;
 
-/// A client's connection: what it reads from, what it writes to, and what came and is not taken yet. A contract sees a
-/// `Line`.
+/// A client's connection: what it reads from, what it writes to, and what came and is not taken
+/// yet. A contract sees a `Line`.
 ///
-/// Where a write of a call failed, or its answer did not come to its Status, the connection has stopped: each further call
-/// gives the same fault, and does nothing.
+/// Where a write of a call failed, or its answer did not come to its Status, the connection has
+/// stopped: each further call gives the same fault, and does nothing.
 pub struct Connection<R: Input, W: Output> {
     pub(crate) inbox: Inbox,
     pub(crate) reader: R,
@@ -178,7 +180,8 @@ impl<R: Input, W: Output> Connection<R, W> {
         requires writes { CanFail (self.old.outgoing.failed) }
         requires is_open { IsOpen self.old }
         requires short { length message.now ≤ 16777216 }
-        ensures { SendsPart result (spelling (Open (path_of method)) ++ spelling (Message message.now))
+        ensures { SendsPart result
+            (spelling (Open (path_of method)) ++ spelling (Message message.now))
             self.old self.new outbox.old outbox.new }
     {
         match begin_call(outbox, &mut self.writer, method, message) {
@@ -199,7 +202,8 @@ impl<R: Input, W: Output> Connection<R, W> {
         requires writes { CanFail (self.old.outgoing.failed) }
         requires is_open { IsOpen self.old }
         requires short { length message.now ≤ 16777216 }
-        ensures { SendsPart result (spelling (Message message.now)) self.old self.new outbox.old outbox.new }
+        ensures { SendsPart result
+            (spelling (Message message.now)) self.old self.new outbox.old outbox.new }
     {
         match send_payload(outbox, &mut self.writer, message) {
             Ok(()) => Ok(()),
@@ -214,7 +218,8 @@ impl<R: Input, W: Output> Connection<R, W> {
     pub(crate) fn end_call(&mut self, outbox: &mut Outbox) -> Result<(), Fault>
         requires writes { CanFail (self.old.outgoing.failed) }
         requires is_open { IsOpen self.old }
-        ensures ended { (messages : List PayloadBytes) (begun : Line) → IsPutting messages begun (put_at self.old outbox.old) →
+        ensures ended { (messages : List PayloadBytes) (begun : Line) →
+            IsPutting messages begun (put_at self.old outbox.old) →
             SendsCall result DoPut messages begun self.new }
         ensures unread { OnOk result (self.new.incoming ≡ self.old.incoming) }
     {
@@ -231,7 +236,8 @@ impl<R: Input, W: Output> Connection<R, W> {
     pub(crate) fn receive_one(&mut self) -> Result<Bytes, Failure>
         requires reads { CanFail (self.old.incoming.failed) }
         requires is_open { IsOpen self.old }
-        ensures { Receives (AnswersOne (λ given message. given ≡ Ok message) result) self.old self.new }
+        ensures { Receives (AnswersOne (λ given message. given ≡ Ok message) result)
+            self.old self.new }
     {
         match read_one(&mut self.inbox, &mut self.reader) {
             Ok(answer) => answer,

@@ -28,17 +28,21 @@ fn expiry_payload(alloc: Global, version: u64) -> Result<[Payload; 1], AllocErro
     }])
 }
 
-/// Asks that the versions below a number are expired, and gives the floor: no version below it is fetched from then on.
+/// Asks that the versions below a number are expired, and gives the floor: no version below it is
+/// fetched from then on.
 ///
 /// # Errors
 ///
 /// `Failure::Answered` with the server's fault. `Failure::Found`:
-/// - F1 (`Fault::BadFrame`) and F2 (`Fault::MessageTooLarge`) where a record of the answer is faulty.
+/// - F1 (`Fault::BadFrame`) and F2 (`Fault::MessageTooLarge`) where a record of the answer is
+///   faulty.
 /// - F4 (`Fault::BadProto`) where the answer is not one Result of eight bytes.
-/// - F21 (`Fault::OutOfMemory`) where memory is refused, and the record at hand is not faulty: a floor takes none.
-/// - F22 (`Fault::Transport`) where a read or a write failed, which is counted, or the input ended inside the answer.
+/// - F21 (`Fault::OutOfMemory`) where memory is refused, and the record at hand is not faulty: a
+///   floor takes none.
+/// - F22 (`Fault::Transport`) where a read or a write failed, which is counted, or the input ended
+///   inside the answer.
 ///
-/// Behind a fault of this end the connection may have stopped.
+/// After a fault of this end the connection may have stopped.
 pub fn expire<R: Input, W: Output>(
     alloc: Global,
     connection: &mut Connection<R, W>,

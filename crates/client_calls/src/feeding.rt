@@ -7,7 +7,8 @@ ghost use Rattle.client_calls.specs.declared.call.Method.TheVariants.{DoPut};
 ghost use Rattle.client_calls.specs.Answers.{AnswersOne};
 ghost use Rattle.client_calls.specs.Commands.{put_payloads, ReadsCount};
 ghost use Rattle.client_calls.specs.Outcome.{Calls, Line};
-ghost use Rattle.client_calls.specs.Sending.{BeginsPut, FailsPut, IsPutting, SendsPut, later_payload, put_at};
+ghost use Rattle.client_calls.specs.Sending.{BeginsPut, FailsPut, IsPutting, SendsPut};
+ghost use Rattle.client_calls.specs.Sending.{later_payload, put_at};
 
 use crate::call::Method;
 use crate::connection::Connection;
@@ -18,10 +19,12 @@ use ipc_stream::IpcMessage;
 use std::alloc::Global;
 use std::marker::Model;
 
-/// A put that is sent message by message, so that memory holds one message at a time. A contract sees a `PutAt`.
+/// A put that is sent message by message, so that memory holds one message at a time. A contract
+/// sees a `PutAt`.
 ///
-/// It has the connection until its End is sent: so no other call is made before. What comes of it meanwhile is read then. Where
-/// it is dropped before, its End is never sent, and the server puts nothing.
+/// It has the connection until its End is sent: so no other call is made before. What comes of it
+/// meanwhile is read then. Where it is dropped before, its End is never sent, and the server puts
+/// nothing.
 pub struct Putting<R: Input, W: Output> {
     connection: Connection<R, W>,
     outbox: Outbox,
@@ -50,7 +53,8 @@ impl<R: Input + Drop, W: Output + Drop> Putting<R, W> {
     ///
     /// # Errors
     ///
-    /// `Failure::Found`, and the connection is closed. At most a beginning of the put is written, without its End:
+    /// `Failure::Found`, and the connection is closed. At most a beginning of the put is written,
+    /// without its End:
     /// - F2 (`Fault::MessageTooLarge`) where the message would have more than 16,777,216 bytes.
     /// - F21 (`Fault::OutOfMemory`) where memory is refused.
     /// - F22 (`Fault::Transport`) where a write failed, which is counted.
@@ -72,12 +76,14 @@ impl<R: Input + Drop, W: Output + Drop> Putting<R, W> {
     ///
     /// # Errors
     ///
-    /// Those of `begin`. The put is cut short, and its End is never sent: each further call gives the same fault.
+    /// Those of `begin`. The put is cut short, and its End is never sent: each further call gives
+    /// the same fault.
     pub fn send(&mut self, alloc: Global, message: &IpcMessage) -> Result<(), Failure>
         requires { CanFail (self.old.line.outgoing.failed) }
         ensures sent { (messages : List Bytes) (begun : Line) → IsPutting messages begun self.old →
             SendsPut result (messages ++ later_payload message.now ∷ []) begun self.new }
-        ensures quiet { OnOk result (self.new.line.outgoing.failed ≡ self.old.line.outgoing.failed) }
+        ensures quiet { OnOk result
+            (self.new.line.outgoing.failed ≡ self.old.line.outgoing.failed) }
     {
         self.connection.check()?;
         let payload = match later_message(alloc, message) {
@@ -120,8 +126,10 @@ fn begin_put<R: Input, W: Output>(
 ) -> Result<Outbox, Failure>
     requires { CanFail (connection.old.outgoing.failed) }
     ensures { MatchResult result
-        (λ outbox. IsPutting (put_payloads target.entry (message.now ∷ [])) connection.old (put_at connection.new outbox))
-        (λ failure. FailsPut failure (put_payloads target.entry (message.now ∷ [])) connection.old connection.new) }
+        (λ outbox. IsPutting (put_payloads target.entry (message.now ∷ [])) connection.old
+        (put_at connection.new outbox))
+        (λ failure. FailsPut failure
+        (put_payloads target.entry (message.now ∷ [])) connection.old connection.new) }
 {
     connection.check()?;
     match first_message(alloc, target, message) {
@@ -144,7 +152,8 @@ fn end_put<R: Input, W: Output>(
 ) -> Result<u64, Failure>
     requires reads { CanFail (connection.old.incoming.failed) }
     requires writes { CanFail (connection.old.outgoing.failed) }
-    ensures { (messages : List Bytes) (begun : Line) → IsPutting messages begun (put_at connection.old outbox.old) →
+    ensures { (messages : List Bytes) (begun : Line) →
+        IsPutting messages begun (put_at connection.old outbox.old) →
         Calls DoPut messages (AnswersOne ReadsCount) result begun connection.new }
 {
     connection.check()?;

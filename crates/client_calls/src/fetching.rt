@@ -26,19 +26,22 @@ pub(crate) fn ticket_payload(alloc: Global, ticket: &[u8]) -> Result<[Payload; 1
     }])
 }
 
-/// Fetches what a ticket stands for: the bytes of the Ticket, as an endpoint has them. The stream has ended with status 0.
-/// Each payload is read as it comes, and is held once.
+/// Fetches what a ticket stands for: the bytes of the Ticket, as an endpoint has them. The stream
+/// has ended with status 0. Each payload is read as it comes, and is held once.
 ///
 /// # Errors
 ///
 /// `Failure::Answered` with the server's fault. `Failure::Found`:
-/// - F1 (`Fault::BadFrame`) and F2 (`Fault::MessageTooLarge`) where a record of the answer is faulty.
+/// - F1 (`Fault::BadFrame`) and F2 (`Fault::MessageTooLarge`) where a record of the answer is
+///   faulty.
 /// - F2 where the ticket has more than 16,777,216 bytes. Nothing is written then.
 /// - The fault of a payload, as `Stream::message` gives it (F4, F6, F7, F8 or F12).
-/// - F21 (`Fault::OutOfMemory`) where memory is refused, the record at hand is not faulty, and each payload is a FlightData.
-/// - F22 (`Fault::Transport`) where a read or a write failed, which is counted, or the input ended inside the answer.
+/// - F21 (`Fault::OutOfMemory`) where memory is refused, the record at hand is not faulty, and each
+///   payload is a FlightData.
+/// - F22 (`Fault::Transport`) where a read or a write failed, which is counted, or the input ended
+///   inside the answer.
 ///
-/// Behind a fault of this end the connection may have stopped.
+/// After a fault of this end the connection may have stopped.
 pub fn fetch<R: Input, W: Output>(
     alloc: Global,
     connection: &mut Connection<R, W>,

@@ -1,8 +1,8 @@
 //! The calls of a client: what is written for each, and what its answer says.
 //!
-//! `specs/Calls.antt` and `specs/Commands.antt` say what is written, `specs/Answers.antt` what an answer is, and
-//! `specs/Outcome.antt` what became of a call. `specs/Taking.antt` says how a fetch is taken payload by payload,
-//! and `specs/Sending.antt` how a put is sent message by message.
+//! `specs/Calls.antt` and `specs/Commands.antt` say what is written, `specs/Answers.antt` what an
+//! answer is, and `specs/Outcome.antt` what became of a call. `specs/Taking.antt` says how a fetch
+//! is taken payload by payload, and `specs/Sending.antt` how a put is sent message by message.
 #![tactic(auto)]
 
 mod answer;

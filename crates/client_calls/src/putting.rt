@@ -1,13 +1,15 @@
 //! Putting a stream into a table.
 
-ghost use Rattle.std.specs.Prelude.{◌≡◌, ◌≤◌, ◌∷◌, [], ◌++◌, length, map, None, IfOk, OnOk, MatchResult};
+ghost use Rattle.std.specs.Prelude.{◌≡◌, ◌≤◌, ◌∷◌, [], ◌++◌, length, map, None, IfOk, OnOk};
+ghost use Rattle.std.specs.Prelude.{MatchResult};
 ghost use Rattle.scan_base.specs.declared.fault.Fault.TheVariants.{MessageTooLarge};
 ghost use Rattle.grpc_frame.specs.Ends.{CanFail};
 ghost use Rattle.flight_proto.specs.FlightData.{data_bytes};
 ghost use Rattle.flight_proto.specs.StatementIngest.{options_said};
 ghost use Rattle.client_calls.specs.declared.call.Method.TheVariants.{DoPut};
 ghost use Rattle.client_calls.specs.Answers.{AnswersOne};
-ghost use Rattle.client_calls.specs.Commands.{options_of_mode, put_payloads, carried_in, ReadsCount};
+ghost use Rattle.client_calls.specs.Commands.{options_of_mode, put_payloads, carried_in};
+ghost use Rattle.client_calls.specs.Commands.{ReadsCount};
 ghost use Rattle.client_calls.specs.Calls.{Fit};
 ghost use Rattle.client_calls.specs.Outcome.{Calls};
 ghost use Rattle.client_calls.specs.Sending.{later_payload};
@@ -84,7 +86,7 @@ fn command_head(alloc: Global, target: Target<'_>) -> Result<Vec<u8>, AllocError
     Ok(head)
 }
 
-// A FlightData of a message of the stream, behind what is in its head.
+// A FlightData of a message of the stream, after what is in its head.
 #[tactic(auto, using(crate::proofs::Payloads::head_and_body))]
 fn payload_of(head: Vec<u8>, message: &IpcMessage) -> Result<Payload, AllocError>
     ensures { IfOk result (λ payload. payload
@@ -121,7 +123,8 @@ fn append_payloads(
     messages: &[IpcMessage],
 ) -> Result<(), AllocError>
     ensures { OnOk result (payloads.new.items
-        ≡ payloads.old.items ++ map (λ message. data_bytes None (carried_in message)) messages.now) }
+        ≡ payloads.old.items
+        ++ map (λ message. data_bytes None (carried_in message)) messages.now) }
 {
     for message in messages {
         let payload = payload_of(Vec::new(alloc), message)?;
@@ -167,20 +170,22 @@ pub(crate) fn first_message(
     message: &IpcMessage,
 ) -> Result<Payload, Fault>
     ensures { MatchResult result
-        (λ made. (made ∷ [] ≡ put_payloads target.entry (message.now ∷ [])) × (length made ≤ 16777216))
+        (λ made. (made ∷ [] ≡ put_payloads target.entry (message.now ∷ []))
+        × (length made ≤ 16777216))
         (λ fault. IsUnmade fault (put_payloads target.entry (message.now ∷ []))) }
 {
     let head = command_head(alloc, target)?;
     short_payload(payload_of(head, message)?)
 }
 
-/// A message of a put behind the first, which fits a record.
+/// A message of a put after the first, which fits a record.
 ///
 /// # Errors
 ///
 /// `Fault::MessageTooLarge` where it does not, and `Fault::OutOfMemory` where memory is refused.
 pub(crate) fn later_message(alloc: Global, message: &IpcMessage) -> Result<Payload, Fault>
-    ensures { MatchResult result (λ made. (made ≡ later_payload message.now) × (length made ≤ 16777216))
+    ensures { MatchResult result
+        (λ made. (made ≡ later_payload message.now) × (length made ≤ 16777216))
         (λ fault. IsUnmade fault (later_payload message.now ∷ [])) }
 {
     short_payload(payload_of(Vec::new(alloc), message)?)
@@ -197,19 +202,23 @@ pub(crate) fn read_count(message: &[u8]) -> Result<u64, Fault>
     Ok(rows.cast_unsigned())
 }
 
-/// Puts the messages of an IPC stream into a table, and answers how many rows were put. The command stands in the first
-/// message of the call, which holds it alone where the stream has none. Bodies are written as they lie.
+/// Puts the messages of an IPC stream into a table, and answers how many rows were put. The command
+/// stands in the first message of the call, which holds it alone where the stream has none. Bodies
+/// are written as they lie.
 ///
 /// # Errors
 ///
 /// `Failure::Answered` with the server's fault. `Failure::Found`:
-/// - F1 (`Fault::BadFrame`) and F2 (`Fault::MessageTooLarge`) where a record of the answer is faulty.
+/// - F1 (`Fault::BadFrame`) and F2 (`Fault::MessageTooLarge`) where a record of the answer is
+///   faulty.
 /// - F2 where a message of the call would have more than 16,777,216 bytes. Nothing is written then.
 /// - F4 (`Fault::BadProto`) where the answer is not one PutResult of a count.
-/// - F21 (`Fault::OutOfMemory`) where memory is refused, and the record at hand is not faulty: a count takes none.
-/// - F22 (`Fault::Transport`) where a read or a write failed, which is counted, or the input ended inside the answer.
+/// - F21 (`Fault::OutOfMemory`) where memory is refused, and the record at hand is not faulty: a
+///   count takes none.
+/// - F22 (`Fault::Transport`) where a read or a write failed, which is counted, or the input ended
+///   inside the answer.
 ///
-/// Behind a fault of this end the connection may have stopped.
+/// After a fault of this end the connection may have stopped.
 pub fn put<R: Input, W: Output>(
     alloc: Global,
     connection: &mut Connection<R, W>,

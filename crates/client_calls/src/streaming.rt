@@ -1,6 +1,7 @@
 //! Fetching a stream batch by batch.
 
-ghost use Rattle.std.specs.Prelude.{◌≡◌, ◌<◌, ◌≤◌, [], ◌∷◌, Ok, Err, Some, IfOk, IfSome, MatchResult, length};
+ghost use Rattle.std.specs.Prelude.{◌≡◌, ◌<◌, ◌≤◌, [], ◌∷◌, Ok, Err, Some, IfOk, IfSome};
+ghost use Rattle.std.specs.Prelude.{MatchResult, length};
 ghost use Rattle.arrow_schema.specs.Schema.{IsSchema};
 ghost use Rattle.scan_base.specs.Limits.{most_columns};
 ghost use Rattle.grpc_frame.specs.Ends.{CanFail};
@@ -11,7 +12,8 @@ ghost use Rattle.flight_client.specs.Stream.{StreamAt};
 ghost use Rattle.client_calls.specs.declared.call.Method.TheVariants.{DoGet};
 ghost use Rattle.client_calls.specs.Answers.{AnswersStream};
 ghost use Rattle.client_calls.specs.Outcome.{Calls, Line};
-ghost use Rattle.client_calls.specs.Taking.{BeginsFetch, FetchGives, IsFetching, KeepsSchema, TakesNext};
+ghost use Rattle.client_calls.specs.Taking.{BeginsFetch, FetchGives, IsFetching, KeepsSchema};
+ghost use Rattle.client_calls.specs.Taking.{TakesNext};
 ghost use Rattle.client_calls.specs.inside.Parts.{IsOpen, SendsCall};
 
 use crate::call::{Method, Payload};
@@ -27,8 +29,8 @@ use scan_base::Fault;
 use std::alloc::Global;
 use std::marker::Model;
 
-/// A fetch whose answer is taken batch by batch, so that memory holds one payload at a time. The payload of its schema came. A
-/// contract sees a `FetchAt`.
+/// A fetch whose answer is taken batch by batch, so that memory holds one payload at a time. The
+/// payload of its schema came. A contract sees a `FetchAt`.
 ///
 /// It has the connection until its stream has ended: so no other call is made before.
 pub struct Fetching<R: Input, W: Output> {
@@ -76,16 +78,18 @@ impl<R: Input, W: Output> Model for Fetching<R, W> {
       work = work_left (R.turns f.reader) f.inbox;
     } };
 
-    ghost invariant = { λ f. (f.inbox.place ≡ InAnswer) × ((known : Known) × (f.stream ≡ Some known) × IsSchema known.schema) };
+    ghost invariant = { λ f. (f.inbox.place ≡ InAnswer)
+        × ((known : Known) × (f.stream ≡ Some known) × IsSchema known.schema) };
 }
 
 impl<R: Input + Drop, W: Output + Drop> Fetching<R, W> {
-    /// Asks for what a ticket stands for, and takes the first payload of the answer, which says the schema.
+    /// Asks for what a ticket stands for, and takes the first payload of the answer, which says the
+    /// schema.
     ///
     /// # Errors
     ///
-    /// Those of `fetch`, of which the connection is closed; and `Failure::Found` with F8 (`Fault::BadBatch`) where the stream
-    /// ended without a schema.
+    /// Those of `fetch`, of which the connection is closed; and `Failure::Found` with F8
+    /// (`Fault::BadBatch`) where the stream ended without a schema.
     pub fn begin(
         alloc: Global,
         mut connection: Connection<R, W>,
@@ -110,21 +114,22 @@ impl<R: Input + Drop, W: Output + Drop> Fetching<R, W> {
         }
     }
 
-    /// Takes the next batch, or nothing where the stream has ended with status 0. It has a column for each field of the schema,
-    /// of its type.
+    /// Takes the next batch, or nothing where the stream has ended with status 0. It has a column
+    /// for each field of the schema, of its type.
     ///
     /// # Errors
     ///
     /// Those of `fetch`.
     pub fn next(&mut self, alloc: Global) -> Result<Option<Batch>, Failure>
         requires { CanFail (self.old.line.incoming.failed) }
-        ensures next { (ticket : Bytes) (stream : StreamAt) (begun : Line) → stream.state ≡ self.old.state →
-            IsFetching ticket stream begun self.old.line →
+        ensures next { (ticket : Bytes) (stream : StreamAt) (begun : Line) →
+            stream.state ≡ self.old.state → IsFetching ticket stream begun self.old.line →
             TakesNext ticket stream begun result self.new.state self.new.line }
         ensures columns { IfOk result (λ batch. HasColumns batch self.new.state) }
         ensures few { IfOk result (λ batch. IfSome batch (λ b. length b.columns ≤ most_columns)) }
         ensures kept { KeepsSchema self.old.state self.new.state }
-        ensures quiet { IfOk result (λ _. self.new.line.incoming.failed ≡ self.old.line.incoming.failed) }
+        ensures quiet { IfOk result
+            (λ _. self.new.line.incoming.failed ≡ self.old.line.incoming.failed) }
         ensures sends { self.new.line.outgoing ≡ self.old.line.outgoing }
         ensures fewer { IfOk result (λ batch. IfSome batch (λ _. self.new.work < self.old.work)) }
     {
@@ -176,7 +181,8 @@ fn send_fetch<R: Input, W: Output>(
     requires is_open { IsOpen connection.old }
     ensures { MatchResult result
         (λ _. SendsCall (Ok tt) DoGet messages.now connection.old connection.new)
-        (λ failure. Calls DoGet messages.now AnswersStream (Err failure) connection.old connection.new) }
+        (λ failure. Calls DoGet messages.now AnswersStream
+        (Err failure) connection.old connection.new) }
 {
     connection.send(alloc, Method::DoGet, messages)?;
     Ok(())
@@ -190,7 +196,8 @@ fn ask<R: Input, W: Output>(
 ) -> Result<(), Failure>
     requires { CanFail (connection.old.outgoing.failed) }
     ensures { MatchResult result
-        (λ _. IsOpen connection.old × SendsCall (Ok tt) DoGet (ticket.now ∷ []) connection.old connection.new)
+        (λ _. IsOpen connection.old
+        × SendsCall (Ok tt) DoGet (ticket.now ∷ []) connection.old connection.new)
         (λ failure. FetchGives ticket.now (Err failure) connection.old connection.new) }
 {
     connection.check()?;
@@ -205,7 +212,8 @@ fn take_schema<R: Input + Drop, W: Output + Drop>(
 ) -> Result<Fetching<R, W>, Failure>
     requires reads { CanFail (connection.incoming.failed) }
     requires is_open { IsOpen connection }
-    ensures { (ticket : Bytes) (begun : Line) → SendsCall (Ok tt) DoGet (ticket ∷ []) begun connection →
+    ensures { (ticket : Bytes) (begun : Line) →
+        SendsCall (Ok tt) DoGet (ticket ∷ []) begun connection →
         BeginsFetch (λ fetching. fetching) ticket result begun }
 {
     let (mut inbox, mut reader, writer) = connection.into_parts();

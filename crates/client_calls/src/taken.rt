@@ -48,7 +48,8 @@ pub(crate) fn take_payload<R: Input>(
         (incoming_of (R.tape reader.new) (R.failures reader.new) (Ok inbox.new))
         (with_more inbox.old came) inbox.new }
     ensures place { inbox.new.place ≡ InAnswer }
-    ensures columns { IfOk result (λ took. IfOk took (λ one. HasColumns (batch_in one) stream.new)) }
+    ensures columns { IfOk result
+        (λ took. IfOk took (λ one. HasColumns (batch_in one) stream.new)) }
     ensures kept { KeepsSchema stream.old stream.new }
     ensures quiet { IfOk result (λ _. R.failures reader.new ≡ R.failures reader.old) }
     ensures fewer { IfOk result (λ _.
@@ -79,7 +80,8 @@ pub(crate) fn take_batch<R: Input>(
     requires place { inbox.old.place ≡ InAnswer }
     ensures takes { (whole : StreamAt) (a : Tape) (old : Received) → whole.state ≡ stream.old →
         HasTaken whole a (R.tape reader.old) old inbox.old →
-        BatchOrEnd result whole stream.new a (R.tape reader.new) (R.failures reader.old) (R.failures reader.new) old inbox.new }
+        BatchOrEnd result whole stream.new a (R.tape reader.new) (R.failures reader.old)
+        (R.failures reader.new) old inbox.new }
     ensures place { inbox.new.place ≡ InAnswer }
     ensures columns { IfOk result (λ took. IfOk took (λ batch. HasColumns batch stream.new)) }
     ensures kept { KeepsSchema stream.old stream.new }

@@ -6,7 +6,7 @@ use Rattle.std.proofs.Math.Nat.{add-mul, mul-add, mul-le-mul_right, div-mul-le_s
 use Rattle.client_commands.specs.Spread.{IsEvenPart}
 use Rattle.client_commands.specs.inside.Relaying.{IsLeft}
 
--- behind a front that has so many parts stands one part more: the quotient, rounded down
+-- after a front that has so many parts stands one part more: the quotient, rounded down
 abbrev pub IsCut : (front part many : ℕ) → Type 0
 IsCut front part many = (part * (many + 1) ≤ front + part) × (front + part < (part + 1) * (many + 1))
 
@@ -35,7 +35,7 @@ less_or (suc a) (suc b) = further (less_or a b)
     further (inl less) = inl (omega (arith, less))
     further (inr more) = inr (omega (arith, more))
 
--- a part of the front is no less than the part behind it
+-- a part of the front is no less than the part after it
 no_fewer : (front part many other : ℕ) → part * many ≤ front → front < (other + 1) * many → part ≤ other
 no_fewer front part many other low high = by (less_or other part)
   where
@@ -68,7 +68,7 @@ front_part front part many other cut even =
     by (inr same) b = omega (arith, mul-add other many 1, even.1, same)
     by (inl less) b = omega (arith, mul-add other many 1, mul-add part many 1, even.1, less, b, cut.0)
 
--- and the part behind it is one
+-- and the part after it is one
 pub last_part : (front part many : ℕ) → IsCut front part many → IsEvenPart (front + part) (many + 1) part
 last_part front part many cut = (cut.1, omega (arith, cut.0))
 
@@ -82,7 +82,7 @@ only_part whole = (omega arith, omega arith)
 pub all_left : (whole many : ℕ) → many ≤ whole → 0 < many → IsLeft whole many whole many
 all_left whole many fits some = record { even = λ part even. even; enough = fits; none = λ none. absurd (omega (arith, some, none)) }
 
--- and behind one part more
+-- and after one part more
 module _ (whole many rest others part after : ℕ) (left : IsLeft whole many rest (others + 1)) (is : part ≡ rest / (others + 1)) (cut : part + after ≡ rest) where
   behind_part : IsCut after part others
   behind_part = cut_off rest others part after is (omega (arith, cut))

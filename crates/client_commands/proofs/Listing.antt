@@ -114,7 +114,7 @@ pub batch_listed : (batches : List BatchAt) (i : ℕ) (batch : BatchAt) (old new
 batch_listed batches i batch old new inside is listed adds =
     rw (rows_more batches i batch inside is, each_join name_in (flat_map rows_of (take i batches)) (rows_of batch) old listed, adds.1, adds.2) refl
 
--- names of which one cannot be read, and others behind them
+-- names of which one cannot be read, and others after them
 each_stop : (fault : Fault) (xs ys : List (List Value)) → each name_in xs ≡ Err fault → each name_in (xs ++ ys) ≡ Err fault
 each_stop fault [] ys e = absurd cc
 each_stop fault (x ∷ xs) ys e = by (name_in x) (each name_in xs) refl refl e (λ all. each_stop fault xs ys all)

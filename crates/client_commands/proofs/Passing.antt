@@ -58,7 +58,7 @@ writes_more streams stream a b (inl same) = inl same
 writes_more streams stream a b (inr (schema, says, breaks)) =
     inr (schema, first_stays streams stream schema says, breaks_before (numbered_schema schema) (rows_held (streams ++ stream ∷ [])) (rows_held streams) stream.rows a.bytes b.bytes a.failures b.failures (rows_more streams stream) breaks)
 
--- why what came of a stream was not written, behind others
+-- why what came of a stream was not written, after others
 no_more : (streams : List StreamAt) (stream : StreamAt) (schema : Schema) (fault : Fault) → SaysFirst (streams ++ stream ∷ []) schema → WhyUnwritten schema stream fault → WhyNoMore (streams ++ stream ∷ []) fault
 no_more streams stream schema Transport first why = tt
 no_more streams stream schema OutOfMemory first why = tt
@@ -74,7 +74,7 @@ no_more streams stream schema LimitReached first long = (
 )
 no_more streams stream schema _ first why = absurd why
 
--- behind streams that came whole, more came
+-- after streams that came whole, more came
 come_behind : (front rest : List EndpointSaid) (streams more : List StreamAt) (old middle new : Line) → FetchesEach front streams old middle → ComeSome rest more middle new
     → ComeSome (front ++ rest) (streams ++ more) old new
 come_behind [] rest [] more old middle new same come = subst (λ (from : Line). ComeSome rest more from new) same come
@@ -194,7 +194,7 @@ one_more (first ∷ others) schema own one same = by (list_all (alike first) oth
         rw (more, is_first) refl
     by false is e = let no : Err SchemaMismatch ≡ Ok schema = rw is at e in absurd cc
 
--- the rows of streams behind a schema
+-- the rows of streams after a schema
 abbrev held_table : Schema → List StreamAt → Table
 held_table schema streams = record { schema = schema; rows = rows_held streams }
 
@@ -318,7 +318,7 @@ module _ (ticket : Payload) (schema own : Schema) (rows : Rows) (start : Option 
     why = inl (fetched, subst (λ (n : ℕ). BreaksOff (numbered_schema schema) (rows ++ stream.rows) start out'.bytes n out'.failures) quiet (breaks (numbered_schema schema) (rows ++ stream.rows) start passing.so));
   }
 
--- ---- a stream behind others
+-- ---- a stream after others
 
 -- the first stream's schema
 first_says : (before : List StreamAt) (schema own : Schema) → Follows before schema own → (stream : StreamAt) → SaysSchema stream own → SaysFirst (before ++ stream ∷ []) schema
@@ -499,7 +499,7 @@ module _ (before : List StreamAt) (endpoint : EndpointSaid) (line : Line) (begun
   passing_at = at_begin endpoint.ticket at.schema at.begins.known.schema (rows_held before) begun.bytes line now.fetch mid now.writer at.begins refl
       (has_same before at.schema at.begins.known.schema at.follows) at.written at.so
 
-  -- it stopped behind some rows
+  -- it stopped after some rows
   pub stream_stops : (behind : List EndpointSaid) (failure : Failure) (last : Line) (out : Said)
       → StopsPassing endpoint.ticket at.schema at.begins.known.schema (rows_held before) begun.bytes line failure last mid out → StopsInRun before (endpoint ∷ behind) failure line begun out
   stream_stops behind failure last out stops = record {
@@ -574,7 +574,7 @@ fetch_stops_behind front rest streams failure old middle last fetched stops = re
 }
 
 module _ (before : List StreamAt) (front : List EndpointSaid) (line : Line) (begun mid out : Said) (now : PassedAt) (passed : HavePassed before front line begun now mid) where
-  -- it stopped among those behind them
+  -- it stopped among those after them
   pub stops_behind : (rest : List EndpointSaid) (failure : Failure) → StopsInRun (before ++ passed.streams) rest failure now.line begun out → StopsInRun before (front ++ rest) failure line begun out
   stops_behind rest failure stops = record {
     more = passed.streams ++ stops.more;
@@ -613,7 +613,7 @@ module _ (before : List StreamAt) (front : List EndpointSaid) (line : Line) (beg
   passes_behind view endpoint (Ok later) more = passed_behind (endpoint ∷ []) (view later) more
   passes_behind view endpoint (Err failure) stops = λ behind. stops_behind (endpoint ∷ behind) failure (stops behind)
 
--- ---- streams one behind the other
+-- ---- streams one after the other
 
 module _ {X : Type 0} (said : X → EndpointSaid) (items : List X) (i : ℕ) (x : X) (inside : i < length items) (is : x ≡ get_or items i x) (before : List StreamAt) (front : EndpointSaid) where
   -- the next one was passed on

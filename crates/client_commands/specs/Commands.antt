@@ -1,5 +1,6 @@
 -- What each command of a client does.
-use Rattle.std.specs.Prelude.{◌≡◌, ◌≢◌, ◌⊎◌, ℕ, List, [], ◌∷◌, Option, Some, None, Result, Ok, Err, codes}
+use Rattle.std.specs.Prelude.{◌≡◌, ◌≢◌, ◌⊎◌, ℕ, List, [], ◌∷◌, Option, Some, None, Result, Ok, Err}
+use Rattle.std.specs.Prelude.{codes}
 use Rattle.std.specs.List.{flat_map}
 use Rattle.scan_base.specs.declared.fault.Fault.{Fault}
 use Rattle.scan_base.specs.declared.fault.Fault.TheVariants.{OutOfMemory, Transport}
@@ -16,7 +17,8 @@ use Rattle.client_calls.specs.Answers.{AnswersOne}
 use Rattle.client_calls.specs.Commands.{put_payloads, ReadsCount, ReadsFloor}
 use Rattle.client_calls.specs.Outcome.{Calls, Line}
 use Rattle.command_ends.specs.Network.{Ends}
-use Rattle.command_ends.specs.Printing.{Said, Prints, cause_lines, count_line, fault_line, floor_line}
+use Rattle.command_ends.specs.Printing.{Said, Prints, cause_lines, count_line, fault_line}
+use Rattle.command_ends.specs.Printing.{floor_line}
 use Rattle.command_ends.specs.Whole.{Source, ReadsMessages}
 use Rattle.command_ends.specs.declared.exit_status.ExitStatus.{ExitStatus}
 use Rattle.command_ends.specs.declared.exit_status.ExitStatus.TheVariants.{FaultAtThisEnd}
@@ -27,7 +29,7 @@ use Rattle.client_commands.specs.Names.{names_listed}
 use Rattle.client_commands.specs.RowsPut.{PutsRows}
 use Rattle.client_commands.specs.Told.{Tells}
 
--- what a command prints on: its output and its faults, before and behind it
+-- what a command prints on: its output and its faults, before and after it
 pub record Desk : Type 0 where
   pub out : Said
   pub faults : Said
@@ -35,7 +37,8 @@ pub record Desk : Type 0 where
 abbrev pub desk_of : Said → Said → Desk
 desk_of out faults = record { out = out; faults = faults }
 
--- nothing is printed on the output, and these lines of faults; the command ends with a fault of this end
+-- nothing is printed on the output, and these lines of faults; the command ends with a fault of
+-- this end
 pub record EndsBy (lines : List ℕ) (status : ExitStatus) (old new : Desk) : Type 0 where
   pub nothing : new.out ≡ old.out
   pub status_is : status ≡ FaultAtThisEnd
@@ -46,7 +49,9 @@ abbrev pub Telling : Type 0 → Type 1
 Telling A = Result A Failure → ExitStatus → Said → Said → Said → Said → Type 0
 
 -- the network gave a connection, the calls on it gave a result, and that is told
-pub record Over (Gives : Option Ends → Type 0) {A : Type 0} (Made : Result A Failure → Line → Line → Type 0) (Told : Telling A) (status : ExitStatus) (old new : Desk) : Type 0 where
+pub record Over (Gives : Option Ends → Type 0) {A : Type 0}
+    (Made : Result A Failure → Line → Line → Type 0) (Told : Telling A) (status : ExitStatus)
+    (old new : Desk) : Type 0 where
   pub ends : Ends
   pub given : Gives (Some ends)
   pub result : Result A Failure
@@ -54,31 +59,39 @@ pub record Over (Gives : Option Ends → Type 0) {A : Type 0} (Made : Result A F
   pub made : Made result (opened_line ends) last
   pub tells : Told result status old.out new.out old.faults new.faults
 
--- calls were made over a connection that the network gave, and their result is told; or it gave none, and why is said
-abbrev pub Connects : (Option Ends → Type 0) → {A : Type 0} → (Result A Failure → Line → Line → Type 0) → Telling A → ExitStatus → Desk → Desk → Type 0
+-- calls were made over a connection that the network gave, and their result is told; or it gave
+-- none, and why is said
+abbrev pub Connects : (Option Ends → Type 0) → {A : Type 0} →
+    (Result A Failure → Line → Line → Type 0) → Telling A → ExitStatus → Desk → Desk → Type 0
 Connects Gives Made Told status old new =
-    (Gives None × ((cause : List ℕ) × EndsBy (cause_lines cause) status old new)) ⊎ Over Gives Made Told status old new
+    (Gives None × ((cause : List ℕ) × EndsBy (cause_lines cause) status old new))
+    ⊎ Over Gives Made Told status old new
 
 -- ---- tables
 
 -- the names that the rows list, seen by `view`; or what failed
-abbrev pub FetchesNames : {A : Type 0} → (A → List (List ℕ)) → Result A Failure → Line → Line → Type 0
-FetchesNames view (Ok names) old new = (table : Table) × Fetches tables (Ok table) old new × (names_listed table ≡ Ok (view names))
+abbrev pub FetchesNames : {A : Type 0} → (A → List (List ℕ)) → Result A Failure → Line →
+    Line → Type 0
+FetchesNames view (Ok names) old new =
+    (table : Table) × Fetches tables (Ok table) old new × (names_listed table ≡ Ok (view names))
 FetchesNames view (Err failure) old new =
     Fetches tables (Err failure) old new
     ⊎ ((table : Table) × Fetches tables (Ok table) old new
-    × ((fault : Fault) × (failure ≡ Found fault) × (fault ≢ OutOfMemory → names_listed table ≡ Err fault)))
+    × ((fault : Fault) × (failure ≡ Found fault)
+    × (fault ≢ OutOfMemory → names_listed table ≡ Err fault)))
 
 -- a line for each name
 abbrev pub ListsTables : (Option Ends → Type 0) → ExitStatus → Desk → Desk → Type 0
-ListsTables Gives status old new = Connects Gives (FetchesNames (λ (names : List (List ℕ)). names)) (Tells (flat_map name_line)) status old new
+ListsTables Gives status old new = Connects Gives (FetchesNames (λ (names : List (List ℕ)). names))
+    (Tells (flat_map name_line)) status old new
 
 -- ---- expire
 
 -- the versions below a number are expired, and the line of the floor is printed
 abbrev pub Expires : (Option Ends → Type 0) → ℕ → ExitStatus → Desk → Desk → Type 0
 Expires Gives version status old new =
-    Connects Gives (Calls DoAction (expiry_bytes version ∷ []) (AnswersOne ReadsFloor)) (Tells floor_line) status old new
+    Connects Gives (Calls DoAction (expiry_bytes version ∷ []) (AnswersOne ReadsFloor))
+    (Tells floor_line) status old new
 
 -- ---- put
 
@@ -88,37 +101,49 @@ reading_lines Transport = cause_lines (codes "cannot read the input")
 reading_lines fault = fault_line fault
 
 -- the input was not read, or is no stream: no connection is made
-pub record IsUnread (old new : Source) (untouched : Type 0) (status : ExitStatus) (desk desk' : Desk) : Type 0 where
+pub record IsUnread (old new : Source) (untouched : Type 0) (status : ExitStatus)
+    (desk desk' : Desk) : Type 0 where
   pub fault : Fault
   pub reads : ReadsMessages (λ (messages : List IpcMessage). messages) (Err fault) old new
   pub alone : untouched
   pub ends : EndsBy (reading_lines fault) status desk desk'
 
--- the whole input is the stream of these messages, which are put, and the line of their count is printed
-pub record IsPut (old new : Source) (Gives : Option Ends → Type 0) (target : Target) (status : ExitStatus) (desk desk' : Desk) : Type 0 where
+-- the whole input is the stream of these messages, which are put, and the line of their count is
+-- printed
+pub record IsPut (old new : Source) (Gives : Option Ends → Type 0) (target : Target)
+    (status : ExitStatus) (desk desk' : Desk) : Type 0 where
   pub messages : List IpcMessage
   pub reads : ReadsMessages (λ (messages : List IpcMessage). messages) (Ok messages) old new
-  pub puts : Connects Gives (Calls DoPut (put_payloads target messages) (AnswersOne ReadsCount)) (Tells count_line) status desk desk'
+  pub puts : Connects Gives (Calls DoPut (put_payloads target messages) (AnswersOne ReadsCount))
+      (Tells count_line) status desk desk'
 
-abbrev pub Puts : Source → Source → Type 0 → (Option Ends → Type 0) → Target → ExitStatus → Desk → Desk → Type 0
+abbrev pub Puts : Source → Source → Type 0 → (Option Ends → Type 0) → Target → ExitStatus → Desk →
+    Desk → Type 0
 Puts old new untouched Gives target status desk desk' =
     IsUnread old new untouched status desk desk' ⊎ IsPut old new Gives target status desk desk'
 
 -- ---- put of CSV
 
 -- the input was not read, or says no rows, and why is printed: no connection is made
-pub record IsNoCsv (form : Form) (old new : Source) (untouched : Type 0) (status : ExitStatus) (desk desk' : Desk) : Type 0 where
-  pub reads : ReadsCsv {A = TextAt} form (λ text. text) (Err status) old new desk.faults desk'.faults
+pub record IsNoCsv (form : Form) (old new : Source) (untouched : Type 0) (status : ExitStatus)
+    (desk desk' : Desk) : Type 0 where
+  pub reads : ReadsCsv {A = TextAt} form (λ text. text)
+      (Err status) old new desk.faults desk'.faults
   pub alone : untouched
   pub nothing : desk'.out ≡ desk.out
 
--- each record of the whole input says a row. The rows are put, and the line of their count is printed.
-pub record IsPutCsv (form : Form) (old new : Source) (Gives : Option Ends → Type 0) (target : Target) (status : ExitStatus) (desk desk' : Desk) : Type 0 where
+-- each record of the whole input says a row. The rows are put, and the line of their count is
+-- printed.
+pub record IsPutCsv (form : Form) (old new : Source) (Gives : Option Ends → Type 0)
+    (target : Target) (status : ExitStatus) (desk desk' : Desk) : Type 0 where
   pub text : TextAt
   pub middle : Said
   pub reads : ReadsCsv form (λ (text : TextAt). text) (Ok text) old new desk.faults middle
-  pub puts : Connects Gives (PutsRows target text) (Tells count_line) status (desk_of desk.out middle) desk'
+  pub puts : Connects Gives (PutsRows target text) (Tells count_line) status
+      (desk_of desk.out middle) desk'
 
-abbrev pub PutsCsv : Form → Source → Source → Type 0 → (Option Ends → Type 0) → Target → ExitStatus → Desk → Desk → Type 0
+abbrev pub PutsCsv : Form → Source → Source → Type 0 → (Option Ends → Type 0) → Target →
+    ExitStatus → Desk → Desk → Type 0
 PutsCsv form old new untouched Gives target status desk desk' =
-    IsNoCsv form old new untouched status desk desk' ⊎ IsPutCsv form old new Gives target status desk desk'
+    IsNoCsv form old new untouched status desk desk'
+    ⊎ IsPutCsv form old new Gives target status desk desk'

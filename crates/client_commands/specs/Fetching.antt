@@ -1,4 +1,4 @@
--- How rows are fetched: over one connection, one call behind another.
+-- How rows are fetched: over one connection, one call after another.
 use Rattle.std.specs.Prelude.{◌≡◌, ◌≢◌, ◌⊎◌, List, [], ◌∷◌, ◌++◌, Result, Ok, Err}
 use Rattle.scan_base.specs.declared.fault.Fault.{Fault}
 use Rattle.scan_base.specs.declared.fault.Fault.TheVariants.{OutOfMemory}
@@ -16,7 +16,8 @@ use Rattle.client_calls.specs.Outcome.{Calls, Line}
 
 -- where rows are fetched is asked
 abbrev pub Asks : Wanted → Result (List EndpointSaid) Failure → Line → Line → Type 0
-Asks wanted result old new = Calls GetFlightInfo (wanted_bytes wanted ∷ []) (AnswersOne (ReadsEndpoints (λ (endpoints : List EndpointSaid). endpoints))) result old new
+Asks wanted result old new = Calls GetFlightInfo (wanted_bytes wanted ∷ [])
+    (AnswersOne (ReadsEndpoints (λ (endpoints : List EndpointSaid). endpoints))) result old new
 
 -- a stream is fetched
 abbrev pub FetchesOne : EndpointSaid → Result StreamAt Failure → Line → Line → Type 0
@@ -26,7 +27,8 @@ FetchesOne endpoint result old new = Calls DoGet (endpoint.ticket ∷ []) Answer
 abbrev pub FetchesEach : List EndpointSaid → List StreamAt → Line → Line → Type 0
 FetchesEach [] [] old new = new ≡ old
 FetchesEach (endpoint ∷ endpoints) (stream ∷ streams) old new =
-    (middle : Line) × FetchesOne endpoint (Ok stream) old middle × FetchesEach endpoints streams middle new
+    (middle : Line) × FetchesOne endpoint (Ok stream) old middle
+    × FetchesEach endpoints streams middle new
 FetchesEach _ _ old new = ⊥
 
 -- the first of these endpoints gave this failure, or memory was refused
@@ -35,8 +37,10 @@ FailsAt [] failure old new = (failure ≡ Found OutOfMemory) × (new ≡ old)
 FailsAt (endpoint ∷ endpoints) failure old new =
     FetchesOne endpoint (Err failure) old new ⊎ ((failure ≡ Found OutOfMemory) × (new ≡ old))
 
--- The streams of the first endpoints were fetched; and then the next one gave this failure, or memory was refused.
-pub record FetchStops (endpoints : List EndpointSaid) (failure : Failure) (old new : Line) : Type 0 where
+-- The streams of the first endpoints were fetched; and then the next one gave this failure, or
+-- memory was refused.
+pub record FetchStops (endpoints : List EndpointSaid) (failure : Failure)
+    (old new : Line) : Type 0 where
   pub front : List EndpointSaid
   pub rest : List EndpointSaid
   pub splits : endpoints ≡ front ++ rest
@@ -46,7 +50,8 @@ pub record FetchStops (endpoints : List EndpointSaid) (failure : Failure) (old n
   pub why : FailsAt rest failure middle new
 
 -- all streams were fetched, and they do not join, or memory for their rows is refused
-pub record NotJoined (endpoints : List EndpointSaid) (failure : Failure) (old new : Line) : Type 0 where
+pub record NotJoined (endpoints : List EndpointSaid) (failure : Failure)
+    (old new : Line) : Type 0 where
   pub streams : List StreamAt
   pub fetched : FetchesEach endpoints streams old new
   pub fault : Fault
@@ -55,7 +60,8 @@ pub record NotJoined (endpoints : List EndpointSaid) (failure : Failure) (old ne
 
 -- ---- all
 
--- where rows are fetched was asked, each stream was fetched, and the rows are those of all streams joined
+-- where rows are fetched was asked, each stream was fetched, and the rows are those of all streams
+-- joined
 pub record IsFetched (wanted : Wanted) (rows : Table) (old new : Line) : Type 0 where
   pub endpoints : List EndpointSaid
   pub middle : Line
@@ -74,4 +80,5 @@ pub record IsNotFetched (wanted : Wanted) (failure : Failure) (old new : Line) :
 -- the rows that are wanted, or the first failure
 abbrev pub Fetches : Wanted → Result Table Failure → Line → Line → Type 0
 Fetches wanted (Ok rows) old new = IsFetched wanted rows old new
-Fetches wanted (Err failure) old new = Asks wanted (Err failure) old new ⊎ IsNotFetched wanted failure old new
+Fetches wanted (Err failure) old new =
+    Asks wanted (Err failure) old new ⊎ IsNotFetched wanted failure old new

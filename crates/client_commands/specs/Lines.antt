@@ -8,7 +8,11 @@ use Rattle.command_ends.specs.Network.{Ends}
 -- a connection of these ends: nothing came of it, and no call has failed
 abbrev pub opened_line : Ends → Line
 opened_line ends = record {
-  incoming = record { input = ends.input; failed = 0; left = Ok (record { bytes = []; place = InAnswer }) };
+  incoming = record {
+    input = ends.input;
+    failed = 0;
+    left = Ok (record { bytes = []; place = InAnswer });
+  };
   outgoing = record { output = ends.output; failed = 0 };
 }
 
@@ -18,4 +22,5 @@ CanCount line = CanFail line.incoming.failed × CanFail line.outgoing.failed
 
 -- as many calls of each end have failed
 abbrev pub SameCounts : Line → Line → Type 0
-SameCounts old new = (new.incoming.failed ≡ old.incoming.failed) × (new.outgoing.failed ≡ old.outgoing.failed)
+SameCounts old new =
+    (new.incoming.failed ≡ old.incoming.failed) × (new.outgoing.failed ≡ old.outgoing.failed)

@@ -5,7 +5,8 @@ use Rattle.row_text.specs.Lines.{lines_of}
 use Rattle.row_text.specs.Records.{records_of}
 use Rattle.row_text.specs.Tables.{table_of}
 use Rattle.command_line.specs.declared.request.Format.{Format}
-use Rattle.command_line.specs.declared.request.Format.TheVariants.{Lines, Arrow, Csv, Table as Aligned}
+use Rattle.command_line.specs.declared.request.Format.TheVariants.{Lines, Arrow, Csv}
+use Rattle.command_line.specs.declared.request.Format.TheVariants.{Table as Aligned}
 
 -- the lines of an answer
 abbrev pub table_lines : Table → List ℕ

@@ -1,8 +1,10 @@
--- Rows that are written as they come, as an Arrow IPC stream: what came, what was written of it, and why no more was.
+-- Rows that are written as they come, as an Arrow IPC stream: what came, what was written of it,
+-- and why no more was.
 use Rattle.std.specs.Prelude.{◌≡◌, ◌⊎◌, ◌+◌, false, List, [], ◌∷◌, ◌++◌, Some, Ok, Err}
 use Rattle.std.specs.List.{flat_map}
 use Rattle.scan_base.specs.declared.fault.Fault.{Fault}
-use Rattle.scan_base.specs.declared.fault.Fault.TheVariants.{BadBatch, LimitReached, OutOfMemory, SchemaMismatch, Transport}
+use Rattle.scan_base.specs.declared.fault.Fault.TheVariants.{BadBatch, LimitReached, OutOfMemory}
+use Rattle.scan_base.specs.declared.fault.Fault.TheVariants.{SchemaMismatch, Transport}
 use Rattle.arrow_schema.specs.declared.schema.Schema.{Schema}
 use Rattle.arrays.specs.Batch.{BatchAt, rows_of}
 use Rattle.ipc_batch.specs.State.{Known}
@@ -26,9 +28,10 @@ ComeSome endpoints [] old new = new ≡ old
 ComeSome [] (stream ∷ streams) old new = ⊥
 ComeSome (endpoint ∷ endpoints) (stream ∷ streams) old new =
     ((streams ≡ []) × IsFetching endpoint.ticket stream old new)
-    ⊎ ((middle : Line) × FetchesOne endpoint (Ok stream) old middle × ComeSome endpoints streams middle new)
+    ⊎ ((middle : Line) × FetchesOne endpoint (Ok stream) old middle
+    × ComeSome endpoints streams middle new)
 
--- the rows that streams hold, one stream's behind another's
+-- the rows that streams hold, one stream's after another's
 abbrev pub rows_held : List StreamAt → Rows
 rows_held streams = flat_map (λ (stream : StreamAt). stream.rows) streams
 
@@ -43,10 +46,11 @@ SaysFirst (stream ∷ streams) schema = SaysSchema stream schema
 
 -- ---- what was written of it
 
--- an Arrow IPC stream of these rows behind the first schema, which says some of them and breaks off
+-- an Arrow IPC stream of these rows after the first schema, which says some of them and breaks off
 abbrev pub WritesBroken : List StreamAt → Said → Said → Type 0
 WritesBroken streams old new = (schema : Schema) × SaysFirst streams schema
-    × BreaksOff (numbered_schema schema) (rows_held streams) old.bytes new.bytes old.failures new.failures
+    × BreaksOff (numbered_schema schema)
+    (rows_held streams) old.bytes new.bytes old.failures new.failures
 
 -- no write of the rows failed: nothing was written, or a stream that breaks off
 abbrev pub WritesSome : List StreamAt → Said → Said → Type 0
@@ -55,7 +59,8 @@ WritesSome streams old new = (new ≡ old) ⊎ WritesBroken streams old new
 -- one failed, which is counted: a beginning of a stream was written, which says some of the rows
 abbrev pub WritesPart : List StreamAt → Said → Said → Type 0
 WritesPart streams old new = (schema : Schema) × SaysFirst streams schema
-    × WritesBeginning (numbered_schema schema) (rows_held streams) old.bytes new.bytes × (new.failures ≡ old.failures + 1)
+    × WritesBeginning (numbered_schema schema) (rows_held streams) old.bytes new.bytes
+    × (new.failures ≡ old.failures + 1)
 
 -- what was written where this end found a fault
 abbrev pub WritesUpTo : Fault → List StreamAt → Said → Said → Type 0
@@ -82,7 +87,8 @@ pub record SaysOther (streams : List StreamAt) : Type 0 where
   pub says : SaysSchema last other
   pub differ : same_fields schema.fields other.fields ≡ false
 
--- the last batch that came has a row that takes 2 to the 31 bytes or more behind the schema that is written of these columns
+-- the last batch that came has a row that takes 2 to the 31 bytes or more after the schema that is
+-- written of these columns
 pub record HasLongRow (schema : Schema) (rows : Rows) : Type 0 where
   pub before : Rows
   pub batch : BatchAt
@@ -92,16 +98,19 @@ pub record HasLongRow (schema : Schema) (rows : Rows) : Type 0 where
 abbrev pub WhyNoMore : List StreamAt → Fault → Type 0
 WhyNoMore streams BadBatch = LacksSchema streams
 WhyNoMore streams SchemaMismatch = SaysOther streams
-WhyNoMore streams LimitReached = (schema : Schema) × SaysFirst streams schema × HasLongRow schema (rows_held streams)
+WhyNoMore streams LimitReached =
+    (schema : Schema) × SaysFirst streams schema × HasLongRow schema (rows_held streams)
 WhyNoMore streams OutOfMemory = Unit {0}
 WhyNoMore streams Transport = Unit {0}
 WhyNoMore streams _ = ⊥
 
 -- ---- over a connection
 
--- The fetch of one of these endpoints failed; or there is a fault of these streams, or of writing. The streams are those that came over
--- this connection, and before them those of others.
-abbrev pub Stops : List EndpointSaid → List StreamAt → Failure → Line → Line → Line → Said → Said → Type 0
+-- The fetch of one of these endpoints failed; or there is a fault of these streams, or of writing.
+-- The streams are those that came over this connection, and before them those of others.
+abbrev pub Stops : List EndpointSaid → List StreamAt → Failure → Line → Line → Line → Said →
+    Said → Type 0
 Stops endpoints streams failure old some new out out' =
     (FetchStops endpoints failure old new × WritesSome streams out out')
-    ⊎ ((fault : Fault) × (failure ≡ Found fault) × WhyNoMore streams fault × WritesUpTo fault streams out out' × (new ≡ some))
+    ⊎ ((fault : Fault) × (failure ≡ Found fault) × WhyNoMore streams fault
+    × WritesUpTo fault streams out out' × (new ≡ some))

@@ -33,7 +33,8 @@ pub(crate) fn begin_apart<C: Connect + Drop>(
     }
 }
 
-/// The stream of an endpoint: what was begun, or where the handle gave no connection, over one for which it is asked once more.
+/// The stream of an endpoint: what was begun, or where the handle gave no connection, over one for
+/// which it is asked once more.
 ///
 /// # Errors
 ///
@@ -45,10 +46,10 @@ pub(crate) fn begin_at_last<C: Connect + Drop>(
     port: u16,
     endpoint: &FlightEndpoint,
 ) -> Result<Fetching<C::Reader, C::Writer>, Lost>
-    requires { (handle : C) × Ahead (λ old ends new. C.connects old port ends new) (λ fetching. fetching)
-        (endpoint_said endpoint.now).ticket handle begun }
-    ensures begins { (handle : C) → Ahead (λ old ends new. C.connects old port ends new) (λ fetching. fetching)
-        (endpoint_said endpoint.now).ticket handle begun →
+    requires { (handle : C) × Ahead (λ old ends new. C.connects old port ends new)
+        (λ fetching. fetching) (endpoint_said endpoint.now).ticket handle begun }
+    ensures begins { (handle : C) → Ahead (λ old ends new. C.connects old port ends new)
+        (λ fetching. fetching) (endpoint_said endpoint.now).ticket handle begun →
         BeginsAtLast (λ old ends new. C.connects old port ends new) (λ fetching. fetching)
         (endpoint_said endpoint.now).ticket handle result }
     ensures counts { IfOk result (λ fetching. CanCount fetching.line) }

@@ -23,7 +23,7 @@ pub(crate) struct Refused<C> {
     pub error: Error,
 }
 
-/// The streams of the endpoints, fetched in turn over this connection, which is closed behind them.
+/// The streams of the endpoints, fetched in turn over this connection, which is closed after them.
 ///
 /// # Errors
 ///
@@ -34,7 +34,8 @@ pub(crate) fn fetch_part<R: Input + Drop, W: Output + Drop>(
     endpoints: &[FlightEndpoint],
 ) -> Result<Vec<Stream>, Failure>
     requires { CanCount connection }
-    ensures { FetchesPart (λ streams. streams.items) (map endpoint_said endpoints.now) result connection }
+    ensures { FetchesPart (λ streams. streams.items)
+        (map endpoint_said endpoints.now) result connection }
 {
     fetch_each(alloc, &mut connection, endpoints)
 }
@@ -59,8 +60,8 @@ pub(crate) fn fetch_apart<C: Connect + Drop>(
     }
 }
 
-/// The streams of the endpoints: those that were fetched, or where the handle gave no connection, over one for which it is
-/// asked once more.
+/// The streams of the endpoints: those that were fetched, or where the handle gave no connection,
+/// over one for which it is asked once more.
 ///
 /// # Errors
 ///

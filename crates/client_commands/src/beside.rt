@@ -1,4 +1,4 @@
-//! Work that is done beside other work.
+//! Work that is done next to other work.
 
 ghost use Rattle.std.specs.Prelude.{◌≡◌};
 
@@ -22,7 +22,8 @@ pub(crate) trait Work {
         ensures { gives self result };
 }
 
-/// What comes of both: `ahead` is done in a thread of its own, or last where none can be made, and the work in this thread.
+/// What comes of both: `ahead` is done in a thread of its own, or last where none can be made, and
+/// the work in this thread.
 pub(crate) fn work_beside<T: Threads, F: FnOnce() -> A + Send, A: Send, M: Work<Out = B> + Drop, B>(
     rt: &T,
     ahead: F,
@@ -40,7 +41,8 @@ pub(crate) fn work_beside<T: Threads, F: FnOnce() -> A + Send, A: Send, M: Work<
     thread::join(rt, ahead, here)
 }
 
-/// Does nothing, but that this use of a reference that came back ties it to the one that was handed in.
+/// Does nothing, but that this use of a reference that came back ties it to the one that was handed
+/// in.
 pub(crate) fn take_back<T>(x: &mut T)
     ensures { x.new ≡ x.old }
 {}

@@ -26,7 +26,8 @@ pub(crate) fn open<C: Connect>(
     port: u16,
 ) -> io::Result<Connection<C::Reader, C::Writer>>
     ensures { MatchResult result
-        (λ connection. (ends : Ends) × C.connects network.old port (Some ends) network.new × (connection ≡ opened_line ends))
+        (λ connection. (ends : Ends) × C.connects network.old port (Some ends) network.new
+        × (connection ≡ opened_line ends))
         (λ _. C.connects network.old port None network.new) }
 {
     let (reader, writer) = network.connect(port)?;
@@ -44,7 +45,8 @@ pub(crate) fn share_each<C: Connect>(
     most: usize,
 ) -> Result<Vec<C>, AllocError>
     ensures { MatchResult result
-        (λ handles. (length handles.items ≡ most) × SharesEach C.shares handles.items network.old network.new)
+        (λ handles. (length handles.items ≡ most)
+        × SharesEach C.shares handles.items network.old network.new)
         (λ _. network.new ≡ network.old) }
 {
     let mut handles = Vec::with_capacity(alloc, most)?;

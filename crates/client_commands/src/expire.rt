@@ -12,8 +12,9 @@ use command_ends::{Connect, ExitStatus, print_floor};
 use grpc_frame::Output;
 use std::alloc::Global;
 
-/// Asks that the versions below a number are expired, and prints the floor in a line. A fault is printed on `faults` in a line, as
-/// far as that takes it; where no connection was made, a second line says so.
+/// Asks that the versions below a number are expired, and prints the floor in a line. A fault is
+/// printed on `faults` in a line, as far as that takes it; where no connection was made, a second
+/// line says so.
 pub fn expire<C: Connect, W: Output, E: Output>(
     alloc: Global,
     network: &mut C,

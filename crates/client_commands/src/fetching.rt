@@ -13,15 +13,18 @@ use grpc_frame::{Input, Output};
 use scan_base::Fault;
 use std::alloc::Global;
 
-// An info of a server has no more endpoints. Where one claims more, memory grows only as streams come.
+// An info of a server has no more endpoints. Where one claims more, memory grows only as streams
+// come.
 const MOST_ENDPOINTS: usize = 64;
 
-/// Fetches what is wanted: asks where it is, fetches the stream of each endpoint in turn, and joins them in that order.
+/// Fetches what is wanted: asks where it is, fetches the stream of each endpoint in turn, and joins
+/// them in that order.
 ///
 /// # Errors
 ///
-/// `Failure::Answered` with the server's fault, and `Failure::Found` with one of this end, as `client_calls::info`,
-/// `client_calls::fetch` and `flight_client::join` give them. The first one ends it.
+/// `Failure::Answered` with the server's fault, and `Failure::Found` with one of this end, as
+/// `client_calls::info`, `client_calls::fetch` and `flight_client::join` give them. The first one
+/// ends it.
 pub(crate) fn fetch_rows<R: Input, W: Output>(
     alloc: Global,
     connection: &mut Connection<R, W>,
@@ -45,8 +48,10 @@ pub(crate) fn fetch_each<R: Input, W: Output>(
     requires reads { CanFail (connection.old.incoming.failed) }
     requires writes { CanFail (connection.old.outgoing.failed) }
     ensures { MatchResult result
-        (λ streams. FetchesEach (map endpoint_said endpoints.now) streams.items connection.old connection.new)
-        (λ failure. FetchStops (map endpoint_said endpoints.now) failure connection.old connection.new) }
+        (λ streams. FetchesEach (map endpoint_said endpoints.now) streams.items connection.old
+        connection.new)
+        (λ failure. FetchStops (map endpoint_said endpoints.now) failure connection.old
+        connection.new) }
 {
     let mut streams = Vec::with_capacity(alloc, endpoints.len().min(MOST_ENDPOINTS))?;
     for endpoint in endpoints {

@@ -1,4 +1,4 @@
-//! Rows that are written as they come, over several connections, one behind the other.
+//! Rows that are written as they come, over several connections, one after the other.
 
 ghost use Rattle.std.specs.Prelude.{◌≡◌, ◌≤◌, ◌<◌, ℕ, ◌+◌, ◌/◌, List, ◌∷◌, ◌++◌, map, length, IfOk};
 ghost use Rattle.grpc_frame.specs.Ends.{CanFail};
@@ -8,7 +8,8 @@ ghost use Rattle.flight_proto.specs.Wanted.{rows_of};
 ghost use Rattle.client_calls.specs.Outcome.{Line};
 ghost use Rattle.command_ends.specs.Printing.{Said, said_of};
 ghost use Rattle.client_commands.specs.Lines.{CanCount};
-ghost use Rattle.client_commands.specs.inside.Relaying.{Ahead, PassesRuns, Relays, StreamsOrNot, TakesOver};
+ghost use Rattle.client_commands.specs.inside.Relaying.{Ahead, PassesRuns, Relays, StreamsOrNot};
+ghost use Rattle.client_commands.specs.inside.Relaying.{TakesOver};
 ghost use Rattle.client_commands.specs.inside.Runs.{AreSent, IsOpen, PassesRun};
 
 use crate::ahead::{begin_apart, begin_at_last};
@@ -26,23 +27,26 @@ use row_stream::StreamWriter;
 use std::alloc::Global;
 use std::thread::Threads;
 
-/// Writes the rows that a query answers as an Arrow IPC stream, batch by batch as they come: asks over the first connection where
-/// they are, and fetches the streams of the endpoints over it and over further ones, a run of them each, one run behind the other.
-/// Each batch is written behind dictionaries of its own texts, whatever dictionaries came.
+/// Writes the rows that a query answers as an Arrow IPC stream, batch by batch as they come: asks
+/// over the first connection where they are, and fetches the streams of the endpoints over it and
+/// over further ones, a run of them each, one run after the other. Each batch is written after
+/// dictionaries of its own texts, whatever dictionaries came.
 ///
-/// While a run is passed on, the next connection is made, and its first stream is begun, in a thread of its own. What comes of it behind
-/// its schema waits in the system's buffers: the server stops where they are full. So memory holds one payload at a time, and
-/// dictionaries. A connection is closed behind the last stream of its run, before the next one is waited for.
+/// While a run is passed on, the next connection is made, and its first stream is begun, in a
+/// thread of its own. What comes of it after its schema waits in the system's buffers: the server
+/// stops where they are full. So memory holds one payload at a time, and dictionaries. A connection
+/// is closed after the last stream of its run, before the next one is waited for.
 ///
 /// # Errors
 ///
-/// The first failure, in the order of the endpoints. Where something was written, the stream breaks off in the middle of a message
-/// behind some of the rows, so that no reader takes it for whole. Where a write failed, a beginning of the stream was written, which
-/// may end behind a message.
-/// - `Lost::Failed`, as `ask_places`, `begin_first`, `pass_run` and `begin_at_last` give it. It comes once the stream that is begun
-///   ahead has said its schema, or has failed; nothing bounds that time.
-/// - `Lost::Unconnected` where the streams of all endpoints before those of a further connection were passed on, and the network
-///   was asked twice for that one and gave none.
+/// The first failure, in the order of the endpoints. Where something was written, the stream breaks
+/// off in the middle of a message after some of the rows, so that no reader takes it for whole.
+/// Where a write failed, a beginning of the stream was written, which may end after a message.
+/// - `Lost::Failed`, as `ask_places`, `begin_first`, `pass_run` and `begin_at_last` give it. It
+///   comes once the stream that is begun ahead has said its schema, or has failed; nothing bounds
+///   that time.
+/// - `Lost::Unconnected` where the streams of all endpoints before those of a further connection
+///   were passed on, and the network was asked twice for that one and gave none.
 pub(crate) fn stream_rows<T: Threads, C: Connect + Drop + Send, O: Output>(
     rt: &T,
     alloc: Global,
@@ -56,8 +60,10 @@ where
     C::Writer: Send,
     requires calls { CanCount connection }
     requires writes { CanFail (O.failures output.old) }
-    ensures { (last : Line) × StreamsOrNot (λ old ends new. C.connects old query.entry.port ends new) C.shares
-        query.entry.streams (rows_of query.entry.sql.now) network.old network.new result connection last
+    ensures { (last : Line)
+        × StreamsOrNot (λ old ends new. C.connects old query.entry.port ends new) C.shares
+        query.entry.streams
+        (rows_of query.entry.sql.now) network.old network.new result connection last
         (said_of O.Output output.old) (said_of O.Output output.new) }
 {
     let Places { endpoints, handles } = ask_places(alloc, network, &mut connection, query)?;
@@ -69,7 +75,7 @@ where
     pass_runs(rt, writing, connection, handles, output, &endpoints)
 }
 
-// Passes the runs of the connections on, one behind the other, and ends what is written.
+// Passes the runs of the connections on, one after the other, and ends what is written.
 fn pass_runs<T: Threads, C: Connect + Drop + Send, O: Output>(
     rt: &T,
     writing: Writing,
@@ -84,8 +90,9 @@ where
     requires calls { CanCount connection }
     requires writes { CanFail (O.failures output.old) }
     requires fewer { length handles.items < length endpoints.now }
-    ensures { PassesRuns (λ old ends new. C.connects old writing.port ends new) connection handles.items
-        (map endpoint_said endpoints.now) result (said_of O.Output output.old) (said_of O.Output output.new) }
+    ensures { PassesRuns (λ old ends new. C.connects old writing.port ends new) connection
+        handles.items (map endpoint_said endpoints.now) result (said_of O.Output output.old)
+        (said_of O.Output output.new) }
 {
     let mut left = handles.len();
     let (first, mut others, mut behind) = cut_run(endpoints, left.saturating_add(1));
@@ -101,8 +108,8 @@ where
     Ok(writer.end(output)?)
 }
 
-// Cuts the run of one of so many connections off the front: the quotient of the endpoints, rounded down. Its first endpoint, its
-// others, and the endpoints behind it.
+// Cuts the run of one of so many connections off the front: the quotient of the endpoints, rounded
+// down. Its first endpoint, its others, and the endpoints after it.
 fn cut_run(
     endpoints: &[FlightEndpoint],
     many: usize,
@@ -119,7 +126,7 @@ fn cut_run(
     }
 }
 
-// A run that is passed on to an output, and its other endpoints behind the first one.
+// A run that is passed on to an output, and its other endpoints after the first one.
 #[derive(Drop)]
 struct Run<'a, R: Input, W: Output, O> {
     alloc: Global,
@@ -156,7 +163,7 @@ impl<'a, R: Input + Drop, W: Output + Drop, O: Output> Work for Run<'a, R, W, O>
     }
 }
 
-// Passes a run on, and does what is ahead beside it.
+// Passes a run on, and does what is ahead next to it.
 fn pass_beside<T, F, A, R, W, O>(
     rt: &T,
     alloc: Global,
@@ -190,7 +197,8 @@ where
     (done, passed)
 }
 
-// Passes a run on. Beside it the connection of the handle is made, and the stream of the next run's first endpoint is begun over it.
+// Passes a run on. Next to it the connection of the handle is made, and the stream of the next
+// run's first endpoint is begun over it.
 fn relay<T: Threads, C: Connect + Drop + Send, O: Output>(
     rt: &T,
     writing: Writing,
@@ -206,8 +214,9 @@ where
     requires { CanFail (O.failures output.old) }
     ensures { (before : List StreamAt) (endpoint : EndpointSaid) (line : Line) (begun : Said) →
         IsOpen before endpoint.ticket line begun passing (said_of O.Output output.old) →
-        Relays (λ old ends new. C.connects old writing.port ends new) (λ passing. passing) (endpoint_said next.now) handle
-        before (endpoint ∷ map endpoint_said others.now) line begun result (said_of O.Output output.new) }
+        Relays (λ old ends new. C.connects old writing.port ends new) (λ passing. passing)
+        (endpoint_said next.now) handle before
+        (endpoint ∷ map endpoint_said others.now) line begun result (said_of O.Output output.new) }
 {
     let Writing { alloc, port, .. } = writing;
     let ahead = move || -> Result<Result<Fetching<C::Reader, C::Writer>, Failure>, Refused<C>>
@@ -219,7 +228,8 @@ where
     take_over(writing, begun, writer, output, next)
 }
 
-// The next run, whose first stream is begun, at last where it is not yet. Else what is written breaks off.
+// The next run, whose first stream is begun, at last where it is not yet. Else what is written
+// breaks off.
 fn take_over<C: Connect + Drop, O: Output>(
     writing: Writing,
     begun: Result<Result<Fetching<C::Reader, C::Writer>, Failure>, Refused<C>>,
@@ -228,14 +238,14 @@ fn take_over<C: Connect + Drop, O: Output>(
     next: &FlightEndpoint,
 ) -> Result<Passing<C::Reader, C::Writer>, Lost>
     requires writes { CanFail (O.failures output.old) }
-    requires made { (handle : C) × Ahead (λ old ends new. C.connects old writing.port ends new) (λ fetching. fetching)
-        (endpoint_said next.now).ticket handle begun }
+    requires made { (handle : C) × Ahead (λ old ends new. C.connects old writing.port ends new)
+        (λ fetching. fetching) (endpoint_said next.now).ticket handle begun }
     ensures { (handle : C) (streams : List StreamAt) (said : Said) →
         Ahead (λ old ends new. C.connects old writing.port ends new) (λ fetching. fetching)
         (endpoint_said next.now).ticket handle begun →
         AreSent streams said writer (said_of O.Output output.old) →
-        TakesOver (λ old ends new. C.connects old writing.port ends new) (λ passing. passing) (endpoint_said next.now) handle
-        streams said result (said_of O.Output output.new) }
+        TakesOver (λ old ends new. C.connects old writing.port ends new) (λ passing. passing)
+        (endpoint_said next.now) handle streams said result (said_of O.Output output.new) }
 {
     match begin_at_last(writing.alloc, begun, writing.port, next) {
         Ok(fetching) => Ok(fit_next(fetching, writer, output)?),

@@ -1,9 +1,10 @@
-//! The commands of a client, as functions over the network, what they read from and what they print on.
+//! The commands of a client, as functions over the network, what they read from and what they print
+//! on.
 //!
-//! `specs/Told.antt` says how a command ends by what came of its calls, `specs/Fetching.antt` how rows are fetched over one
-//! connection, and `specs/Spread.antt` how over several. `specs/Streaming.antt` says how rows are written as they come, and
-//! `specs/InTurn.antt` how over several connections.
-//! `specs/RowsPut.antt` says how the rows of CSV are put, batch by batch.
+//! `specs/Told.antt` says how a command ends by what came of its calls, `specs/Fetching.antt` how
+//! rows are fetched over one connection, and `specs/Spread.antt` how over several.
+//! `specs/Streaming.antt` says how rows are written as they come, and `specs/InTurn.antt` how over
+//! several connections. `specs/RowsPut.antt` says how the rows of CSV are put, batch by batch.
 //! `specs/Commands.antt` and `specs/Queries.antt` say what each command does.
 #![tactic(auto)]
 

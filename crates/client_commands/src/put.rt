@@ -34,9 +34,9 @@ pub struct Putting<'a> {
     pub target: Target<'a>,
 }
 
-/// Puts the Arrow IPC stream that the whole input is into a table, and prints how many rows were put. The input is read
-/// and cut before a connection is made. A fault is printed on `faults` in a line, as far as that takes it; where the
-/// input or the network failed, a second line says so.
+/// Puts the Arrow IPC stream that the whole input is into a table, and prints how many rows were
+/// put. The input is read and cut before a connection is made. A fault is printed on `faults` in a
+/// line, as far as that takes it; where the input or the network failed, a second line says so.
 pub fn put<C: Connect, I: Input, W: Output, E: Output>(
     alloc: Global,
     network: &mut C,
@@ -50,9 +50,12 @@ pub fn put<C: Connect, I: Input, W: Output, E: Output>(
     requires writes { CanFail (W.failures output.old) }
     requires prints { CanFail (E.failures faults.old) }
 
-    // The input is no stream or was not read, and why is printed; or its messages were put, and what came of it is.
-    ensures { Puts (source_of I.Input input.old) (source_of I.Input input.new) (network.new ≡ network.old)
-        (λ ends. C.connects network.old putting.entry.port ends network.new) putting.entry.target result
+    // The input is no stream or was not read, and why is printed; or its messages were put, and
+    // what came of it is.
+    ensures { Puts (source_of I.Input input.old) (source_of I.Input input.new)
+        (network.new ≡ network.old)
+        (λ ends. C.connects network.old putting.entry.port ends network.new)
+        putting.entry.target result
         (desk_of (said_of W.Output output.old) (said_of E.Output faults.old))
         (desk_of (said_of W.Output output.new) (said_of E.Output faults.new)) }
 {
@@ -70,10 +73,11 @@ pub struct CsvPutting<'a> {
     pub form: CsvForm<'a>,
 }
 
-/// Puts the rows that the whole input says as CSV into a table, and prints how many rows were put. The input is read, and each
-/// record is looked at, before a connection is made. Then its rows are made and sent, batch by batch, so that memory holds the
-/// text and one batch. Columns that are found are printed on `faults` in a line. A fault is printed there in a line, as far as
-/// that takes it.
+/// Puts the rows that the whole input says as CSV into a table, and prints how many rows were put.
+/// The input is read, and each record is looked at, before a connection is made. Then its rows are
+/// made and sent, batch by batch, so that memory holds the text and one batch. Columns that are
+/// found are printed on `faults` in a line. A fault is printed there in a line, as far as that
+/// takes it.
 pub fn put_csv<C: Connect, I: Input, W: Output, E: Output>(
     alloc: Global,
     network: &mut C,
@@ -87,9 +91,12 @@ pub fn put_csv<C: Connect, I: Input, W: Output, E: Output>(
     requires writes { CanFail (W.failures output.old) }
     requires prints { CanFail (E.failures faults.old) }
 
-    // The input says no rows or was not read, and why is printed; or its rows were put, and what came of it is.
-    ensures { PutsCsv (form_of putting.entry.form) (source_of I.Input input.old) (source_of I.Input input.new) (network.new ≡ network.old)
-        (λ ends. C.connects network.old putting.entry.putting.port ends network.new) putting.entry.putting.target result
+    // The input says no rows or was not read, and why is printed; or its rows were put, and what
+    // came of it is.
+    ensures { PutsCsv (form_of putting.entry.form) (source_of I.Input input.old)
+        (source_of I.Input input.new) (network.new ≡ network.old)
+        (λ ends. C.connects network.old putting.entry.putting.port ends network.new)
+        putting.entry.putting.target result
         (desk_of (said_of W.Output output.old) (said_of E.Output faults.old))
         (desk_of (said_of W.Output output.new) (said_of E.Output faults.new)) }
 {

@@ -35,19 +35,23 @@ pub struct Querying<'a> {
     pub sql: &'a str,
     /// How its rows are printed.
     pub format: Format,
-    /// What the hashes begin with by which the texts of dictionaries are looked up, where they are written.
+    /// What the hashes begin with by which the texts of dictionaries are looked up, where they are
+    /// written.
     pub seed: HashSeed,
 }
 
-/// Prints the rows that a query answers, in the order of the endpoints: a line of the columns' names, and a line for each
-/// row; or CSV, or a table for people. The endpoints are fetched over up to `streams` connections at a time. Each but the
-/// first is made in a thread of its own, and closed behind its last stream; where the network gives none, it is asked
-/// once more behind the endpoints before. Nothing is printed before all came.
+/// Prints the rows that a query answers, in the order of the endpoints: a line of the columns'
+/// names, and a line for each row; or CSV, or a table for people. The endpoints are fetched over up
+/// to `streams` connections at a time. Each but the first is made in a thread of its own, and
+/// closed after its last stream; where the network gives none, it is asked once more after the
+/// endpoints before. Nothing is printed before all came.
 ///
-/// An Arrow IPC stream is written as its rows come, batch by batch, and the connections are used one behind the other: while the
-/// run of one is written, the next one is made and its first stream is begun, in a thread of its own.
+/// An Arrow IPC stream is written as its rows come, batch by batch, and the connections are used
+/// one after the other: while the run of one is written, the next one is made and its first stream
+/// is begun, in a thread of its own.
 ///
-/// A fault is printed on `faults` in a line, as far as that takes it; where no connection was made, a second line says so.
+/// A fault is printed on `faults` in a line, as far as that takes it; where no connection was made,
+/// a second line says so.
 pub fn query<T: Threads, C: Connect + Drop + Send, W: Output, E: Output>(
     rt: &T,
     alloc: Global,
@@ -63,9 +67,10 @@ where
     requires writes { CanFail (W.failures output.old) }
     requires prints { CanFail (E.failures faults.old) }
 
-    // The rows that the query answers are printed; or what failed is, and where no connection was made, why.
-    ensures { Queries (λ old ends new. C.connects old query.entry.port ends new) C.shares query.entry.streams
-        query.entry.sql.now query.entry.format network.old network.new result
+    // The rows that the query answers are printed; or what failed is, and where no connection was
+    // made, why.
+    ensures { Queries (λ old ends new. C.connects old query.entry.port ends new) C.shares
+        query.entry.streams query.entry.sql.now query.entry.format network.old network.new result
         (desk_of (said_of W.Output output.old) (said_of E.Output faults.old))
         (desk_of (said_of W.Output output.new) (said_of E.Output faults.new)) }
 {
@@ -142,7 +147,8 @@ fn end_by_streaming<E: Output>(
     streamed: Result<(), Lost>,
 ) -> ExitStatus
     requires { CanFail (E.failures faults.old) }
-    ensures { TellsStreamed streamed result (said_of E.Output faults.old) (said_of E.Output faults.new) }
+    ensures { TellsStreamed streamed result (said_of E.Output faults.old)
+        (said_of E.Output faults.new) }
 {
     match streamed {
         Ok(()) => ExitStatus::Done,

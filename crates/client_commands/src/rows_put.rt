@@ -13,13 +13,13 @@ use csv_input::CsvText;
 use grpc_frame::{Input, Output};
 use std::alloc::Global;
 
-/// Puts the rows of a text into a table, and answers how many were put. Each batch is made of its records, sent, and dropped, so
-/// that memory holds the text and one batch.
+/// Puts the rows of a text into a table, and answers how many were put. Each batch is made of its
+/// records, sent, and dropped, so that memory holds the text and one batch.
 ///
 /// # Errors
 ///
-/// Those of `client_calls::put`. Where memory is refused for a batch (F21), or one is too long (F2, F12), the put is cut short:
-/// its End is never sent, and the server puts nothing.
+/// Those of `client_calls::put`. Where memory is refused for a batch (F21), or one is too long (F2,
+/// F12), the put is cut short: its End is never sent, and the server puts nothing.
 pub(crate) fn put_rows<R: Input + Drop, W: Output + Drop>(
     alloc: Global,
     connection: Connection<R, W>,

@@ -1,11 +1,13 @@
-//! Fetching rows side by side: over several connections, each but the first made and used by a thread of its own.
+//! Fetching rows side by side: over several connections, each but the first made and used by a
+//! thread of its own.
 
 ghost use Rattle.std.specs.Prelude.{map};
 ghost use Rattle.flight_proto.specs.FlightInfo.{endpoint_said};
 ghost use Rattle.flight_proto.specs.Wanted.{rows_of};
 ghost use Rattle.client_calls.specs.Outcome.{Line};
 ghost use Rattle.client_commands.specs.Lines.{CanCount};
-ghost use Rattle.client_commands.specs.inside.Parts.{Apart, BothGive, FetchesAlone, FetchesParts, SpreadsOrNot};
+ghost use Rattle.client_commands.specs.inside.Parts.{Apart, BothGive, FetchesAlone, FetchesParts};
+ghost use Rattle.client_commands.specs.inside.Parts.{SpreadsOrNot};
 ghost use Rattle.std.specs.Thread.{IsSend};
 
 use crate::apart::{Refused, fetch_apart, fetch_at_last, fetch_part};
@@ -21,15 +23,17 @@ use std::alloc::Global;
 use std::thread;
 use std::thread::Threads;
 
-/// Fetches the rows that a query answers: asks over the first connection where they are, fetches the streams of the endpoints
-/// over it and over further ones, and joins them in the order of the endpoints. Each further connection is made by the thread
-/// that fetches over it, and each is closed behind its last stream. So no thread that holds a connection waits for another.
+/// Fetches the rows that a query answers: asks over the first connection where they are, fetches
+/// the streams of the endpoints over it and over further ones, and joins them in the order of the
+/// endpoints. Each further connection is made by the thread that fetches over it, and each is
+/// closed after its last stream. So no thread that holds a connection waits for another.
 ///
 /// # Errors
 ///
-/// - `Lost::Failed`, as `fetch_rows` gives it: the failure of the first endpoint, in their order, that has one.
-/// - `Lost::Unconnected` where the streams of all endpoints before those of a further connection came, and the network was
-///   asked twice for that one and gave none.
+/// - `Lost::Failed`, as `fetch_rows` gives it: the failure of the first endpoint, in their order,
+///   that has one.
+/// - `Lost::Unconnected` where the streams of all endpoints before those of a further connection
+///   came, and the network was asked twice for that one and gave none.
 pub(crate) fn fetch_spread<T: Threads, C: Connect + Drop + Send>(
     rt: &T,
     alloc: Global,
@@ -41,8 +45,10 @@ where
     C::Reader: Send,
     C::Writer: Send,
     requires { CanCount connection }
-    ensures { (last : Line) × SpreadsOrNot (λ old ends new. C.connects old query.entry.port ends new) C.shares
-        query.entry.streams (rows_of query.entry.sql.now) network.old network.new result connection last }
+    ensures { (last : Line)
+        × SpreadsOrNot (λ old ends new. C.connects old query.entry.port ends new) C.shares
+        query.entry.streams
+        (rows_of query.entry.sql.now) network.old network.new result connection last }
 {
     let Places { endpoints, handles } = ask_places(alloc, network, &mut connection, query)?;
     let streams = fetch_over(rt, alloc, connection, handles, query.port, &endpoints)?;
@@ -56,7 +62,8 @@ fn fetch_alone<R: Input + Drop, W: Output + Drop>(
     endpoints: &[FlightEndpoint],
 ) -> Result<Vec<Stream>, Lost>
     requires { CanCount connection }
-    ensures { FetchesAlone (λ streams. streams.items) (map endpoint_said endpoints.now) result connection }
+    ensures { FetchesAlone (λ streams. streams.items)
+        (map endpoint_said endpoints.now) result connection }
 {
     match fetch_part(alloc, connection, endpoints) {
         Ok(streams) => Ok(streams),
@@ -64,8 +71,8 @@ fn fetch_alone<R: Input + Drop, W: Output + Drop>(
     }
 }
 
-// The streams of the first parts, and behind them those of the last one; or the failure of the first parts, or else that of the
-// last one.
+// The streams of the first parts, and after them those of the last one; or the failure of the first
+// parts, or else that of the last one.
 fn both_parts<C: Connect + Drop>(
     alloc: Global,
     before: Result<Vec<Stream>, Lost>,
@@ -82,8 +89,9 @@ fn both_parts<C: Connect + Drop>(
     Ok(streams)
 }
 
-// The streams of the endpoints, in their order. The connection of the last handle is made, and fetches its part of them, the
-// last ones, in a thread of its own, while the others fetch theirs. No connection is held behind its last stream.
+// The streams of the endpoints, in their order. The connection of the last handle is made, and
+// fetches its part of them, the last ones, in a thread of its own, while the others fetch theirs.
+// No connection is held after its last stream.
 #[cycle(parts)]
 fn fetch_over<T: Threads, C: Connect + Drop + Send>(
     rt: &T,
@@ -111,7 +119,8 @@ where
     { fetch_apart(alloc, last, port, back) };
     let first_parts = move || -> Result<Vec<Stream>, Lost>
         requires { IsSend C.row × IsSend C.Reader.row × IsSend C.Writer.row × CanCount connection }
-        ensures { FetchesParts (λ old ends new. C.connects old port ends new) (λ streams. streams.items)
+        ensures { FetchesParts (λ old ends new. C.connects old port ends new)
+            (λ streams. streams.items)
             (map endpoint_said front.entry.now) connection others.items result }
     { fetch_over(rt, alloc, connection, others, port, front) };
     let (behind, before) = thread::join(rt, last_part, first_parts);

@@ -19,8 +19,9 @@ use row_text::write_names;
 use scan_base::Text;
 use std::alloc::Global;
 
-/// Prints the names of the tables, a line each, in the order in which the server lists them. A fault is printed on
-/// `faults` in a line, as far as that takes it; where no connection was made, a second line says so.
+/// Prints the names of the tables, a line each, in the order in which the server lists them. A
+/// fault is printed on `faults` in a line, as far as that takes it; where no connection was made, a
+/// second line says so.
 pub fn tables<C: Connect, W: Output, E: Output>(
     alloc: Global,
     network: &mut C,
@@ -32,7 +33,8 @@ pub fn tables<C: Connect, W: Output, E: Output>(
     requires writes { CanFail (W.failures output.old) }
     requires prints { CanFail (E.failures faults.old) }
 
-    // The names of the tables are printed; or what failed is, and where no connection was made, why.
+    // The names of the tables are printed; or what failed is, and where no connection was made,
+    // why.
     ensures { ListsTables (λ ends. C.connects network.old port ends network.new) result
         (desk_of (said_of W.Output output.old) (said_of E.Output faults.old))
         (desk_of (said_of W.Output output.new) (said_of E.Output faults.new)) }

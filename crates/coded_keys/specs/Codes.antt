@@ -11,7 +11,8 @@ use Rattle.arrays.specs.Validity.{where_valid}
 
 -- the code at a place: of an index that is valid the index itself, and else the value
 abbrev pub layout_code : Layout → ℕ → Value
-layout_code (layout.Indices cells) place = where_valid cells.validity (λ at. Int (integer_at cells.index cells.values at)) place
+layout_code (layout.Indices cells) place =
+    where_valid cells.validity (λ at. Int (integer_at cells.index cells.values at)) place
 layout_code slots place = layout_slot slots place
 
 -- the code of a slot of a column

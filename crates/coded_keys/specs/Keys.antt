@@ -8,7 +8,8 @@ use Rattle.coded_keys.specs.declared.rows.KeyRows.{KeyRows}
 
 -- the values of the key in the row at a place of the list
 abbrev pub key_at : KeyRows → ℕ → List Value
-key_at keys place = map (cell_in (row_of keys.batch.now.columns (get_or keys.rows.now place 0))) keys.columns.now
+key_at keys place =
+    map (cell_in (row_of keys.batch.now.columns (get_or keys.rows.now place 0))) keys.columns.now
 
 -- the value at a place of the key in a row of a batch
 abbrev pub part_in : BatchAt → List ℕ → ℕ → ℕ → Value

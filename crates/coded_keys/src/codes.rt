@@ -13,7 +13,8 @@ use arrow_schema::IntegerType;
 use scan_base::ValueRef;
 use std::hash::{DefaultHasher, Hash, Hasher};
 
-/// The code of a cell: the index of its text in the column's dictionary, or the value itself. It takes no memory.
+/// The code of a cell: the index of its text in the column's dictionary, or the value itself. It
+/// takes no memory.
 pub(crate) fn code_at(column: &Column, row: usize) -> ValueRef<'_>
     requires { row < column.now.len }
     ensures { value_of result ≡ code_of column.now row }
@@ -90,7 +91,8 @@ fn are_one(code: ValueRef<'_>, other: ValueRef<'_>) -> bool
     }
 }
 
-/// Takes a code into a hash: first a byte that tells its kind, so that no code takes as another kind's does.
+/// Takes a code into a hash: first a byte that tells its kind, so that no code takes as another
+/// kind's does.
 pub(crate) fn take_code(hasher: &mut DefaultHasher, code: ValueRef<'_>) {
     match code {
         ValueRef::Null => hasher.write_u8(0),

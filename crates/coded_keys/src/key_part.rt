@@ -14,7 +14,8 @@ pub struct KeyPart<'a> {
     pub columns: &'a [usize],
     pub row: u32,
     pub part: u32,
-    ghost there: { IsTrue (list_all (λ column. nat_lt column (length batch.now.columns)) columns.now) },
+    ghost there: { IsTrue
+        (list_all (λ column. nat_lt column (length batch.now.columns)) columns.now) },
     ghost within: { row < batch.now.rows },
     ghost named: { part < length columns.now },
 }
@@ -35,7 +36,8 @@ impl<'a> KeyPart<'a> {
     // Whether another row has the same code there. Then it has the same value.
     pub(crate) fn has_code_of(&self, row: u32) -> bool
         requires { row < self.now.batch.now.rows }
-        ensures { result ≡ true → value_in self.now ≡ part_in self.now.batch.now self.now.columns.now row self.now.part }
+        ensures { result ≡ true →
+            value_in self.now ≡ part_in self.now.batch.now self.now.columns.now row self.now.part }
     {
         let columns = self.batch.columns();
         have_one_code(

@@ -1,4 +1,5 @@
-//! Rows of a batch that have the key of an earlier row, told without a look at the texts of a dictionary.
+//! Rows of a batch that have the key of an earlier row, told without a look at the texts of a
+//! dictionary.
 #![tactic(auto)]
 
 mod codes;

@@ -14,7 +14,8 @@ use std::hash::{BuildHasher, Hasher};
 // No table has more places: 16 MB.
 const MOST_PLACES: usize = 1_048_576;
 
-// A table begins with no more places, 1 KB, and grows as values are met. So who looks at few rows pays for few.
+// A table begins with no more places, 1 KB, and grows as values are met. So who looks at few rows
+// pays for few.
 const FIRST_PLACES: usize = 64;
 
 // A table that grows has so many times the places that it had.
@@ -31,8 +32,9 @@ pub struct SeenNumber {
     pub number: u32,
 }
 
-/// At each place a row, a part of its key, and the number of the value there, or nothing. It stands at one of the places to which
-/// its code leads. It may be forgotten where many are kept. Who asks looks whether that row has the same code.
+/// At each place a row, a part of its key, and the number of the value there, or nothing. It stands
+/// at one of the places to which its code leads. It may be forgotten where many are kept. Who asks
+/// looks whether that row has the same code.
 #[derive(Drop)]
 pub struct SeenNumbers {
     alloc: Global,
@@ -51,8 +53,8 @@ fn free_places(alloc: Global, count: usize) -> Result<Vec<Option<SeenNumber>>, A
 }
 
 impl SeenNumbers {
-    /// A table for keys of so many parts, which knows no number. It takes no memory yet: 16 bytes for a place once values are
-    /// kept, and 16 MB at most. For keys of no part it keeps nothing.
+    /// A table for keys of so many parts, which knows no number. It takes no memory yet: 16 bytes
+    /// for a place once values are kept, and 16 MB at most. For keys of no part it keeps nothing.
     pub fn new(alloc: Global, seed: HashSeed, parts: usize) -> SeenNumbers
         ensures { result.places.items ≡ [] }
     {
@@ -73,10 +75,11 @@ impl SeenNumbers {
         self.places = Vec::new(self.alloc);
     }
 
-    /// The number of a part of a row's key, where a row with the same code there was seen and is not forgotten. No text of a
-    /// dictionary is looked at.
+    /// The number of a part of a row's key, where a row with the same code there was seen and is
+    /// not forgotten. No text of a dictionary is looked at.
     pub fn number(&self, at: &KeyPart<'_>) -> Option<u32>
-        ensures { (numbers : Value → Option ℕ) → AreNumbers numbers at.now.batch.now at.now.columns.now self.now.places.items →
+        ensures { (numbers : Value → Option ℕ) →
+            AreNumbers numbers at.now.batch.now at.now.columns.now self.now.places.items →
             IfSome result (λ number. numbers (value_in at.now) ≡ Some number) }
     {
         let Some(begin) = self.place(at) else {
@@ -96,8 +99,8 @@ impl SeenNumbers {
         None
     }
 
-    /// Keeps the number of a part of a row's key, where it was not found. Where all its places are taken, it takes the first. Where
-    /// memory is refused, it is not kept.
+    /// Keeps the number of a part of a row's key, where it was not found. Where all its places are
+    /// taken, it takes the first. Where memory is refused, it is not kept.
     pub fn keep(&mut self, at: &KeyPart<'_>, number: u32)
         ensures { (numbers : Value → Option ℕ) → numbers (value_in at.now) ≡ Some number →
             AreNumbers numbers at.now.batch.now at.now.columns.now self.old.places.items →
@@ -115,9 +118,11 @@ impl SeenNumbers {
         }
     }
 
-    // Makes more places where half of them were taken. They know nothing yet. For keys of no part none are made.
+    // Makes more places where half of them were taken. They know nothing yet. For keys of no part
+    // none are made.
     fn make_room(&mut self)
-        ensures { (numbers : Value → Option ℕ) (batch : BatchAt) (columns : List ℕ) → AreNumbers numbers batch columns self.old.places.items →
+        ensures { (numbers : Value → Option ℕ) (batch : BatchAt) (columns : List ℕ) →
+            AreNumbers numbers batch columns self.old.places.items →
             AreNumbers numbers batch columns self.new.places.items }
     {
         let count = self.places.len();
@@ -131,7 +136,8 @@ impl SeenNumbers {
         }
     }
 
-    // The first place of a part's code: one of its own where there are enough; none where it has no code. No contract rests on it.
+    // The first place of a part's code: one of its own where there are enough; none where it has no
+    // code. No contract rests on it.
     fn place(&self, at: &KeyPart<'_>) -> Option<usize> {
         let ValueRef::Int(code) = at.code() else {
             return None;
@@ -151,7 +157,8 @@ impl SeenNumbers {
 
     // What stands at a place, which is counted round.
     fn entry(&self, place: usize) -> Option<SeenNumber>
-        ensures { (numbers : Value → Option ℕ) (batch : BatchAt) (columns : List ℕ) → AreNumbers numbers batch columns self.now.places.items →
+        ensures { (numbers : Value → Option ℕ) (batch : BatchAt) (columns : List ℕ) →
+            AreNumbers numbers batch columns self.now.places.items →
             IfSome result (IsNumber numbers batch columns) }
     {
         let at = place & self.places.len().saturating_sub(1);
@@ -162,8 +169,8 @@ impl SeenNumbers {
         }
     }
 
-    // Where a part is to stand: at the first free place of those to which its code leads, or else at the first of them. A place that
-    // is not there, where it has no code.
+    // Where a part is to stand: at the first free place of those to which its code leads, or else
+    // at the first of them. A place that is not there, where it has no code.
     fn room(&self, at: &KeyPart<'_>) -> usize {
         let count = self.places.len();
         let Some(begin) = self.place(at) else {

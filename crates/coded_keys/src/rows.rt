@@ -8,13 +8,15 @@ use crate::codes::{code_at, have_one_code, take_code};
 use arrays::{Batch, Layout};
 use std::hash::{DefaultHasher, Hasher};
 
-/// Rows of a batch, and the columns whose values in them are their keys. A row is named by its place in the list of rows.
+/// Rows of a batch, and the columns whose values in them are their keys. A row is named by its
+/// place in the list of rows.
 #[derive(Clone, Copy, Drop)]
 pub struct KeyRows<'a> {
     pub batch: &'a Batch,
     pub columns: &'a [usize],
     pub rows: &'a [u32],
-    ghost there: { IsTrue (list_all (λ column. nat_lt column (length batch.now.columns)) columns.now) },
+    ghost there: { IsTrue
+        (list_all (λ column. nat_lt column (length batch.now.columns)) columns.now) },
     ghost within: { All (λ row. row < batch.now.rows) rows.now },
 }
 
@@ -64,7 +66,8 @@ impl<'a> KeyRows<'a> {
         requires part { part < length self.now.columns.now }
         requires place { place < length self.now.rows.now }
         requires other { other < length self.now.rows.now }
-        ensures { result ≡ true → get_or (key_at self.now place) part Null ≡ get_or (key_at self.now other) part Null }
+        ensures { result ≡ true →
+            get_or (key_at self.now place) part Null ≡ get_or (key_at self.now other) part Null }
     {
         let columns = self.batch.columns();
         have_one_code(

@@ -17,8 +17,9 @@ const MOST_LOOKS: usize = 8;
 // The entry of no row.
 const NO_ROW: u32 = u32::MAX;
 
-/// Rows that were seen. Each stands at one of the entries to which the codes of its key lead. It may be forgotten where many
-/// are seen. No promise rests on an entry: who asks looks whether that row has the same codes.
+/// Rows that were seen. Each stands at one of the entries to which the codes of its key lead. It
+/// may be forgotten where many are seen. No promise rests on an entry: who asks looks whether that
+/// row has the same codes.
 #[derive(Drop)]
 pub struct SeenRows {
     begun: DefaultHasher,
@@ -27,8 +28,8 @@ pub struct SeenRows {
 }
 
 impl SeenRows {
-    /// A table for so many rows, none of which was seen. It takes 8 to 16 bytes for each row, and 256 KB at most. The hashes
-    /// of codes begin with the seed.
+    /// A table for so many rows, none of which was seen. It takes 8 to 16 bytes for each row, and
+    /// 256 KB at most. The hashes of codes begin with the seed.
     ///
     /// # Errors
     ///
@@ -43,8 +44,9 @@ impl SeenRows {
         })
     }
 
-    /// The place of a row with the same key: of an earlier one, where one with the same codes was seen and is not forgotten,
-    /// or else the row's own. Then it was seen. No text of a dictionary is looked at.
+    /// The place of a row with the same key: of an earlier one, where one with the same codes was
+    /// seen and is not forgotten, or else the row's own. Then it was seen. No text of a dictionary
+    /// is looked at.
     pub fn earlier(&mut self, keys: &KeyRows<'_>, place: usize) -> usize
         requires { place < length keys.now.rows.now }
         ensures before { result ≤ place }

@@ -24,7 +24,8 @@ use scan_base::ValueRef;
 use std::alloc::{AllocError, Global};
 use told_rows::push_value;
 
-/// The answer to a row: the slots and the buffers of its columns, or why it is refused. Of many slots or bytes it says a sum.
+/// The answer to a row: the slots and the buffers of its columns, or why it is refused. Of many
+/// slots or bytes it says a sum.
 pub fn answer(alloc: Global, seed: HashSeed, row: &str) -> Result<String, AllocError> {
     match columns(alloc, seed, row) {
         Ok(columns) => lines(alloc, columns.as_slice()),
@@ -111,7 +112,8 @@ fn push_slots(line: &mut String, column: &Column) -> Result<(), AllocError> {
     Ok(())
 }
 
-// A number that all slots' values make, in order: of a null, of 1 or 2, of 16 bytes, or of a text's bytes and an end.
+// A number that all slots' values make, in order: of a null, of 1 or 2, of 16 bytes, or of a text's
+// bytes and an end.
 fn sum_of_slots(column: &Column) -> u32 {
     let mut sum = 0;
     for place in 0..column.len() {

@@ -40,7 +40,8 @@ fn push_messages(alloc: Global, text: &CsvText, told: &mut String) -> Result<(),
     Ok(())
 }
 
-// What a text gives: what its messages say or the status, and what is printed of faults, with `|` for LF.
+// What a text gives: what its messages say or the status, and what is printed of faults, with `|`
+// for LF.
 fn text_answer(alloc: Global, form: CsvForm<'_>, text: &str) -> Result<String, Fault> {
     let mut told = String::new(alloc);
     let mut input = MemoryInput::new(text.as_bytes());

@@ -1,5 +1,5 @@
-//! Messages of Arrow, columns of buffers and texts of CSV: an answer to each row of the standard input. `README.md` says what a
-//! row has.
+//! Messages of Arrow, columns of buffers and texts of CSV: an answer to each row of the standard
+//! input. `README.md` says what a row has.
 #![tactic(auto)]
 
 mod columns;
@@ -12,8 +12,8 @@ use anyhow::Result;
 use hash_seed::HashSeed;
 use std::alloc::Global;
 
-// The answer of the room that a row is for: lines, each of which ends with LF. A row of CSV has ` ~ ` or is a note, and one of
-// columns begins with a capital.
+// The answer of the room that a row is for: lines, each of which ends with LF. A row of CSV has
+// ` ~ ` or is a note, and one of columns begins with a capital.
 fn answer(alloc: Global, seed: HashSeed, messages: &mut Messages, row: &str) -> Result<String> {
     if row.starts_with('#') || row.contains(" ~ ") {
         return Ok(csv_texts::answer(alloc, row)?);

@@ -1,4 +1,5 @@
-//! Messages of Arrow: what a reader answers to them, and what our own writer makes of what they say.
+//! Messages of Arrow: what a reader answers to them, and what our own writer makes of what they
+//! say.
 
 mod answers;
 mod by_name;

@@ -1,6 +1,7 @@
-//! Bytes as text: pieces with a plus between. A piece is two digits for each byte, the same so many times
-//! (`0AFF*300`), so many numbers of four bytes from one on that rise by a step (`0:2:301`), or a minus or a dot for nothing.
-//! A text that begins with a plus has multiples: `+5*3` stands for the numbers 0, 5 and 10.
+//! Bytes as text: pieces with a plus between. A piece is two digits for each byte, the same so many
+//! times (`0AFF*300`), so many numbers of four bytes from one on that rise by a step (`0:2:301`),
+//! or a minus or a dot for nothing. A text that begins with a plus has multiples: `+5*3` stands for
+//! the numbers 0, 5 and 10.
 
 use anyhow::{Context, Result};
 use bytes::Bytes;

@@ -3,7 +3,8 @@ use Rattle.std.specs.Prelude.{◌≡◌, ℕ, List, [], Option, Some, Result}
 use Rattle.grpc_frame.specs.Ends.{Tape}
 use Rattle.command_ends.specs.declared.accept_failure.AcceptFailure.{AcceptFailure}
 
--- the ends of a connection as it is made: the tape of what comes, and what was written, where that is known
+-- the ends of a connection as it is made: the tape of what comes, and what was written, where that
+-- is known
 pub record Ends : Type 0 where
   pub input : Tape
   pub output : Option (List ℕ)
@@ -16,6 +17,7 @@ ends_of input output = record { input = input; output = output }
 abbrev pub AreNew : Ends → Type 0
 AreNew ends = (ends.input.given ≡ []) × (ends.output ≡ Some [])
 
--- what may come of an accept, from a listener to a listener: a connection of these ends, or why there is none
+-- what may come of an accept, from a listener to a listener: a connection of these ends, or why
+-- there is none
 abbrev pub Accepting : Type 0 → Type 1
 Accepting L = L → Result Ends AcceptFailure → L → Type 0

@@ -1,4 +1,4 @@
--- What the commands print, beside rows and names.
+-- What the commands print, next to rows and names.
 use Rattle.std.specs.Prelude.{◌≡◌, ◌⊎◌, ℕ, ◌+◌, List, ◌∷◌, [], ◌++◌, Option, codes}
 use Rattle.std.specs.Fmt.{decimal}
 use Rattle.std.specs.Io.KnownBytes.{Appends}
@@ -28,7 +28,8 @@ floor_line floor = codes "floor " ++ decimal floor ++ codes "\n"
 abbrev pub listening_line : ℕ → List ℕ
 listening_line port = codes "listening 127.0.0.1:" ++ decimal port ++ codes "\n"
 
--- that the line of a port was printed: the port, and what the output held right after the line, where that is known
+-- that the line of a port was printed: the port, and what the output held right after the line,
+-- where that is known
 pub record AnnouncedAt : Type 0 where
   pub port : ℕ
   pub held : Option (List ℕ)
@@ -40,7 +41,8 @@ pub record Said : Type 0 where
 
 -- both of an output, whose trait's ghost members these are
 abbrev pub said_of : {W : Type 0} → OutputMembers W → W → Said
-said_of members output = record { bytes = members.contents output; failures = members.failures output }
+said_of members output =
+    record { bytes = members.contents output; failures = members.failures output }
 
 -- a text was printed; or a write of it failed, which is counted, and a beginning of it was printed
 abbrev pub Prints : List ℕ → Said → Said → Type 0

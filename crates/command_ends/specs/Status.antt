@@ -1,7 +1,9 @@
 -- The numbers of the exit statuses.
 use Rattle.std.specs.Prelude.{ℕ}
 use Rattle.command_ends.specs.declared.exit_status.ExitStatus.{ExitStatus}
-use Rattle.command_ends.specs.declared.exit_status.ExitStatus.TheVariants.{Done, FaultAnswered, BadCommandLine, FaultAtThisEnd}
+use Rattle.command_ends.specs.declared.exit_status.ExitStatus.TheVariants.{Done, FaultAnswered}
+use Rattle.command_ends.specs.declared.exit_status.ExitStatus.TheVariants.{BadCommandLine}
+use Rattle.command_ends.specs.declared.exit_status.ExitStatus.TheVariants.{FaultAtThisEnd}
 
 abbrev pub number_of : ExitStatus → ℕ
 number_of Done = 0

@@ -26,7 +26,8 @@ pub record Gives (bytes : List ℕ) (old new : Source) : Type 0 where
 -- a read failed and was counted (F22), or memory was refused (F21)
 abbrev pub Stops : Fault → Source → Source → Type 0
 Stops fault old new =
-    ((fault ≡ Transport) × (new.failed ≡ old.failed + 1)) ⊎ ((fault ≡ OutOfMemory) × (new.failed ≡ old.failed))
+    ((fault ≡ Transport) × (new.failed ≡ old.failed + 1))
+    ⊎ ((fault ≡ OutOfMemory) × (new.failed ≡ old.failed))
 
 -- the bytes of the whole input, or why there are none
 abbrev pub ReadsWhole : Result (List ℕ) Fault → Source → Source → Type 0
@@ -47,6 +48,8 @@ pub record IsStreamOf (messages : List IpcMessage) (old new : Source) : Type 0 w
   pub framed : Framed bytes messages rest
 
 -- the messages of the whole input, seen by `view`; or it is no stream (F6), or it was not read
-abbrev pub ReadsMessages : {A : Type 0} → (A → List IpcMessage) → Result A Fault → Source → Source → Type 0
+abbrev pub ReadsMessages : {A : Type 0} → (A → List IpcMessage) → Result A Fault → Source →
+    Source → Type 0
 ReadsMessages view (Ok messages) old new = IsStreamOf (view messages) old new
-ReadsMessages view (Err fault) old new = ((fault ≡ BadFlatbuffer) × IsNoStream old new) ⊎ Stops fault old new
+ReadsMessages view (Err fault) old new =
+    ((fault ≡ BadFlatbuffer) × IsNoStream old new) ⊎ Stops fault old new

@@ -3,7 +3,8 @@
 ghost use Rattle.std.specs.Prelude.{◌≡◌, ◌++◌, ◌∷◌, []};
 ghost use Rattle.grpc_frame.specs.Ends.{CanFail, CountsFailure, FailsByTransport, Writes};
 ghost use Rattle.command_ends.specs.Printing.{Prints, cause_lines, fault_line, said_of};
-ghost use Rattle.command_ends.specs.declared.exit_status.ExitStatus.TheVariants.{FaultAnswered, FaultAtThisEnd};
+ghost use Rattle.command_ends.specs.declared.exit_status.ExitStatus.TheVariants.{FaultAnswered};
+ghost use Rattle.command_ends.specs.declared.exit_status.ExitStatus.TheVariants.{FaultAtThisEnd};
 
 use crate::exit_status::ExitStatus;
 use grpc_frame::Output;
@@ -31,7 +32,8 @@ pub fn end_by_answer<E: Output>(faults: &mut E, fault: Fault) -> ExitStatus
     ExitStatus::FaultAnswered
 }
 
-/// Prints the line of F22, and behind it a line that says what failed, as far as `faults` takes them.
+/// Prints the line of F22, and after it a line that says what failed, as far as `faults` takes
+/// them.
 pub fn end_by_cause<E: Output>(faults: &mut E, cause: &str) -> ExitStatus
     requires { CanFail (E.failures faults.old) }
     ensures status { result ≡ FaultAtThisEnd }
@@ -45,7 +47,8 @@ pub fn end_by_cause<E: Output>(faults: &mut E, cause: &str) -> ExitStatus
 // Writes a fault in a line.
 fn write_fault<E: Output>(faults: &mut E, fault: Fault) -> Result<(), Fault>
     requires { CanFail (E.failures faults.old) }
-    ensures bytes { Writes result (E.contents faults.old) (E.contents faults.new) (fault_line fault) }
+    ensures bytes { Writes result (E.contents faults.old) (E.contents faults.new)
+        (fault_line fault) }
     ensures counted { CountsFailure result (E.failures faults.old) (E.failures faults.new) }
     ensures kind { FailsByTransport result }
 {
@@ -57,7 +60,8 @@ fn write_fault<E: Output>(faults: &mut E, fault: Fault) -> Result<(), Fault>
 // Writes a text in a line.
 fn write_line<E: Output>(faults: &mut E, text: &str) -> Result<(), Fault>
     requires { CanFail (E.failures faults.old) }
-    ensures bytes { Writes result (E.contents faults.old) (E.contents faults.new) (text.now ++ 10 ∷ []) }
+    ensures bytes { Writes result (E.contents faults.old) (E.contents faults.new)
+        (text.now ++ 10 ∷ []) }
     ensures counted { CountsFailure result (E.failures faults.old) (E.failures faults.new) }
     ensures kind { FailsByTransport result }
 {
@@ -68,7 +72,8 @@ fn write_line<E: Output>(faults: &mut E, text: &str) -> Result<(), Fault>
 // Writes the line of F22, and a line that says what failed.
 fn write_cause<E: Output>(faults: &mut E, cause: &str) -> Result<(), Fault>
     requires { CanFail (E.failures faults.old) }
-    ensures bytes { Writes result (E.contents faults.old) (E.contents faults.new) (cause_lines cause.now) }
+    ensures bytes { Writes result (E.contents faults.old) (E.contents faults.new)
+        (cause_lines cause.now) }
     ensures counted { CountsFailure result (E.failures faults.old) (E.failures faults.new) }
     ensures kind { FailsByTransport result }
 {

@@ -2,7 +2,8 @@
 
 ghost use Rattle.std.specs.Prelude.{◌≡◌, ◌<◌, [], ℕ, List, Ok, OnOk};
 ghost use Rattle.std.specs.Io.KnownBytes.{IsAtEnd};
-ghost use Rattle.grpc_frame.specs.Ends.{Advances, CanFail, CountsFailure, FailsByTransport, TakesTurn};
+ghost use Rattle.grpc_frame.specs.Ends.{Advances, CanFail, CountsFailure, FailsByTransport};
+ghost use Rattle.grpc_frame.specs.Ends.{TakesTurn};
 ghost use Rattle.command_ends.specs.inside.Pieces.{ReadsIn};
 
 use grpc_frame::Input;
@@ -13,11 +14,11 @@ use std::marker::Model;
 // How long the memory is at first.
 const LEAST_LEN: usize = 65_536;
 
-/// Bytes that came, with room for more behind them. A contract sees the bytes and the room's length.
+/// Bytes that came, with room for more after them. A contract sees the bytes and the room's length.
 #[derive(Drop)]
 pub(crate) struct Held {
     memory: Vec<u8>,
-    // So many bytes of the memory have come. The room behind them holds zeros.
+    // So many bytes of the memory have come. The room after them holds zeros.
     len: usize,
 }
 

@@ -7,7 +7,8 @@ pub trait Known {
     // It has seen nothing, and nothing was made through it.
     ghost is_new: { Self → Type 0 };
 
-    // From a seat to the same one, which may have learnt what others did since, and through which nothing was made.
+    // From a seat to the same one, which may have learnt what others did since, and through which
+    // nothing was made.
     ghost learns: { Self → Self → Type 0 };
 
     // They are of one cell.
@@ -27,8 +28,8 @@ pub trait Known {
     fn tell_exact(&self)
         ensures { is_exact self.now };
 
-    /// Whether the other one, of the same cell, has seen no fewer entries. It then goes on from this one, and else this one from
-    /// it.
+    /// Whether the other one, of the same cell, has seen no fewer entries. It then goes on from
+    /// this one, and else this one from it.
     fn sees_no_more(&self, other: &Self) -> bool
         requires { is_beside self.now other.now }
         ensures { MatchBool result (begins self.now other.now) (begins other.now self.now) };

@@ -1,5 +1,5 @@
-//! How the commands of a program end, and what they share: exit statuses, printed faults and numbers, whole inputs, and the
-//! network as they see it.
+//! How the commands of a program end, and what they share: exit statuses, printed faults and
+//! numbers, whole inputs, and the network as they see it.
 //!
 //! `specs/Printing.antt` says what is printed, and `specs/Whole.antt` what a whole input is.
 #![tactic(auto)]

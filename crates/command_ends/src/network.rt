@@ -40,12 +40,14 @@ pub trait Connect {
         ensures { shares self.old result self.new };
 }
 
-/// Takes connections of clients, one after the other, for one seat. The first one is taken when the line of the port was printed,
-/// and the output of that line held what the listener asks for (`due`). Each other one is taken when the one before it was served
-/// as it is owed, and is closed. The listener is shown the seat at each accept and at each closing: so what was done for it is one
-/// chain, from a seat that had seen nothing, without an end.
+/// Takes connections of clients, one after the other, for one seat. The first one is taken when the
+/// line of the port was printed, and the output of that line held what the listener asks for
+/// (`due`). Each other one is taken when the one before it was served as it is owed, and is closed.
+/// The listener is shown the seat at each accept and at each closing: so what was done for it is
+/// one chain, from a seat that had seen nothing, without an end.
 pub trait Listen<K: Known> {
-    ghost use Rattle.std.specs.Prelude.{◌≡◌, ◌+◌, ℕ, List, Option, Some, None, Result, Ok, Err, IfErr, IfOk};
+    ghost use Rattle.std.specs.Prelude.{◌≡◌, ◌+◌, ℕ, List, Option, Some, None, Result, Ok, Err};
+    ghost use Rattle.std.specs.Prelude.{IfErr, IfOk};
     ghost use Rattle.command_ends.specs.Network.{Accepting, Ends, ends_of};
 
     /// What comes from a client.
@@ -54,8 +56,8 @@ pub trait Listen<K: Known> {
     /// What goes to it.
     type Writer: Output + Drop;
 
-    // What came of asking for a port, where a connection ends behind so many seconds of silence: this port is listened to, or
-    // none.
+    // What came of asking for a port, where a connection ends after so many seconds of silence:
+    // this port is listened to, or none.
     ghost listens: { Self → ℕ → ℕ → Option ℕ → Self → Type 0 };
 
     // What came of asking for another listener to the same port: this one, or none.
@@ -88,12 +90,13 @@ pub trait Listen<K: Known> {
     // An accept may be asked for once the output of the line of this port holds this.
     ghost due: { Self → ℕ → Option (List ℕ) → Type 0 };
 
-    // What is owed for a connection before it is closed: from the seat at its accept, by its ends when it was made and those that
-    // it left, to the seat that it left.
+    // What is owed for a connection before it is closed: from the seat at its accept, by its ends
+    // when it was made and those that it left, to the seat that it left.
     ghost owed: { K → Ends → Ends → K → Type 0 };
 
-    /// Listens to a port of this machine, 0 for one that is free, and gives the port. A read or a write of a connection fails
-    /// where for `idle` seconds no byte comes or goes; 0 stands for no end.
+    /// Listens to a port of this machine, 0 for one that is free, and gives the port. A read or a
+    /// write of a connection fails where for `idle` seconds no byte comes or goes; 0 stands for no
+    /// end.
     ///
     /// # Errors
     ///
@@ -135,8 +138,9 @@ pub trait Listen<K: Known> {
         ensures keeps_due { (port : ℕ) (held : Option (List ℕ))
             → due self.old port held → due self.new port held };
 
-    /// Waits for the next connection, where the line of its port was printed and no other is open. The seat may have learnt what
-    /// others did since it was shown last, and nothing was made through it. No call of the connection's ends has failed yet.
+    /// Waits for the next connection, where the line of its port was printed and no other is open.
+    /// The seat may have learnt what others did since it was shown last, and nothing was made
+    /// through it. No call of the connection's ends has failed yet.
     ///
     /// # Errors
     ///
@@ -166,11 +170,13 @@ pub trait Listen<K: Known> {
         ensures due { (port : ℕ) (held : Option (List ℕ))
             → due self.old port held → due self.new port held };
 
-    /// Closes the connection that is open, and was served as it is owed, from the seat that was shown at its accept to this one.
+    /// Closes the connection that is open, and was served as it is owed, from the seat that was
+    /// shown at its accept to this one.
     fn done(&mut self, reader: Self::Reader, writer: Self::Writer, seat: &K)
         requires cell { cell self.old seat.now }
         requires served { (old : K) × (made : Ends) × rests self.old old × holds self.old made
-            × owed old made (ends_of (Self.Reader.tape reader) (Self.Writer.contents writer)) seat.now }
+            × owed old made
+            (ends_of (Self.Reader.tape reader) (Self.Writer.contents writer)) seat.now }
         ensures closed { closes self.old self.new }
         ensures at_rest { at_rest self.new }
         ensures port { port_of self.new ≡ port_of self.old }

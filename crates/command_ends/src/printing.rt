@@ -36,7 +36,8 @@ impl Model for Announced {
 /// `Fault::Transport` where a write failed. It is counted, and a beginning of the line is written.
 pub fn print_count<W: Output>(alloc: Global, output: &mut W, rows: u64) -> Result<(), Fault>
     requires { CanFail (W.failures output.old) }
-    ensures bytes { Writes result (W.contents output.old) (W.contents output.new) (count_line rows) }
+    ensures bytes { Writes result (W.contents output.old) (W.contents output.new)
+        (count_line rows) }
     ensures counted { CountsFailure result (W.failures output.old) (W.failures output.new) }
     ensures kind { FailsByTransport result }
 {
@@ -56,7 +57,8 @@ pub fn print_listening<W: Output>(
     port: u16,
 ) -> Result<Announced, Fault>
     requires { CanFail (W.failures output.old) }
-    ensures bytes { Writes result (W.contents output.old) (W.contents output.new) (listening_line port) }
+    ensures bytes { Writes result (W.contents output.old) (W.contents output.new)
+        (listening_line port) }
     ensures counted { CountsFailure result (W.failures output.old) (W.failures output.new) }
     ensures kind { FailsByTransport result }
     ensures port { IfOk result (λ announced. announced.port ≡ port) }
@@ -91,7 +93,8 @@ fn send_listening<W: Output>(outbox: &mut Outbox, output: &mut W, port: u16) -> 
 /// `Fault::Transport` where a write failed. It is counted, and a beginning of the line is written.
 pub fn print_floor<W: Output>(alloc: Global, output: &mut W, floor: u64) -> Result<(), Fault>
     requires { CanFail (W.failures output.old) }
-    ensures bytes { Writes result (W.contents output.old) (W.contents output.new) (floor_line floor) }
+    ensures bytes { Writes result (W.contents output.old) (W.contents output.new)
+        (floor_line floor) }
     ensures counted { CountsFailure result (W.failures output.old) (W.failures output.new) }
     ensures kind { FailsByTransport result }
 {
@@ -113,7 +116,7 @@ fn send_floor<W: Output>(outbox: &mut Outbox, output: &mut W, floor: u64) -> Res
     send_number(outbox, output, floor, b"\n")
 }
 
-// Sends a number in decimal, and what stands behind it.
+// Sends a number in decimal, and what stands after it.
 #[tactic(auto, using(grpc_frame::proofs::Sending::sending))]
 fn send_number<W: Output>(
     outbox: &mut Outbox,

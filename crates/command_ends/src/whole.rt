@@ -10,7 +10,7 @@ use ipc_stream::{IpcMessage, ipc_messages};
 use scan_base::Fault;
 use std::alloc::Global;
 
-/// All bytes of an input. Memory grows to twice what came, and no byte is copied behind that.
+/// All bytes of an input. Memory grows to twice what came, and no byte is copied after that.
 ///
 /// # Errors
 ///

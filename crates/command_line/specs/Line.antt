@@ -6,7 +6,9 @@ use Rattle.clap.specs.Simple.{App, new_app, with_rule, with_subcommand}
 use Rattle.clap.specs.declared.builder.value_parser.ValueParser.{ValueParser}
 use Rattle.clap.specs.declared.builder.value_parser.ValueParser.TheVariants.{Names}
 use Rattle.command_line.specs.declared.names.TakenNames.{TakenNames}
-use Rattle.command_line.specs.Numbers.{text_rule, number_rule, parts_taken, workers_taken, seats_taken, accept_taken, idle_taken, keep_taken, streams_taken, port_taken, version_taken}
+use Rattle.command_line.specs.Numbers.{text_rule, number_rule, parts_taken, workers_taken}
+use Rattle.command_line.specs.Numbers.{seats_taken, accept_taken, idle_taken, keep_taken}
+use Rattle.command_line.specs.Numbers.{streams_taken, port_taken, version_taken}
 
 -- ---- options
 
@@ -82,11 +84,13 @@ pub record Parsers : Type 0 where
 
 -- each takes its own
 abbrev pub TakeNames : Parsers → Type 0
-TakeNames parsers = TakesNames mode_names parsers.modes × TakesNames format_names parsers.formats × TakesNames form_names parsers.forms
+TakeNames parsers = TakesNames mode_names parsers.modes × TakesNames format_names parsers.formats
+    × TakesNames form_names parsers.forms
 
 -- those of these names
 abbrev pub parsers_of : TakenNames → Parsers
-parsers_of names = record { modes = Names names.modes; formats = Names names.formats; forms = Names names.forms }
+parsers_of names =
+    record { modes = Names names.modes; formats = Names names.formats; forms = Names names.forms }
 
 -- ---- commands
 
@@ -104,8 +108,10 @@ serve =
 
 abbrev pub put : ValueParser → ValueParser → App
 put modes forms =
-    let targeted = with_rule (with_rule (with_rule (new_app (codes "put")) port_rule) table_rule) (mode_rule modes) in
-    let formed = with_rule (with_rule (with_rule targeted (format_rule forms)) columns_rule) header_rule in
+    let targeted = with_rule (with_rule (with_rule (new_app (codes "put")) port_rule) table_rule)
+    (mode_rule modes) in
+    let formed =
+    with_rule (with_rule (with_rule targeted (format_rule forms)) columns_rule) header_rule in
     with_rule formed progress_rule
 
 abbrev pub query : ValueParser → App
@@ -125,8 +131,10 @@ expire = with_rule (with_rule (new_app (codes "expire")) port_rule) version_rule
 abbrev pub program : Parsers → App
 program parsers =
     let named = new_app (codes "flightscan") in
-    let bare = record named { top = record named.top { has_version = true; subcommand_required = true } } in
+    let bare =
+    record named { top = record named.top { has_version = true; subcommand_required = true } } in
     let served = with_subcommand (with_subcommand bare pipe.top) serve.top in
     let putting = with_subcommand served (put parsers.modes parsers.forms).top in
-    let listing = with_subcommand (with_subcommand putting (query parsers.formats).top) tables.top in
+    let listing =
+    with_subcommand (with_subcommand putting (query parsers.formats).top) tables.top in
     with_subcommand listing expire.top

@@ -41,11 +41,13 @@ text_rule name = record (new_rule name) { long = Some name; action = Some Set; v
 
 -- the option `--name`, whose value is one of the numbers
 abbrev pub number_rule : Text → Numbers → Rule
-number_rule name numbers = record (text_rule name) { parser = Some (Unsigned numbers.least numbers.most) }
+number_rule name numbers =
+    record (text_rule name) { parser = Some (Unsigned numbers.least numbers.most) }
 
--- Which number a text says: its own, or the one that stands where there is no text. Nothing is said of a text that is
--- none of the numbers, which clap's definitions refuse.
+-- Which number a text says: its own, or the one that stands where there is no text. Nothing is said
+-- of a text that is none of the numbers, which clap's definitions refuse.
 abbrev pub SaysNumber : Numbers → Option Text → ℕ → Type 0
 SaysNumber numbers None number = number ≡ numbers.default
 SaysNumber numbers (Some text) number =
-    IsUnsignedIn numbers.least numbers.most text → number ≡ digits_value 10 (without_leading_plus text)
+    IsUnsignedIn numbers.least numbers.most text →
+    number ≡ digits_value 10 (without_leading_plus text)

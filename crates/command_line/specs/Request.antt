@@ -1,5 +1,7 @@
 -- What the command line asks for.
-use Rattle.std.specs.Prelude.{◌≡◌, ◌≢◌, ◌≤◌, ◌&&◌, ◌||◌, ℕ, Bool, true, false, not, List, [], ◌∷◌, Option, Some, None, IsSomeAnd, codes, if◌then◌else◌, is_some, option_map, unwrap_or}
+use Rattle.std.specs.Prelude.{◌≡◌, ◌≢◌, ◌≤◌, ◌&&◌, ◌||◌, ℕ, Bool, true, false, not, List, [], ◌∷◌}
+use Rattle.std.specs.Prelude.{Option, Some, None, IsSomeAnd, codes, if◌then◌else◌, is_some}
+use Rattle.std.specs.Prelude.{option_map, unwrap_or}
 use Rattle.std.specs.Borrow.{Bor}
 use Rattle.std.specs.Str.{bytes_eq}
 use Rattle.clap.specs.Words.{Kinds, Row, Text, fault_of, first_of, one_of}
@@ -9,7 +11,9 @@ use Rattle.clap.specs.Simple.{subcommand_of}
 use Rattle.scan_base.specs.declared.put_options.PutMode.{PutMode}
 use Rattle.scan_base.specs.declared.put_options.PutMode.TheVariants.{Create, Append, Replace}
 use Rattle.command_line.specs.Line.{Parsers, program}
-use Rattle.command_line.specs.Numbers.{SaysNumber, parts_taken, workers_taken, seats_taken, accept_taken, idle_taken, keep_taken, streams_taken, port_taken, version_taken}
+use Rattle.command_line.specs.Numbers.{SaysNumber, parts_taken, workers_taken, seats_taken}
+use Rattle.command_line.specs.Numbers.{accept_taken, idle_taken, keep_taken, streams_taken}
+use Rattle.command_line.specs.Numbers.{port_taken, version_taken}
 use Rattle.command_line.specs.declared.number.Numbers.{Numbers}
 use Rattle.command_line.specs.declared.request.Format.{Format}
 use Rattle.command_line.specs.declared.request.Format.TheVariants.{Lines, Arrow, Csv, Table}
@@ -17,7 +21,8 @@ use Rattle.command_line.specs.declared.request.PutForm.{PutForm}
 use Rattle.command_line.specs.declared.request.PutForm.TheVariants.{Arrow as Stream, Csv as Records}
 use Rattle.command_line.specs.declared.request.Serving.{Serving}
 use Rattle.command_line.specs.declared.request.Request.{Request}
-use Rattle.command_line.specs.declared.request.Request.TheVariants.{Pipe, Serve, Put, Query, Tables, Expire}
+use Rattle.command_line.specs.declared.request.Request.TheVariants.{Pipe, Serve, Put, Query, Tables}
+use Rattle.command_line.specs.declared.request.Request.TheVariants.{Expire}
 
 -- a number is the one that the options give to this name, and within its range
 abbrev pub IsGiven : List Row → Text → Numbers → ℕ → Type 0
@@ -51,16 +56,19 @@ flag_given rows name = bytes_eq (text_given rows name) (codes "true")
 abbrev pub is_csv : List Row → Bool
 is_csv rows = bytes_eq (text_given rows (codes "format")) (codes "csv")
 
--- what rows that are put are read as: an Arrow stream where no format is given; clap's definitions refuse every other name
+-- what rows that are put are read as: an Arrow stream where no format is given; clap's definitions
+-- refuse every other name
 abbrev pub IsForm : List Row → PutForm → Type 0
 IsForm rows Stream = is_csv rows ≡ false
 IsForm rows (Records form) =
-    (is_csv rows ≡ true) × (option_map (λ (text : Bor Text). text.now) form.columns ≡ first_of (codes "columns") rows)
+    (is_csv rows ≡ true)
+    × (option_map (λ (text : Bor Text). text.now) form.columns ≡ first_of (codes "columns") rows)
     × (form.header ≡ flag_given rows (codes "header"))
 
 -- options of CSV are given, and the rows are no CSV
 abbrev pub is_misused : List Row → Bool
-is_misused rows = not (is_csv rows) && (is_some (first_of (codes "columns") rows) || flag_given rows (codes "header"))
+is_misused rows = not (is_csv rows)
+    && (is_some (first_of (codes "columns") rows) || flag_given rows (codes "header"))
 
 -- how `serve` with these options serves
 pub record IsServing (rows : List Row) (serving : Serving) : Type 0 where
@@ -72,35 +80,42 @@ pub record IsServing (rows : List Row) (serving : Serving) : Type 0 where
   pub parts : IsGiven rows (codes "parts") parts_taken serving.parts
   pub workers : IsGiven rows (codes "workers") workers_taken serving.workers
 
--- What the command of this name with these options asks for. `pipe` stands for every other name; clap's definitions
--- refuse those.
+-- What the command of this name with these options asks for. `pipe` stands for every other name;
+-- clap's definitions refuse those.
 abbrev pub Asks : Text × List Row → Request → Type 0
 Asks (name, rows) (Pipe parts workers) =
-    (name ≢ codes "serve") × (name ≢ codes "put") × (name ≢ codes "query") × (name ≢ codes "tables") × (name ≢ codes "expire")
-    × IsGiven rows (codes "parts") parts_taken parts × IsGiven rows (codes "workers") workers_taken workers
+    (name ≢ codes "serve") × (name ≢ codes "put") × (name ≢ codes "query") × (name ≢ codes "tables")
+    × (name ≢ codes "expire") × IsGiven rows (codes "parts") parts_taken parts
+    × IsGiven rows (codes "workers") workers_taken workers
 Asks (name, rows) (Serve serving) = (name ≡ codes "serve") × IsServing rows serving
 Asks (name, rows) (Put port table mode form progress) =
     (name ≡ codes "put") × IsGiven rows (codes "port") port_taken port
-    × (table.now ≡ text_given rows (codes "table")) × (mode ≡ mode_named (text_given rows (codes "mode"))) × IsForm rows form
+    × (table.now ≡ text_given rows (codes "table"))
+    × (mode ≡ mode_named (text_given rows (codes "mode"))) × IsForm rows form
     × (progress ≡ flag_given rows (codes "progress"))
 Asks (name, rows) (Query port format streams sql progress) =
     (name ≡ codes "query") × IsGiven rows (codes "port") port_taken port
     × (format ≡ format_named (text_given rows (codes "format")))
-    × IsGiven rows (codes "streams") streams_taken streams × (sql.now ≡ text_given rows (codes "sql"))
-    × (progress ≡ flag_given rows (codes "progress"))
-Asks (name, rows) (Tables port) = (name ≡ codes "tables") × IsGiven rows (codes "port") port_taken port
+    × IsGiven rows (codes "streams") streams_taken streams
+    × (sql.now ≡ text_given rows (codes "sql")) × (progress ≡ flag_given rows (codes "progress"))
+Asks (name, rows) (Tables port) =
+    (name ≡ codes "tables") × IsGiven rows (codes "port") port_taken port
 Asks (name, rows) (Expire port version) =
-    (name ≡ codes "expire") × IsGiven rows (codes "port") port_taken port × IsGiven rows (codes "version") version_taken version
+    (name ≡ codes "expire") × IsGiven rows (codes "port") port_taken port
+    × IsGiven rows (codes "version") version_taken version
 
 -- the fault of a `put` with options of CSV whose rows are no CSV
 abbrev pub misuse_of : Option (Text × List Row) → Kinds
 misuse_of None = []
-misuse_of (Some (name, rows)) = if bytes_eq name (codes "put") && is_misused rows then ArgumentConflict ∷ [] else []
+misuse_of (Some (name, rows)) =
+    if bytes_eq name (codes "put") && is_misused rows then ArgumentConflict ∷ [] else []
 
 -- the faults of a line: those that clap's definitions find, and else that one
 abbrev pub line_fault : Parsers → List Text → Kinds
-line_fault parsers words = or_else (fault_of (program parsers) words) (misuse_of (subcommand_of (program parsers) words))
+line_fault parsers words =
+    or_else (fault_of (program parsers) words) (misuse_of (subcommand_of (program parsers) words))
 
 -- what the words ask for: they name a command
 abbrev pub IsAskedBy : Parsers → List Text → Request → Type 0
-IsAskedBy parsers words request = IsSomeAnd (subcommand_of (program parsers) words) (λ entered. Asks entered request)
+IsAskedBy parsers words request =
+    IsSomeAnd (subcommand_of (program parsers) words) (λ entered. Asks entered request)

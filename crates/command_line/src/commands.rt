@@ -164,7 +164,8 @@ fn command<'a>(alloc: Global, name: &'a str, about: &'a str, example: &'a str) -
 // The command with an option more.
 fn with_one<'a>(command: Command<'a>, option: Arg<'a>) -> Result<Command<'a>, AllocError>
     requires { option.global ≡ false }
-    ensures shape { IfOk result (λ more. app_of more ≡ with_rule (app_of command.entry) (rule_of option.entry)) }
+    ensures shape { IfOk result
+        (λ more. app_of more ≡ with_rule (app_of command.entry) (rule_of option.entry)) }
     ensures local { IfOk result (λ more. (out-Command command.entry).has_globals ≡ false
         → (out-Command more).has_globals ≡ false) }
 {
@@ -180,7 +181,8 @@ fn with_two<'a>(
     requires first { first.global ≡ false }
     requires second { second.global ≡ false }
     ensures shape { IfOk result (λ more. app_of more
-        ≡ with_rule (with_rule (app_of command.entry) (rule_of first.entry)) (rule_of second.entry)) }
+        ≡ with_rule (with_rule (app_of command.entry) (rule_of first.entry))
+        (rule_of second.entry)) }
     ensures local { IfOk result (λ more. (out-Command command.entry).has_globals ≡ false
         → (out-Command more).has_globals ≡ false) }
 {
@@ -226,13 +228,15 @@ fn serve<'a>(alloc: Global) -> Result<Command<'a>, AllocError>
     with_two(kept, parts(alloc), workers(alloc))
 }
 
-// `put`: the rows from standard input, in a form of these names, into a table, by a mode of these names.
+// `put`: the rows from standard input, in a form of these names, into a table, by a mode of these
+// names.
 fn put<'a>(
     alloc: Global,
     modes: &'a [&'a str],
     forms: &'a [&'a str],
 ) -> Result<Command<'a>, AllocError>
-    ensures shape { IfOk result (λ command. app_of command ≡ line.put (Names modes.entry) (Names forms.entry)) }
+    ensures shape { IfOk result
+        (λ command. app_of command ≡ line.put (Names modes.entry) (Names forms.entry)) }
     ensures local { IfOk result (λ command. (out-Command command).has_globals ≡ false) }
 {
     let about =
@@ -290,18 +294,21 @@ fn with_below<'a>(
     command: Command<'a>,
     made: Result<Command<'a>, AllocError>,
 ) -> Result<Command<'a>, AllocError>
-    ensures { IfOk result (λ more. IsOkAnd made.entry (λ below. AddsSubcommand command.entry below more)) }
+    ensures { IfOk result
+        (λ more. IsOkAnd made.entry (λ below. AddsSubcommand command.entry below more)) }
 {
     command.subcommand(made?)
 }
 
-/// The program and its commands, one of which has to be given. It has a version. Options take these names.
+/// The program and its commands, one of which has to be given. It has a version. Options take these
+/// names.
 ///
 /// # Errors
 ///
 /// `AllocError` where memory is refused.
 pub(crate) fn program<'a>(alloc: Global, names: TakenNames<'a>) -> Result<Command<'a>, AllocError>
-    ensures shape { IfOk result (λ command. app_of command ≡ line.program (line.parsers_of names.entry)) }
+    ensures shape { IfOk result
+        (λ command. app_of command ≡ line.program (line.parsers_of names.entry)) }
     ensures local { IfOk result (λ command. (out-Command command).has_globals ≡ false) }
 {
     let about = "Holds Arrow tables in memory, and scans them by SQL";

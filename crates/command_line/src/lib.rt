@@ -3,7 +3,8 @@
 
 ghost use Rattle.std.specs.Prelude.{◌≡◌, map, string_bytes, IfOk, MatchResult};
 ghost use Rattle.clap.specs.Words.{FailsBy, kind_of};
-ghost use Rattle.clap.specs.declared.error.kind.ErrorKind.TheVariants.{ArgumentConflict, OutOfMemory};
+ghost use Rattle.clap.specs.declared.error.kind.ErrorKind.TheVariants.{ArgumentConflict};
+ghost use Rattle.clap.specs.declared.error.kind.ErrorKind.TheVariants.{OutOfMemory};
 ghost use Rattle.command_line.specs.Line.{Parsers, TakeNames, parsers_of};
 ghost use Rattle.command_line.specs.Request.{IsAskedBy, line_fault};
 
@@ -32,7 +33,8 @@ static FORMS: [&str; 2] = ["arrow", "csv"];
 
 // The error of a line that gives options of CSV to a `put` of another form.
 fn misuse(alloc: Global, names: TakenNames<'_>) -> Result<Error, Error>
-    ensures { MatchResult result (λ error. kind_of error ≡ ArgumentConflict) (λ error. kind_of error ≡ OutOfMemory) }
+    ensures { MatchResult result (λ error. kind_of error ≡ ArgumentConflict)
+        (λ error. kind_of error ≡ OutOfMemory) }
 {
     let message = "'--columns' and '--header' stand beside '--format csv' alone";
     Ok(program(alloc, names)?.error(ErrorKind::ArgumentConflict, message)?)
@@ -42,8 +44,8 @@ fn misuse(alloc: Global, names: TakenNames<'_>) -> Result<Error, Error>
 ///
 /// # Errors
 ///
-/// clap's fault, with its text, where the line does not parse, or asks for help or the version; where options of CSV are given
-/// to a `put` of another form; and where memory is refused.
+/// clap's fault, with its text, where the line does not parse, or asks for help or the version;
+/// where options of CSV are given to a `put` of another form; and where memory is refused.
 pub fn options<'a>(alloc: Global, words: &'a [String]) -> Result<Request<'a>, Error>
     ensures { (parsers : Parsers) × TakeNames parsers
         × FailsBy (line_fault parsers (map string_bytes words.now)) result
@@ -63,7 +65,8 @@ fn read_words<'a>(
     names: TakenNames<'a>,
     words: &'a [String],
 ) -> Result<Request<'a>, Error>
-    ensures faults { FailsBy (line_fault (parsers_of names.entry) (map string_bytes words.now)) result }
+    ensures faults { FailsBy (line_fault (parsers_of names.entry) (map string_bytes words.now))
+        result }
     ensures asked { IfOk result (IsAskedBy (parsers_of names.entry) (map string_bytes words.now)) }
 {
     let matches = program(alloc, names)?.try_get_matches_from(words)?;

@@ -51,7 +51,7 @@ pub(crate) const IDLE: Numbers = Numbers {
     default: 300,
 };
 
-/// How many versions are kept behind an accepted put; 0 stands for all.
+/// How many versions are kept after an accepted put; 0 stands for all.
 pub(crate) const KEEP: Numbers = Numbers {
     least: 0,
     most: 65_536,
@@ -72,14 +72,16 @@ pub(crate) const PORT: Numbers = Numbers {
     default: 0,
 };
 
-/// The number of a version, which has to be given. Those that a server never has are its own to refuse.
+/// The number of a version, which has to be given. Those that a server never has are its own to
+/// refuse.
 pub(crate) const VERSION: Numbers = Numbers {
     least: 0,
     most: 4_294_967_295,
     default: 0,
 };
 
-/// The option of this name, whose value is one of the numbers. Help has a word for the value, and a text.
+/// The option of this name, whose value is one of the numbers. Help has a word for the value, and a
+/// text.
 pub(crate) fn number_option<'a>(
     alloc: Global,
     name: &'a str,
@@ -99,8 +101,8 @@ pub(crate) fn number_option<'a>(
         .help(help)
 }
 
-/// The number that is given, or the one that stands where none is. clap refuses any other than those of the option, so
-/// that `clamp` changes nothing.
+/// The number that is given, or the one that stands where none is. clap refuses any other than
+/// those of the option, so that `clamp` changes nothing.
 pub(crate) fn number_of(matches: &ArgMatches<'_>, name: &str, numbers: Numbers) -> u32
     requires lowest { numbers.least ≤ numbers.default }
     requires highest { numbers.default ≤ numbers.most }

@@ -4,7 +4,9 @@ ghost use Rattle.std.specs.Prelude.{◌≡◌, ◌&&◌, codes, option_map};
 ghost use Rattle.std.specs.Str.{bytes_eq};
 ghost use Rattle.clap.specs.Words.{first_of, found_of, rows_of};
 ghost use Rattle.command_line.specs.Numbers as taken;
-ghost use Rattle.command_line.specs.Request.{Asks, IsForm, IsGiven, IsServing, flag_given, format_named, is_csv, is_misused, mode_named, text_given};
+ghost use Rattle.command_line.specs.Request.{Asks, IsForm, IsGiven, IsServing, flag_given};
+ghost use Rattle.command_line.specs.Request.{format_named, is_csv, is_misused, mode_named};
+ghost use Rattle.command_line.specs.Request.{text_given};
 
 use crate::number::{ACCEPT, IDLE, KEEP, PARTS, PORT, SEATS, STREAMS, VERSION, WORKERS, number_of};
 use crate::request::{CsvForm, Format, PutForm, Request, Serving};
@@ -64,7 +66,8 @@ fn flag_of(matches: &ArgMatches<'_>, name: &str) -> bool
 
 // The text that spells the columns of CSV.
 fn columns_of<'a>(matches: &ArgMatches<'a>) -> Option<&'a str>
-    ensures { option_map (λ text. text.now) result ≡ first_of (codes "columns") (rows_of (found_of matches.now)) }
+    ensures { option_map (λ text. text.now) result
+        ≡ first_of (codes "columns") (rows_of (found_of matches.now)) }
 {
     matches.get_str("columns")
 }
@@ -91,7 +94,8 @@ fn form_of<'a>(matches: &ArgMatches<'a>) -> PutForm<'a>
 
 /// Whether options of CSV are given to a `put` whose rows are no CSV.
 pub(crate) fn is_misused(name: &str, matches: &ArgMatches<'_>) -> bool
-    ensures { result ≡ bytes_eq name.now (codes "put") && is_misused (rows_of (found_of matches.now)) }
+    ensures { result
+        ≡ bytes_eq name.now (codes "put") && is_misused (rows_of (found_of matches.now)) }
 {
     if name != "put" || is_csv(matches) {
         return false;

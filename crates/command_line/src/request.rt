@@ -11,9 +11,10 @@ pub struct Serving {
     pub seats: u32,
     /// After so many the program ends; 0 stands for no end.
     pub accept: u16,
-    /// A connection ends where so many seconds nothing comes, or nothing of an answer is read; 0 stands for no end.
+    /// A connection ends where so many seconds nothing comes, or nothing of an answer is read; 0
+    /// stands for no end.
     pub idle: u16,
-    /// So many versions are kept behind an accepted put; 0 stands for all.
+    /// So many versions are kept after an accepted put; 0 stands for all.
     pub keep: u32,
     /// In so many parts the rows of a query may be fetched.
     pub parts: u32,
@@ -70,7 +71,8 @@ pub enum Request<'a> {
         form: PutForm<'a>,
         progress: bool,
     },
-    /// Prints the rows that a query answers in a format, fetched over so many connections, and may tell how far it is.
+    /// Prints the rows that a query answers in a format, fetched over so many connections, and may
+    /// tell how far it is.
     Query {
         port: u16,
         format: Format,

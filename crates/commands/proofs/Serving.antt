@@ -1,4 +1,4 @@
--- Accepts, and connections that are served one behind the other.
+-- Accepts, and connections that are served one after the other.
 use native.Mathlib.Omega.{arith}
 use Rattle.std.proofs.Common.{◌≡◌, ◌∙◌, ℕ, zero, suc, ◌+◌, List, [], ◌∷◌, Option, Result, Ok, Err, ap, refl, subst, sym}
 use Rattle.scan_base.specs.declared.fault.Fault.{Fault}
@@ -63,7 +63,7 @@ counted_once served more = omega arith
 counted_all : (served : ℕ) → served + 0 ≡ served
 counted_all served = omega arith
 
--- a connection that was taken is served behind one ask, and there is one more when it has ended
+-- a connection that was taken is served after one ask, and there is one more when it has ended
 pub next_served : (moves : Moves) (options : Options) (old start new : Seat) (input : Tape) (output : Option (List ℕ)) (reads writes : ℕ) (result : Result (Unit {0}) Fault) (last : Connection)
     → reads ≡ 0 → writes ≡ 0 → AsksOthers moves old start → Serves moves options result (connection_of input output reads writes start) last → AsksOthers moves last.seat new
     → ServesNext moves options old (ends_of input output) result last new
@@ -113,7 +113,7 @@ all_served {L} accepts moves options served drawn listener begun first now same 
     rw same (up_to accepts moves options served (Ok tt) listener begun first now asked
     (subst (λ (n : ℕ). ServesRest accepts moves options n (Ok tt) (worker_of listener first) now) (counted_all served) whole))
 
--- what is owed for a connection, where the seat is shown as it rested before and behind it
+-- what is owed for a connection, where the seat is shown as it rested before and after it
 pub served_to : (moves : Moves) (options : Options) (before behind : RestAt) (old new : Seat) (made left : Ends) (result : Result (Unit {0}) Fault) (last : Connection)
     → ServesNext moves options old made result last new → left ≡ ends_of last.input last.output
     → old ≡ seat_shown before old.looks → new ≡ seat_shown behind new.looks → IsSameSeat before behind
@@ -140,7 +140,7 @@ told_so rest book number seat rests same = (rests.book, same, rests.log, rests.m
 abbrev seat_with : ℕ → Log → List Placed → ℕ → Seat
 seat_with looks log made asks = record { log = log; looks = looks; made = made; asks = asks }
 
--- the seat itself, behind its looks
+-- the seat itself, after its looks
 pub as_shown : (shown : RestAt) (book : Book) (number : ℕ) (seat : Seat) → IsShownAs shown book number seat → seat ≡ seat_shown shown seat.looks
 as_shown shown book number seat is =
     sym (ap (λ (log : Log). seat_with seat.looks log shown.made shown.asks) is.2

@@ -235,7 +235,7 @@ accepted_put : (payloads answers : List Payload) (log after : Log) (fault : Opti
 accepted_put payloads answers log after None same step = (step.0, ap (accepted_by None) step.1)
 accepted_put payloads answers log after (Some fault) same step = absurd cc
 
--- a call, and what the server asks of itself behind it
+-- a call, and what the server asks of itself after it
 call_marked : (keep : ℕ) (asked : Result Asked Fault) (log after : Log) (reply : ReplyAt) (own : List Exchange) (told made : Log)
     → ReplyTo asked log reply after → IsOwn keep asked reply own → IsMarked keep told made
     → IsMarked keep (entries_of asked reply ++ told) (entries_of asked reply ++ (entries_in own ++ made))

@@ -14,9 +14,10 @@ use Rattle.commands.specs.Together.{Takes}
 abbrev pub GivesNew : {L : Type 0} → Accepting L → Type 0
 GivesNew {L} accepts = (old new : L) (ends : Ends) → accepts old (Ok ends) new → AreNew ends
 
--- A connection was served so. All bytes that its reads gave are its whole calls and a rest, and all bytes that it holds are a
--- beginning of what is owed for them.
-pub record IsServedWhole (options : Options) (result : Result (Unit {0}) Fault) (last : Connection) : Type 0 where
+-- A connection was served so. All bytes that its reads gave are its whole calls and a rest, and all
+-- bytes that it holds are a beginning of what is owed for them.
+pub record IsServedWhole (options : Options) (result : Result (Unit {0}) Fault)
+    (last : Connection) : Type 0 where
   pub old : Connection
   pub serves : Serves onward options result old last
   pub whole : IsWhole result last serves.calls serves.rest (items_owed serves.replies serves.last)
@@ -24,5 +25,6 @@ pub record IsServedWhole (options : Options) (result : Result (Unit {0}) Fault) 
 -- So it is of each connection that a worker took, where accepts give new ones.
 abbrev pub TakenAreWhole : {L : Type 0} → Accepting L → (L → L → Type 0) → Type 0
 TakenAreWhole accepts closes =
-    GivesNew accepts → (options : Options) (history : Log) (result : Result (Unit {0}) Fault) (last : Connection)
-    → Takes (AcceptsThenCloses accepts closes) options history result last → IsServedWhole options result last
+    GivesNew accepts → (options : Options) (history : Log) (result : Result (Unit {0}) Fault)
+    (last : Connection) → Takes (AcceptsThenCloses accepts closes) options history result last
+    → IsServedWhole options result last

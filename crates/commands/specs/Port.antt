@@ -1,5 +1,6 @@
 -- What `serve` does with the port that it is given.
-use Rattle.std.specs.Prelude.{◌≡◌, ◌⊎◌, ℕ, zero, ◌+◌, length, map, All, List, [], ◌∷◌, Option, Some, None, Result, Ok, Err}
+use Rattle.std.specs.Prelude.{◌≡◌, ◌⊎◌, ℕ, zero, ◌+◌, length, map, All, List, [], ◌∷◌, Option, Some}
+use Rattle.std.specs.Prelude.{None, Result, Ok, Err}
 use Rattle.std.specs.Io.KnownBytes.{Appends}
 use Rattle.scan_base.specs.declared.fault.Fault.{Fault}
 use Rattle.scan_base.specs.declared.fault.Fault.TheVariants.{OutOfMemory, Transport}
@@ -20,13 +21,14 @@ most_of accept = accept
 
 -- how calls are answered
 abbrev pub options_of : Serving → Options
-options_of serving = record { parts = serving.parts; workers = serving.workers; keep = serving.keep }
+options_of serving =
+    record { parts = serving.parts; workers = serving.workers; keep = serving.keep }
 
 -- what is asked for, at the port that the network gave
 abbrev pub at_port : ℕ → Serving → Serving
 at_port port serving = record serving { port = port }
 
--- an accept may be asked for once the line of a port stands behind what an output held
+-- an accept may be asked for once the line of a port stands after what an output held
 abbrev pub IsDueAfter : (ℕ → Option (List ℕ) → Type 0) → Option (List ℕ) → Type 0
 IsDueAfter due before =
     (port : ℕ) (held : Option (List ℕ)) → Appends before held (listening_line port) → due port held
@@ -57,10 +59,11 @@ RefusesOne {L} shares old new = (middle : L) × SharesSome shares old middle × 
 abbrev pub listeners_of : {L : Type 0} → List (Worker L) → List L
 listeners_of workers = map (λ worker. worker.listener) workers
 
--- The line of the port was printed, and as many workers as there are seats served connections to it, of one history. The network
--- gave each of them its listener, and gave no other.
+-- The line of the port was printed, and as many workers as there are seats served connections to
+-- it, of one history. The network gave each of them its listener, and gave no other.
 pub record IsServed {L : Type 0} (accepts : Accepting L) (shares : Sharing L)
-    (serving : Serving) (result : Result (Unit {0}) Fault) (heard new : L) (out out' : Said) : Type 0 where
+    (serving : Serving) (result : Result (Unit {0}) Fault) (heard new : L)
+    (out out' : Said) : Type 0 where
   pub printed : Appends out.bytes out'.bytes (listening_line serving.port)
   pub quiet : out'.failures ≡ out.failures
   pub workers : List (Worker L)
@@ -74,8 +77,8 @@ pub record IsNotPrinted (port : ℕ) (out out' : Said) : Type 0 where
   pub begun : AppendsBeginning out.bytes out'.bytes (listening_line port)
   pub counted : out'.failures ≡ out.failures + 1
 
--- Connections were served; or no memory or no listener was there for it, and nothing is printed; or the port was not
--- printed.
+-- Connections were served; or no memory or no listener was there for it, and nothing is printed; or
+-- the port was not printed.
 abbrev pub ServesPort : {L : Type 0} → Accepting L → Sharing L → Serving
     → Result (Unit {0}) Fault → L → L → Said → Said → Type 0
 ServesPort accepts shares serving (Ok done) heard new out out' =
@@ -89,13 +92,15 @@ ServesPort accepts shares serving (Err fault) heard new out out' =
 -- nothing is said of faults where all was done, and else the fault, in a line
 abbrev pub TellsFault : Result (Unit {0}) Fault → ExitStatus → Said → Said → Type 0
 TellsFault (Ok done) status said said' = (status ≡ Done) × (said' ≡ said)
-TellsFault (Err fault) status said said' = (status ≡ FaultAtThisEnd) × Prints (fault_line fault) said said'
+TellsFault (Err fault) status said said' =
+    (status ≡ FaultAtThisEnd) × Prints (fault_line fault) said said'
 
 -- the network gave a port, which is served; or it gave none, nothing is printed, and why is said
 abbrev pub Listens : {L : Type 0} → Accepting L → Sharing L → (Option ℕ → L → Type 0)
     → Serving → ExitStatus → L → Said → Said → Said → Said → Type 0
 Listens {L} accepts shares Hears serving status new out out' said said' =
     ((port : ℕ) × (heard : L) × Hears (Some port) heard × ((result : Result (Unit {0}) Fault)
-    × ServesPort accepts shares (at_port port serving) result heard new out out' × TellsFault result status said said'))
+    × ServesPort accepts shares (at_port port serving) result heard new out out'
+    × TellsFault result status said said'))
     ⊎ (Hears None new × ((cause : List ℕ)
     × (out' ≡ out) × (status ≡ FaultAtThisEnd) × Prints (cause_lines cause) said said'))

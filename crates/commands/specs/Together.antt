@@ -27,24 +27,27 @@ pub record Takes {L : Type 0} (accepts : Accepting L) (options : Options) (histo
   pub ends : Ends
   pub took : slice_get part.serves.all place ≡ Some (Took listener ends result last)
 
--- a connection that ended as one of these did answered an info for what was wanted, at this log, by these handles
+-- a connection that ended as one of these did answered an info for what was wanted, at this log, by
+-- these handles
 pub record InfoOf {L : Type 0} (accepts : Accepting L) (options : Options) (history log : Log)
     (wanted : Wanted) (handles : List HandleAt) : Type 0 where
   pub served : InfoServed onward [] log wanted handles
   pub taken : Takes accepts options history served.answered.result served.answered.new
 
--- a connection that ended as one of these did answered a fetch of this handle to its end, and said these rows
+-- a connection that ended as one of these did answered a fetch of this handle to its end, and said
+-- these rows
 pub record FetchOf {L : Type 0} (accepts : Accepting L) (options : Options) (history : Log)
     (handle : HandleAt) (rows : Rows) : Type 0 where
   pub served : FetchServed onward [] handle rows
   pub taken : Takes accepts options history served.answered.result served.answered.new
 
--- If every endpoint of an info was fetched to its end, over any connections that workers of one history took, in any
--- order, the streams joined are the rows that were wanted, on the tables as they stood when the info was given.
+-- If every endpoint of an info was fetched to its end, over any connections that workers of one
+-- history took, in any order, the streams joined are the rows that were wanted, on the tables as
+-- they stood when the info was given.
 abbrev pub ServerMeetsHeadline : {L : Type 0} → Accepting L → Type 0
 ServerMeetsHeadline accepts =
-    (options : Options) (history log : Log) (wanted : Wanted) (handles : List HandleAt) (streams : List Rows)
-    (answer : Table)
+    (options : Options) (history log : Log) (wanted : Wanted) (handles : List HandleAt)
+    (streams : List Rows) (answer : Table)
     → InfoOf accepts options history log wanted handles
     → meant.Answers (database_of log) wanted answer
     → Pairwise (FetchOf accepts options history) handles streams

@@ -1,5 +1,6 @@
 -- What becomes of the program's words.
-use Rattle.std.specs.Prelude.{◌≡◌, ◌≢◌, ◌⊎◌, ◌<◌, ◌≤◌, ℕ, ◌+◌, List, ◌∷◌, [], ◌++◌, Result, Ok, Err, codes}
+use Rattle.std.specs.Prelude.{◌≡◌, ◌≢◌, ◌⊎◌, ◌<◌, ◌≤◌, ℕ, ◌+◌, List, ◌∷◌, [], ◌++◌, Result, Ok, Err}
+use Rattle.std.specs.Prelude.{codes}
 use Rattle.std.specs.Io.KnownBytes.{Appends}
 use Rattle.clap.specs.Words.{IsAmong, Text}
 use Rattle.clap.specs.declared.error.kind.ErrorKind.{ErrorKind}
@@ -13,7 +14,8 @@ use Rattle.command_line.specs.declared.request.Request.TheVariants.{Serve}
 use Rattle.version_cell.specs.Blanks.{most_seats}
 use Rattle.command_ends.specs.Printing.{Said, Prints, fault_line}
 use Rattle.command_ends.specs.declared.exit_status.ExitStatus.{ExitStatus}
-use Rattle.command_ends.specs.declared.exit_status.ExitStatus.TheVariants.{Done, BadCommandLine, FaultAtThisEnd}
+use Rattle.command_ends.specs.declared.exit_status.ExitStatus.TheVariants.{Done, BadCommandLine}
+use Rattle.command_ends.specs.declared.exit_status.ExitStatus.TheVariants.{FaultAtThisEnd}
 
 -- memory was refused for the words: a fault of this end
 pub record LacksMemory (status : ExitStatus) (said said' : Said) : Type 0 where
@@ -25,7 +27,8 @@ pub record HasNoText (status : ExitStatus) (said said' : Said) : Type 0 where
   pub status_is : status ≡ BadCommandLine
   pub says : Prints (codes "error: a word of the command line is not UTF-8" ++ 10 ∷ []) said said'
 
--- The words are refused by an error of clap's, whose text is printed. No definition says what the text is.
+-- The words are refused by an error of clap's, whose text is printed. No definition says what the
+-- text is.
 pub record RefusesWords (status : ExitStatus) (said said' : Said) : Type 0 where
   pub status_is : status ≡ BadCommandLine
   pub text : List ℕ
@@ -35,7 +38,8 @@ pub record RefusesWords (status : ExitStatus) (said said' : Said) : Type 0 where
 abbrev pub version_line : List ℕ
 version_line = codes "flightscan 0.1.0" ++ 10 ∷ []
 
--- The version is printed on the output; or a write of it failed, which is a fault of this end (F22).
+-- The version is printed on the output; or a write of it failed, which is a fault of this end
+-- (F22).
 abbrev pub PrintsVersion : ExitStatus → Said → Said → Said → Said → Type 0
 PrintsVersion Done out out' said said' =
     Appends out.bytes out'.bytes version_line × (out'.failures ≡ out.failures) × (said' ≡ said)
@@ -44,20 +48,24 @@ PrintsVersion FaultAtThisEnd out out' said said' =
     × Prints (fault_line Transport) said said'
 PrintsVersion _ out out' said said' = ⊥
 
--- What is done for what clap finds in the words: where they ask for the version, it is printed; else they are refused.
+-- What is done for what clap finds in the words: where they ask for the version, it is printed;
+-- else they are refused.
 abbrev pub EndsFor : ErrorKind → ExitStatus → Said → Said → Said → Said → Type 0
 EndsFor found status out out' said said' =
     ((found ≡ kind.DisplayVersion) × PrintsVersion status out out' said said')
     ⊎ ((found ≢ kind.DisplayVersion) × RefusesWords status said said' × (out' ≡ out))
 
--- What becomes of words, where names are read by these parsers: they are a request, and no fault is found in them; or
--- memory is refused for reading them; or clap finds one of these faults.
-abbrev pub ReadsWords : Parsers → List Text → Result Request ExitStatus → Said → Said → Said → Said → Type 0
+-- What becomes of words, where names are read by these parsers: they are a request, and no fault is
+-- found in them; or memory is refused for reading them; or clap finds one of these faults.
+abbrev pub ReadsWords : Parsers → List Text → Result Request ExitStatus → Said → Said → Said →
+    Said → Type 0
 ReadsWords parsers words (Ok request) out out' said said' =
-    (line_fault parsers words ≡ []) × IsAskedBy parsers words request × (out' ≡ out) × (said' ≡ said)
+    (line_fault parsers words ≡ []) × IsAskedBy parsers words request × (out' ≡ out)
+    × (said' ≡ said)
 ReadsWords parsers words (Err status) out out' said said' =
     (LacksMemory status said said' × (out' ≡ out))
-    ⊎ ((found : ErrorKind) × IsAmong found (line_fault parsers words) × EndsFor found status out out' said said')
+    ⊎ ((found : ErrorKind) × IsAmong found (line_fault parsers words)
+    × EndsFor found status out out' said said')
 
 -- a server that is asked for has a seat, and no more than a cell takes
 abbrev pub HasSeats : Request → Type 0

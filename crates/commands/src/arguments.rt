@@ -13,8 +13,8 @@ use std::io::ErrorKind;
 
 const NO_TEXT: &[u8] = b"error: a word of the command line is not UTF-8\n";
 
-/// Says why the program's words cannot be read, as far as `faults` takes it: memory was refused for them, which is
-/// the fault F21, or else one of them is not UTF-8.
+/// Says why the program's words cannot be read, as far as `faults` takes it: memory was refused for
+/// them, which is the fault F21, or else one of them is not UTF-8.
 pub fn refuse_arguments<E: Output>(why: ErrorKind, faults: &mut E) -> ExitStatus
     requires { CanFail (E.failures faults.old) }
     ensures memory { why ≡ cause.OutOfMemory → LacksMemory result

@@ -1,15 +1,18 @@
 //! Workers that serve connections side by side, over one history.
 
-ghost use Rattle.std.specs.Prelude.{◌≡◌, ◌⊎◌, ◌<◌, ◌≤◌, ◌+◌, [], All, MatchResult, None, ℕ, length, map, slice_index_or, IfOk};
+ghost use Rattle.std.specs.Prelude.{◌≡◌, ◌⊎◌, ◌<◌, ◌≤◌, ◌+◌, [], All, MatchResult, None, ℕ, length};
+ghost use Rattle.std.specs.Prelude.{map, slice_index_or, IfOk};
 ghost use Rattle.scan_base.specs.declared.fault.Fault.TheVariants.{OutOfMemory, Transport};
 ghost use Rattle.version_cell.specs.Rests.{RestAt};
 ghost use Rattle.version_cell.specs.Seats.{seat};
 ghost use Rattle.connection_turns.specs.Drawers as drawers;
 ghost use Rattle.commands.specs.Port.{IsFresh, RefusesOne, SharesEach, SharesSome};
-ghost use Rattle.commands.specs.Serve.{AcceptsThenCloses, DrawsAll, Pays, ServesSideBySide, ServesUpTo, first_fault, made_by, made_by_each, worker_of};
+ghost use Rattle.commands.specs.Serve.{AcceptsThenCloses, DrawsAll, Pays, ServesSideBySide};
+ghost use Rattle.commands.specs.Serve.{ServesUpTo, first_fault, made_by, made_by_each, worker_of};
 ghost use Rattle.shared_calls.specs.Sharing.{onward, seat_at};
 ghost use Rattle.commands.specs.Shown.{WasShown};
-ghost use Rattle.commands.specs.inside.Gathering.{HasDrawn, HasWorked, IsAtRest, IsNew, IsWithin, MayServe, hired_listeners, state_of, work_of};
+ghost use Rattle.commands.specs.inside.Gathering.{HasDrawn, HasWorked, IsAtRest, IsNew, IsWithin};
+ghost use Rattle.commands.specs.inside.Gathering.{MayServe, hired_listeners, state_of, work_of};
 
 use crate::shown::ShownSeat;
 use crate::turns::{Service, serve_in_turn};
@@ -25,7 +28,8 @@ use std::thread::Threads;
 use std::time::Clock;
 use version_cell::{Brand, CellName, Gathered, Scanner, SharedPutter};
 
-/// One of those that serve: its listener, its seat of the cell, what it draws by, and what came of its work.
+/// One of those that serve: its listener, its seat of the cell, what it draws by, and what came of
+/// its work.
 #[derive(Drop)]
 pub(crate) struct Hired<L, S, D> {
     pub listener: L,
@@ -59,7 +63,8 @@ pub(crate) fn workers_of<L: Listen<ShownSeat> + Drop, C: CellName>(
 ) -> Result<Vec<ServingWorker<L, C>>, Fault>
     requires seats { All (λ scanner. scanner ≡ seat scanner.number [] [] 0 []) scanners.items }
     requires cell { (shown : RestAt) → shown.book ≡ C.book → L.cell network.old shown }
-    requires drawer { drawer.old ≡ drawers.drawer_at turns.now.name (length scanners.items + 1) 0 0 }
+    requires drawer { drawer.old
+        ≡ drawers.drawer_at turns.now.name (length scanners.items + 1) 0 0 }
     ensures made { MatchResult result
         (λ workers. (length workers.items ≡ length scanners.items)
         × SharesEach L.shares network.old (hired_listeners workers.items) network.new
@@ -115,11 +120,11 @@ where
     ghost use Rattle.commands.specs.Serve.{AcceptsThenCloses};
     ghost use Rattle.commands.specs.inside.Gathering.{HasWorked, MayServe};
 
-    ghost takes = { λ crew worker. MayServe L.at_rest L.port_of L.rests L.cell L.due L.owed crew.service.options
-        crew.service.announced.now C.book crew.service.turns.now.name worker };
+    ghost takes = { λ crew worker. MayServe L.at_rest L.port_of L.rests L.cell L.due L.owed
+        crew.service.options crew.service.announced.now C.book crew.service.turns.now.name worker };
 
-    ghost leaves = { λ crew old new. HasWorked (AcceptsThenCloses L.accepts L.closes) crew.service.options
-        crew.service.turns.now.name old new };
+    ghost leaves = { λ crew old new. HasWorked (AcceptsThenCloses L.accepts L.closes)
+        crew.service.options crew.service.turns.now.name old new };
 
     fn work(&self, worker: &mut ServingWorker<L, C>) {
         serve_by(self, worker);
@@ -166,11 +171,14 @@ where
     requires drawer { drawer.old ≡ drawers.drawer_at crew.now.service.turns.now.name 1 0 0 }
     requires at_rest { L.at_rest listener.old }
     requires announced { crew.now.service.announced.now.port ≡ L.port_of listener.old }
-    requires due { L.due listener.old crew.now.service.announced.now.port crew.now.service.announced.now.held }
+    requires due { L.due listener.old crew.now.service.announced.now.port
+        crew.now.service.announced.now.held }
     requires cell { (shown : RestAt) → shown.book ≡ C.book → L.cell listener.old shown }
-    requires rests { (shown : RestAt) × L.rests listener.old shown × WasShown shown C.book N.number (seat_at scanner) }
+    requires rests { (shown : RestAt) × L.rests listener.old shown
+        × WasShown shown C.book N.number (seat_at scanner) }
     requires owed { Pays onward crew.now.service.options L.owed }
-    ensures serves { ServesUpTo (AcceptsThenCloses L.accepts L.closes) onward crew.now.service.options drawer.new.drawn result.0
+    ensures serves { ServesUpTo (AcceptsThenCloses L.accepts L.closes) onward
+        crew.now.service.options drawer.new.drawn result.0
         (worker_of listener.old (seat_at scanner)) (worker_of listener.new (seat_at result.1)) }
     ensures drawer { (drawer.new.name ≡ crew.now.service.turns.now.name) × (drawer.new.parts ≡ 1) }
     ensures ended { IfOk result.0 (λ _. 0 < drawer.new.ended) }
@@ -199,7 +207,8 @@ where
     thread::for_each_mut(rt, workers, threads, &each);
 }
 
-// The first fault of workers that have ended, and their seats as one. The drawer takes in what they drew.
+// The first fault of workers that have ended, and their seats as one. The drawer takes in what they
+// drew.
 fn first_of<L: Drop, C: CellName>(
     turns: &Turns,
     mut drawer: Drawer,
@@ -254,11 +263,11 @@ where
     X: Executor + Sync,
     requires parts { service.turns.now.parts ≡ length workers.items + 1 }
     requires drawer { drawer ≡ drawers.drawer_at service.turns.now.name 1 0 0 }
-    requires may { All (MayServe L.at_rest L.port_of L.rests L.cell L.due L.owed service.options service.announced.now C.book
-        service.turns.now.name) workers.items }
+    requires may { All (MayServe L.at_rest L.port_of L.rests L.cell L.due L.owed service.options
+        service.announced.now C.book service.turns.now.name) workers.items }
     requires seats { length workers.items ≡ C.parts }
-    ensures { ServesSideBySide (AcceptsThenCloses L.accepts L.closes) service.entry.options service.entry.turns.now.most
-        (map state_of workers.items) result }
+    ensures { ServesSideBySide (AcceptsThenCloses L.accepts L.closes) service.entry.options
+        service.entry.turns.now.most (map state_of workers.items) result }
 {
     let (rt, turns) = (service.rt, service.turns);
     let crew = Crew {

@@ -12,9 +12,9 @@ use flight_calls::{Executor, Setting, serve_alone};
 use grpc_frame::{Input, Output};
 use hash_seed::HashSeed;
 
-/// Serves one connection, from the reader to the writer, on a catalog that is empty at first, of whose values hashes
-/// begin with the seed. It is done at the input's end. A fault of this end is printed on `faults` in a line, as far as
-/// that takes it.
+/// Serves one connection, from the reader to the writer, on a catalog that is empty at first, of
+/// whose values hashes begin with the seed. It is done at the input's end. A fault of this end is
+/// printed on `faults` in a line, as far as that takes it.
 pub fn pipe<R: Input, W: Output, E: Output, X: Executor>(
     setting: &Setting<'_, X>,
     seed: HashSeed,
@@ -27,7 +27,8 @@ pub fn pipe<R: Input, W: Output, E: Output, X: Executor>(
     requires writes { CanFail (W.failures writer.old) }
     requires prints { CanFail (E.failures faults.old) }
 
-    // The whole input is served, from the empty log, and nothing is printed; or a fault of this end is, in a line.
+    // The whole input is served, from the empty log, and nothing is printed; or a fault of this end
+    // is, in a line.
     ensures { (seat : Seat) × Pipes setting.now.options result
         (connection_of (R.tape reader.old) (W.contents writer.old)
         (R.failures reader.old) (W.failures writer.old) (seat_of [] 0))

@@ -29,7 +29,8 @@ use std::thread::Threads;
 use std::time::Clock;
 use version_cell::{Blank, Brand, CellName, Opened, SharedPutter, open};
 
-/// What a server has of its machine: threads, a clock, memory, and the seed with which hashes of clients' values begin.
+/// What a server has of its machine: threads, a clock, memory, and the seed with which hashes of
+/// clients' values begin.
 #[derive(Clone, Copy)]
 pub struct Host<'a, T> {
     pub rt: &'a T,
@@ -37,16 +38,18 @@ pub struct Host<'a, T> {
     pub seed: HashSeed,
 }
 
-/// Listens to a port, says which, and serves connections: as many at once as there are seats, on one catalog that is
-/// empty at first. A fault of a connection ends that one alone, and nothing is printed of it. Where `accept` is not 0,
-/// it is done behind so many connections, one fewer for each worker that ended by a fault. A fault of this end is
-/// printed on `faults` in a line, as far as that takes it: F21 where memory for the catalog or the workers is refused,
-/// F22 where a further listener is, the line of the port is not printed, or the listener of a worker broke; where it does not
-/// listen, a second line says so. An accept that fails by what may pass ends nothing.
+/// Listens to a port, says which, and serves connections: as many at once as there are seats, on
+/// one catalog that is empty at first. A fault of a connection ends that one alone, and nothing is
+/// printed of it. Where `accept` is not 0, it is done after so many connections, one fewer for each
+/// worker that ended by a fault. A fault of this end is printed on `faults` in a line, as far as
+/// that takes it: F21 where memory for the catalog or the workers is refused, F22 where a further
+/// listener is, the line of the port is not printed, or the listener of a worker broke; where it
+/// does not listen, a second line says so. An accept that fails by what may pass ends nothing.
 ///
-/// The network asks of each accept that the line of the port was printed, and that no connection is open. A connection is closed
-/// when it was served. The network is shown the worker's seat at each accept and each closing: a seat of the cell that was
-/// opened, which goes on from a seat that had seen nothing. So of a server that never ends this holds, too.
+/// The network asks of each accept that the line of the port was printed, and that no connection is
+/// open. A connection is closed when it was served. The network is shown the worker's seat at each
+/// accept and each closing: a seat of the cell that was opened, which goes on from a seat that had
+/// seen nothing. So of a server that never ends this holds, too.
 pub fn serve<T, L, W: Output, E: Output>(
     host: Host<'_, T>,
     opened: Opened,
@@ -79,8 +82,10 @@ where
     // The network gives no more further listeners than there are seats, one to each worker.
     ensures handed { L.handed network.new ≤ L.handed network.old + serving.seats }
 
-    // The network gave a port, which is served, and a fault of this end is printed; or it gave none, and why is.
-    ensures serves { Listens (AcceptsThenCloses L.accepts L.closes) L.shares (L.listens network.old serving.port serving.idle) serving result network.new
+    // The network gave a port, which is served, and a fault of this end is printed; or it gave
+    // none, and why is.
+    ensures serves { Listens (AcceptsThenCloses L.accepts L.closes) L.shares
+        (L.listens network.old serving.port serving.idle) serving result network.new
         (said_of W.Output output.old) (said_of W.Output output.new)
         (said_of E.Output faults.old) (said_of E.Output faults.new) }
 {
@@ -127,8 +132,8 @@ where
     requires due { IsDueAfter (L.due network.old) (W.contents output.old) }
     requires owed { Pays onward (serves.options_of serving) L.owed }
     ensures handed { L.handed network.new ≤ L.handed network.old + serving.seats }
-    ensures serves { ServesPort (AcceptsThenCloses L.accepts L.closes) L.shares serving result network.old network.new
-        (said_of W.Output output.old) (said_of W.Output output.new) }
+    ensures serves { ServesPort (AcceptsThenCloses L.accepts L.closes) L.shares serving result
+        network.old network.new (said_of W.Output output.old) (said_of W.Output output.new) }
 {
     let blank = open(host.alloc, host.seed, serving.seats as usize, opened)?;
     serve_cell::<Brand, T, L, W>(host, blank, network, output, serving)
@@ -155,8 +160,8 @@ where
     requires due { IsDueAfter (L.due network.old) (W.contents output.old) }
     requires owed { Pays onward (serves.options_of serving) L.owed }
     ensures handed { L.handed network.new ≤ L.handed network.old + serving.seats }
-    ensures serves { ServesPort (AcceptsThenCloses L.accepts L.closes) L.shares serving result network.old network.new
-        (said_of W.Output output.old) (said_of W.Output output.new) }
+    ensures serves { ServesPort (AcceptsThenCloses L.accepts L.closes) L.shares serving result
+        network.old network.new (said_of W.Output output.old) (said_of W.Output output.new) }
 {
     let (turns, mut drawer) = open_turns(
         host.alloc,

@@ -6,8 +6,9 @@ use command_ends::Known;
 use std::marker::Model;
 use version_cell::Rest;
 
-/// A seat of a server's cell, as a listener is shown it. Contracts see it as the cell tells of it: the book of the cell, the number
-/// of the seat, the log that it has seen, with the seat of each entry, what was made through it, and how often it asked.
+/// A seat of a server's cell, as a listener is shown it. Contracts see it as the cell tells of it:
+/// the book of the cell, the number of the seat, the log that it has seen, with the seat of each
+/// entry, what was made through it, and how often it asked.
 #[derive(Drop)]
 pub struct ShownSeat {
     rest: Rest,

@@ -1,4 +1,4 @@
-//! Connections that one worker serves, one behind the other.
+//! Connections that one worker serves, one after the other.
 
 ghost use Rattle.std.specs.Prelude.{◌≡◌, ◌<◌, ℕ, List, Option, IfErr, IfOk};
 ghost use Rattle.grpc_frame.specs.Ends.{FailsByTransport};
@@ -20,13 +20,14 @@ use std::sync::Wait;
 use std::thread;
 use std::time::{Clock, Duration};
 
-// A worker waits so long behind an accept that failed by what may pass, and twice as long behind each further one, up to the most.
+// A worker waits so long after an accept that failed by what may pass, and twice as long after each
+// further one, up to the most.
 const LEAST_PAUSE_MILLISECONDS: u64 = 20;
 
 const MOST_PAUSE_MILLISECONDS: u64 = 1_000;
 
-/// How all workers serve, who makes the answers to fetches, how many connections are still to be accepted, and that the line of
-/// the port was printed.
+/// How all workers serve, who makes the answers to fetches, how many connections are still to be
+/// accepted, and that the line of the port was printed.
 #[derive(Drop)]
 pub struct Service<'a, 'h, T: Wait, X> {
     pub rt: &'h T,
@@ -37,11 +38,13 @@ pub struct Service<'a, 'h, T: Wait, X> {
     pub announced: &'a Announced,
 }
 
-/// Serves connections one behind the other, for one seat: one for each turn that it draws, until none is left. Each is served to its
-/// end and closed before the next one is accepted, also where turns never end: the listener asks for that.
+/// Serves connections one after the other, for one seat: one for each turn that it draws, until
+/// none is left. Each is served to its end and closed before the next one is accepted, also where
+/// turns never end: the listener asks for that.
 ///
-/// The seat asks what others have done at first, once a connection is taken, and when it has ended. So each connection begins with
-/// all that was done before it was taken, and what the listener is shown of the seat is exact.
+/// The seat asks what others have done at first, once a connection is taken, and when it has ended.
+/// So each connection begins with all that was done before it was taken, and what the listener is
+/// shown of the seat is exact.
 ///
 /// # Errors
 ///
@@ -59,11 +62,13 @@ pub fn serve_in_turn<L: Listen<ShownSeat>, B: Resting, T: Wait + Clock, X: Execu
 
     // The listener is shown seats of this cell, and is this seat's.
     requires cell { (seat : RestAt) → seat.book ≡ B.book → L.cell network.old seat }
-    requires rests { (seat : RestAt) × L.rests network.old seat × WasShown seat B.book B.number (B.seat backend.old) }
+    requires rests { (seat : RestAt) × L.rests network.old seat
+        × WasShown seat B.book B.number (B.seat backend.old) }
 
     // Whatever the network is owed for a connection, serving it is that.
     requires owed { Pays B.moves service.now.options L.owed }
-    ensures serves { ServesUpTo (AcceptsThenCloses L.accepts L.closes) B.moves service.now.options drawer.new.drawn result
+    ensures serves { ServesUpTo (AcceptsThenCloses L.accepts L.closes) B.moves service.now.options
+        drawer.new.drawn result
         (worker_of network.old (B.seat backend.old)) (worker_of network.new (B.seat backend.new)) }
     ensures drawer { (drawer.new.name ≡ service.now.turns.now.name) × (drawer.new.parts ≡ 1) }
     ensures ended { IfOk result (λ _. 0 < drawer.new.ended) }
@@ -87,7 +92,7 @@ pub fn serve_in_turn<L: Listen<ShownSeat>, B: Resting, T: Wait + Clock, X: Execu
     unreachable!()
 }
 
-// The seat as a listener is shown it, behind one ask.
+// The seat as a listener is shown it, after one ask.
 #[tactic(auto, using(crate::proofs::Serving::told_so))]
 fn shown_of<B: Resting>(backend: &mut B) -> ShownSeat
     ensures asks { AsksOthers B.moves (B.seat backend.old) (B.seat backend.new) }
@@ -96,7 +101,7 @@ fn shown_of<B: Resting>(backend: &mut B) -> ShownSeat
     ShownSeat::new(backend.rest())
 }
 
-// The next connection. Accepts that fail by what may pass are passed over, each behind a pause.
+// The next connection. Accepts that fail by what may pass are passed over, each after a pause.
 fn accept_next<L: Listen<ShownSeat>, T: Wait + Clock, X>(
     service: &Service<'_, '_, T, X>,
     network: &mut L,
@@ -117,7 +122,8 @@ fn accept_next<L: Listen<ShownSeat>, T: Wait + Clock, X>(
     ensures port { L.port_of network.new ≡ L.port_of network.old }
     ensures rests { L.rests network.new seat.now }
     ensures cell { (other : RestAt) → L.cell network.old other → L.cell network.new other }
-    ensures due { (port : ℕ) (held : Option (List ℕ)) → L.due network.old port held → L.due network.new port held }
+    ensures due { (port : ℕ) (held : Option (List ℕ)) → L.due network.old port held →
+        L.due network.new port held }
     ensures kind { FailsByTransport result }
 {
     let mut pause = LEAST_PAUSE_MILLISECONDS;

@@ -42,7 +42,8 @@ pub fn read_words<'a, W: Output, E: Output>(
     requires writes { CanFail (W.failures output.old) }
     requires prints { CanFail (E.failures faults.old) }
 
-    // The words are a request, and nothing is printed; or they are none, and what ends the program is.
+    // The words are a request, and nothing is printed; or they are none, and what ends the program
+    // is.
     ensures reads { (parsers : Parsers) × TakeNames parsers
         × ReadsWords parsers (map string_bytes words.now) result
         (said_of W.Output output.old) (said_of W.Output output.new)
@@ -57,7 +58,8 @@ pub fn read_words<'a, W: Output, E: Output>(
     }
 }
 
-// Prints the version that an error of clap's asks for, or its text, or the fault F21 where memory was refused.
+// Prints the version that an error of clap's asks for, or its text, or the fault F21 where memory
+// was refused.
 fn end_by_error<W: Output, E: Output>(
     alloc: Global,
     output: &mut W,

@@ -8,7 +8,8 @@ pub record TurnsAt : Type 0 where
   pub most : ℕ
   pub parts : ℕ
 
--- the word of a drawer, its parts, how many turns it drew, and how often it was told that none is left
+-- the word of a drawer, its parts, how many turns it drew, and how often it was told that none is
+-- left
 pub record DrawerAt : Type 0 where
   pub name : TableId
   pub parts : ℕ
@@ -21,4 +22,5 @@ turns_at name most parts = record { name = name; most = most; parts = parts }
 
 -- such a drawer
 abbrev pub drawer_at : TableId → ℕ → ℕ → ℕ → DrawerAt
-drawer_at name parts drawn ended = record { name = name; parts = parts; drawn = drawn; ended = ended }
+drawer_at name parts drawn ended =
+    record { name = name; parts = parts; drawn = drawn; ended = ended }

@@ -2,14 +2,15 @@
 
 use atomic_table::{Join, Play, Split, TableRule};
 
-// What a drawer knows: its parts, how many turns it drew, and how often it was told that none is left. No value of it is made.
+// What a drawer knows: its parts, how many turns it drew, and how often it was told that none is
+// left. No value of it is made.
 pub struct Hand {
     pub parts: u64,
     pub drawn: u64,
     pub ended: u64,
 }
 
-// The turns there were at first, and the drawers there may be beside the first one.
+// The turns there were at first, and the drawers there may be next to the first one.
 #[derive(Clone, Copy)]
 pub struct Key {
     pub most: u64,

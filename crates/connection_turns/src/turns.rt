@@ -10,8 +10,8 @@ use std::alloc::{AllocError, Global};
 use std::marker::Model;
 use std::sync::Wait;
 
-/// The turns that are left. Contracts see which word it is, how many turns there were at first, and in how many parts they
-/// may be drawn.
+/// The turns that are left. Contracts see which word it is, how many turns there were at first, and
+/// in how many parts they may be drawn.
 #[derive(Drop)]
 pub struct Turns {
     table: Table<(), Hand, Key, Law, Global>,
@@ -26,11 +26,12 @@ impl Model for Turns {
 
     ghost view = { λ t. turns_at t.table.shared.table_id t.most (t.table.shared.key.drawers + 1) };
 
-    ghost invariant = { λ t. (t.table.shared.table_id.words ≡ 1) × (t.table.shared.key.most ≡ t.most) };
+    ghost invariant = { λ t. (t.table.shared.table_id.words ≡ 1)
+        × (t.table.shared.key.most ≡ t.most) };
 }
 
-/// One of those that draw. Contracts see its word, its parts, how many turns it drew, and how often it was told that none is
-/// left.
+/// One of those that draw. Contracts see its word, its parts, how many turns it drew, and how often
+/// it was told that none is left.
 #[derive(Drop)]
 pub struct Drawer {
     seat: Seat<(), Hand>,
@@ -42,12 +43,13 @@ impl Model for Drawer {
 
     ghost Value = { DrawerAt };
 
-    ghost view = { λ d. drawer_at d.seat.table_id d.seat.me.0.parts d.seat.me.0.drawn d.seat.me.0.ended };
+    ghost view = { λ d. drawer_at d.seat.table_id d.seat.me.0.parts d.seat.me.0.drawn
+        d.seat.me.0.ended };
 
     ghost invariant = { λ d. d.seat.me.1 ≡ [] };
 }
 
-/// So many turns, for so many drawers beside the first one.
+/// So many turns, for so many drawers next to the first one.
 ///
 /// # Errors
 ///
@@ -86,7 +88,8 @@ impl Turns {
     fn look(&self, mine: &mut Drawer) -> u64
         requires name { mine.old.name ≡ self.now.name }
         requires part { 0 < mine.old.parts }
-        ensures { mine.new ≡ drawer_at mine.old.name mine.old.parts mine.old.drawn (mine.old.ended + one_if (result == 0)) }
+        ensures { mine.new ≡ drawer_at mine.old.name mine.old.parts mine.old.drawn
+            (mine.old.ended + one_if (result == 0)) }
     {
         self.table.shared.load::<Looks>(&mut mine.seat, 0)
     }
@@ -96,7 +99,8 @@ impl Turns {
         requires name { mine.old.name ≡ self.now.name }
         requires part { 0 < mine.old.parts }
         requires left { 0 < left }
-        ensures { mine.new ≡ drawer_at mine.old.name mine.old.parts (mine.old.drawn + one_if result) mine.old.ended }
+        ensures { mine.new ≡ drawer_at mine.old.name mine.old.parts
+            (mine.old.drawn + one_if result) mine.old.ended }
     {
         let shared = &self.table.shared;
         shared.compare_exchange::<Draws>(&mut mine.seat, 0, left, left - 1) == left
@@ -106,7 +110,8 @@ impl Turns {
     pub fn cut(&self, mine: &mut Drawer) -> Drawer
         requires name { mine.old.name ≡ self.now.name }
         requires part { 1 < mine.old.parts }
-        ensures mine { mine.new ≡ drawer_at mine.old.name (mine.old.parts - 1) mine.old.drawn mine.old.ended }
+        ensures mine { mine.new
+            ≡ drawer_at mine.old.name (mine.old.parts - 1) mine.old.drawn mine.old.ended }
         ensures other { result ≡ drawer_at mine.old.name 1 0 0 }
     {
         let seat = self.table.shared.split_seat::<Apart>(&mut mine.seat);
@@ -124,8 +129,8 @@ impl Turns {
         self.table.shared.join_seat::<Back>(&mut mine.seat, seat);
     }
 
-    /// With every part, no more was drawn than there was, and all of it if ever none was left. It exchanges the number of
-    /// turns for itself, which changes nothing.
+    /// With every part, no more was drawn than there was, and all of it if ever none was left. It
+    /// exchanges the number of turns for itself, which changes nothing.
     pub fn learn(&self, mine: &mut Drawer)
         requires name { mine.old.name ≡ self.now.name }
         requires parts { mine.old.parts ≡ self.now.parts }

@@ -19,7 +19,8 @@ const OPTIONS: Options = Options {
 
 const TABLE_EXISTS: &[u8] = b"\x04\x06\x00\x0fF10 TableExists";
 
-// What is written to a connection that puts the first run's rows, or none where it did not end well.
+// What is written to a connection that puts the first run's rows, or none where it did not end
+// well.
 fn put_alone(alloc: Global, backend: &mut Alone) -> MemoryOutput {
     let mut writer = MemoryOutput::new(alloc);
     let setting = Setting {

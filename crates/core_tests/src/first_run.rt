@@ -1,10 +1,10 @@
-//! The bytes of a first run, written by hand from the published formats: the appendix of docs/PROTOCOL.md has them part
-//! by part.
+//! The bytes of a first run, written by hand from the published formats: the appendix of
+//! docs/PROTOCOL.md has them part by part.
 
 use std::alloc::{AllocError, Global};
 
-/// A put of the rows 1 and 2 into a new table `t`, which has a nullable 64-bit integer column `a`: its path, its command,
-/// the schema's header, the batch's header and its body.
+/// A put of the rows 1 and 2 into a new table `t`, which has a nullable 64-bit integer column `a`:
+/// its path, its command, the schema's header, the batch's header and its body.
 pub const PUT: &[u8] = b"\x01\x00*/arrow.flight.protocol.FlightService/DoPut\
     \x02\x00\x00\x00\x00\xc7\x0aS\x08\x02\x12O\x0aD\
     type.googleapis.com/arrow.flight.protocol.sql.CommandStatementIngest\
@@ -25,7 +25,8 @@ pub const PUT: &[u8] = b"\x01\x00*/arrow.flight.protocol.FlightService/DoPut\
     \x01\x00\x00\x00\x00\x00\x00\x00\x02\x00\x00\x00\x00\x00\x00\x00\
     \x03";
 
-/// Where in the put the option stands that makes the table, what follows it, and where its batch begins and ends.
+/// Where in the put the option stands that makes the table, what follows it, and where its batch
+/// begins and ends.
 pub const MODE_AT: usize = 131;
 
 pub const AFTER_MODE: usize = 133;

@@ -1,5 +1,5 @@
-//! The program's commands over ends in memory: the first run, and what becomes of it where it is cut, broken or meets a
-//! failing end.
+//! The program's commands over ends in memory: the first run, and what becomes of it where it is
+//! cut, broken or meets a failing end.
 
 ghost use Rattle.std.specs.Prelude.{◌<◌};
 ghost use Rattle.grpc_frame.specs.Ends.{CanFail};
@@ -113,8 +113,8 @@ type Case = (
     &'static [u8],
 );
 
-// Faults of a call are its answer, the first one whatever comes behind it, and the connection goes on. Faulty records
-// end it, and what follows them is not looked at.
+// Faults of a call are its answer, the first one whatever comes after it, and the connection goes
+// on. Faulty records end it, and what follows them is not looked at.
 static CASES: [Case; 16] = [
     (&[], 0, &[], NOTHING),
     (
@@ -206,7 +206,8 @@ fn each_case(rt: HostRuntime) -> Result<(), Fail> {
     Ok(())
 }
 
-// The same bytes come of the first run's input whole and byte by byte: the put's answer, and one that has the two rows.
+// The same bytes come of the first run's input whole and byte by byte: the put's answer, and one
+// that has the two rows.
 #[test]
 fn the_first_run(rt: HostRuntime) -> Result<(), Fail> {
     let bytes = joined(rt.alloc(), &[PUT, FETCH])?;
@@ -228,7 +229,7 @@ fn ends_with_rows(bytes: &[u8]) -> bool {
     is_joined(rest(bytes, at), &[ROWS, DONE])
 }
 
-// The first k bytes: what is written up to the put's End and behind it, and the exit status.
+// The first k bytes: what is written up to the put's End and after it, and the exit status.
 #[test]
 fn cut_input(rt: HostRuntime) -> Result<(), Fail> {
     let bytes = joined(rt.alloc(), &[PUT, FETCH])?;
@@ -318,7 +319,8 @@ fn two_appends(alloc: Global) -> Result<Vec<u8>, AllocError> {
     )
 }
 
-// A put whose third batch is broken leaves the table as before, and the next accepted put makes the next version.
+// A put whose third batch is broken leaves the table as before, and the next accepted put makes the
+// next version.
 #[test]
 fn a_broken_third_batch(rt: HostRuntime) -> Result<(), Fail> {
     let appends = two_appends(rt.alloc())?;
@@ -346,14 +348,15 @@ fn times_rows(bytes: &[u8]) -> usize {
     bytes.windows(16).filter(|piece| *piece == ROWS).count()
 }
 
-// The same of the answer to the first run's fetch, which has the rows once: its schema has their bytes too.
+// The same of the answer to the first run's fetch, which has the rows once: its schema has their
+// bytes too.
 fn times_rows_of_one_put(alloc: Global) -> Result<usize, AllocError> {
     let bytes = joined(alloc, &[PUT, FETCH])?;
     let (_, writer, _) = piped(alloc, &bytes, 65_536);
     Ok(times_rows(writer.as_slice()))
 }
 
-// A faulty record is answered at once: the read behind it would fail.
+// A faulty record is answered at once: the read after it would fail.
 #[test]
 fn a_fault_before_a_failed_read(rt: HostRuntime) {
     let mut reader = MemoryInput::new(b"\x05").failing_after(1);
@@ -366,7 +369,8 @@ fn a_fault_before_a_failed_read(rt: HostRuntime) {
     assert!(rt; faults.as_slice() == BAD_FRAME_LINE);
 }
 
-// Each read fails in turn: of the input's pieces of 250 bytes the second ends the put, and the third the fetch.
+// Each read fails in turn: of the input's pieces of 250 bytes the second ends the put, and the
+// third the fetch.
 #[test]
 fn each_read(rt: HostRuntime) -> Result<(), Fail> {
     let bytes = joined(rt.alloc(), &[PUT, FETCH])?;

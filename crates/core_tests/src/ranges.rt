@@ -12,7 +12,8 @@ static QUERY: &[u8] =
 // The handle of the tables of version 0x0102030405060708.
 static TABLES: &[u8] = b"\x02\x01\x02\x03\x04\x05\x06\x07\x08";
 
-// How many rows, how many parts, and where the ranges end. Without a part it is one range all the same.
+// How many rows, how many parts, and where the ranges end. Without a part it is one range all the
+// same.
 static SPLITS: [(u32, u32, &[u32]); 6] = [
     (5, 2, &[2, 5]),
     (5, 0, &[5]),

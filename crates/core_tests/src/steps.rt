@@ -1,4 +1,5 @@
-//! A run with ample memory. What is refused, and columns of every type, are rows of the program `call_cases`.
+//! A run with ample memory. What is refused, and columns of every type, are rows of the program
+//! `call_cases`.
 
 use bytes::Bytes;
 use flight_core::laws::{
@@ -10,8 +11,8 @@ use hash_seed::HashSeed;
 use std::alloc::{AllocError, Global};
 use std::test::Fail;
 
-/// The first FlightData of a put that creates table `t`: its command and the header of a schema of one nullable Int64
-/// column `a`.
+/// The first FlightData of a put that creates table `t`: its command and the header of a schema of
+/// one nullable Int64 column `a`.
 pub static FIRST: &[u8] = b"\x0aS\x08\x02\x12O\x0aD\
     type.googleapis.com/arrow.flight.protocol.sql.CommandStatementIngest\
     \x12\x07\x0a\x02\x08\x01\x12\x01t\x12p\

@@ -1,5 +1,5 @@
-//! Limits that take many puts or much memory, and what a version shows of its tables. What refuses a put, with columns
-//! of every type, are rows of the program `call_cases`.
+//! Limits that take many puts or much memory, and what a version shows of its tables. What refuses
+//! a put, with columns of every type, are rows of the program `call_cases`.
 
 use crate::first_run::{joined, part, rest};
 use crate::steps::{FIRST, SECOND};
@@ -16,7 +16,8 @@ use table_versions::laws::{
 };
 use table_versions::{CatalogVersion, MAX_ROWS, Put, Snapshot, apply, refusal};
 
-// The first payload of a put into a table of a name of one byte: an append that may create it, or a replace.
+// The first payload of a put into a table of a name of one byte: an append that may create it, or a
+// replace.
 fn first(alloc: Global, table: u8, is_append: bool) -> Result<Bytes, AllocError> {
     let mode = if is_append { 2 } else { 3 };
     let command = [0x0a, 4, 8, 1, 0x10, mode, 0x12, 1, table];
@@ -36,7 +37,7 @@ fn first(alloc: Global, table: u8, is_append: bool) -> Result<Bytes, AllocError>
     Ok(Bytes::from_vec(bytes)?)
 }
 
-// The put of one more payload behind that.
+// The put of one more payload after that.
 fn put(alloc: Global, first: Bytes, batch: Bytes) -> Result<Put, Fault> {
     read_put(alloc, &[first, batch])
 }
@@ -50,7 +51,8 @@ fn two(alloc: Global, table: u8) -> Result<Put, Fault> {
     )
 }
 
-// What stands before the body in a batch of so many rows and bytes: two numbers, their lowest byte first.
+// What stands before the body in a batch of so many rows and bytes: two numbers, their lowest byte
+// first.
 fn before_body(alloc: Global, rows: &[u8], bytes: &[u8]) -> Result<Vec<u8>, AllocError> {
     let (rows, bytes) = (part(rows, 0, 4), part(bytes, 0, 4));
     joined(
@@ -129,7 +131,8 @@ fn appends(rt: HostRuntime) -> Result<(), Fail> {
     Ok(())
 }
 
-// The fault of a put of so many rows at a version, by an append or a replace, which is known without memory too.
+// The fault of a put of so many rows at a version, by an append or a replace, which is known
+// without memory too.
 fn fault_of(
     alloc: Global,
     snapshot: &Snapshot,
@@ -170,7 +173,7 @@ fn most_rows(rt: HostRuntime) -> Result<(), Fail> {
     Ok(())
 }
 
-// The 65,536th put is taken and the one behind it is not.
+// The 65,536th put is taken and the one after it is not.
 #[test]
 fn most_commits(rt: HostRuntime) -> Result<(), Fail> {
     let before = bare(rt.alloc(), HashSeed::new(&rt)?, 65_535)?;

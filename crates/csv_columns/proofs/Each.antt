@@ -16,7 +16,7 @@ each_more P xs y n long one each =
     (subst (λ (x : _). P n x) (sym (get_or_push xs y d n long)) one)
     k
 
--- one of them is put where it stands, and those behind it stay
+-- one of them is put where it stands, and those after it stay
 pub one_set : (all first : List Seen) (records : List (List (List ℕ))) (fields : List (List ℕ)) (n : ℕ) (y : Seen) → n < length all
     → HasSeen y (column_of n (records ++ fields ∷ []))
     → ((k : ℕ) (d : Seen) → k < n → HasSeen (get_or all k d) (column_of k (records ++ fields ∷ [])))

@@ -1,4 +1,4 @@
--- How many records are left behind one that was read.
+-- How many records are left after one that was read.
 use Rattle.std.proofs.Common.{◌≡◌, ℕ, zero, suc, ◌+◌, ◌-◌, ◌<◌, ◌≤◌, List, [], ◌∷◌, length, Option, Some, None, refl, sym, ap, ap₂, ◌∙◌, inl, inr, arith}
 use Rattle.std.proofs.lemmas.Bool.{cases_Bool}
 use Rattle.std.proofs.lemmas.Option.{none-some, same_Some}
@@ -18,7 +18,7 @@ module _ (cfg : Config) where
     | inr goes ↦ absurd (none-some _ (rw goes at e))
   ]
 
-  -- a record leaves no more bytes than stand behind its first
+  -- a record leaves no more bytes than stand after its first
   leaves : (rest : List ℕ) (s : State) (fields : List (List ℕ)) (field : List ℕ) (c : ℕ) (p : Read) → next_record cfg s fields field (c ∷ rest) ≡ Some p → length p.2 ≤ length rest
   unfolding next_record
   leaves [] s fields field c p e = elim (cases_Bool (is_end (step cfg s c).1)) [
@@ -34,7 +34,7 @@ module _ (cfg : Config) where
         omega (arith, fewer)
   ]
 
-  -- behind the end of a text there is none
+  -- after the end of a text there is none
   none_left : (n : ℕ) → records_from cfg n st.StartRecord [] ≡ []
   unfolding records_from next_record
   none_left zero = refl
@@ -71,7 +71,7 @@ module _ (cfg : Config) where
       let is : suc (d + n) ≡ m = omega (arith, e) in
       turns_more d n (d + n) s bytes low refl ∙ turns_stay (d + n) s bytes long ∙ ap (λ (k : ℕ). records_from cfg k s bytes) is
 
-  -- what is left behind a record, counted in either way
+  -- what is left after a record, counted in either way
   rest_left : (s : State) (bytes : List ℕ) (p : Read) → next_record cfg s [] [] bytes ≡ Some p → records_from cfg (length bytes) p.1 p.2 ≡ records_from cfg (length p.2 + 1) p.1 p.2
   rest_left s [] p e =
       let last = at_end s [] [] p e in
@@ -88,7 +88,7 @@ left_by s bytes o e =
     let one : length bytes + 1 ≡ suc (length bytes) = omega arith in
     ap (λ (n : ℕ). records_from default_config n s bytes) one ∙ ap (records_next (records_from default_config (length bytes))) e
 
--- a record that was read, and those behind it
+-- a record that was read, and those after it
 pub record_more : (s : State) (bytes : List ℕ) (p : Read) → next_record default_config s [] [] bytes ≡ Some p → records_behind s (Some bytes) ≡ p.0 ∷ records_behind p.1 (Some p.2)
 record_more s bytes p e = left_by s bytes (Some p) e ∙ ap (λ (l : List (List (List ℕ))). p.0 ∷ l) (rest_left default_config s bytes p e)
 

@@ -1,4 +1,4 @@
--- The field at a place of a record, and none behind the last.
+-- The field at a place of a record, and none after the last.
 use Rattle.std.proofs.Common.{◌≡◌, ℕ, zero, suc, List, [], ◌∷◌, Option, Some, None, Bor, get_or, refl, ap, ◌∙◌}
 use Rattle.std.specs.Prelude.{option_map, unwrap_or}
 use Rattle.csv.specs.Records.{field_at}

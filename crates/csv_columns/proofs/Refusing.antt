@@ -41,7 +41,7 @@ pub record IsCut (text front : List ℕ) (nullable : Truth) (at : ℕ) : Type 0 
   pub colon : slice_index front at ≡ 58
   pub last : (k : ℕ) → at < k → k < length front → slice_index front k ≢ 58
 
--- the bytes behind the colon, as a slice has them
+-- the bytes after the colon, as a slice has them
 abbrev pub behind : List ℕ → ℕ → List ℕ
 behind front at = take (length front - (at + 1)) (drop (at + 1) front)
 

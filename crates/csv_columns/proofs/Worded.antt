@@ -2,7 +2,7 @@
 use Rattle.std.proofs.Common.{◌≡◌, ◌<◌, ◌+◌, ℕ, List, ◌∷◌, ◌++◌, length, take, drop, slice_index, sym, ap, ◌∙◌, ◌-◌, append_assoc, length-drop, arith}
 use Rattle.std.proofs.lemmas.List.{at_drop_more, take_all, take-append-drop}
 
--- what stands before a place, the byte there, and what stands behind it
+-- what stands before a place, the byte there, and what stands after it
 cut_at : (front : List ℕ) (at byte : ℕ) → at < length front → slice_index front at ≡ byte → front ≡ take at front ++ byte ∷ drop (at + 1) front
 cut_at front at byte low is =
     let rest : drop at front ≡ byte ∷ drop (at + 1) front = at_drop_more (λ (l : List ℕ). l) front at 0 low ∙ ap (λ (x : ℕ). x ∷ drop (at + 1) front) is in

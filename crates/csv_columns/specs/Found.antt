@@ -1,5 +1,7 @@
--- The columns that a whole CSV text fits: their names, their types, and whether they may have nulls.
-use Rattle.std.specs.Prelude.{◌≡◌, ◌⊎◌, ◌<◌, ℕ, ◌+◌, ◌==◌, ◌||◌, Bool as Truth, true, false, List, [], ◌∷◌, ◌++◌, length, map, drop, get_or, codes, if◌then◌else◌}
+-- The columns that a whole CSV text fits: their names, their types, and whether they may have
+-- nulls.
+use Rattle.std.specs.Prelude.{◌≡◌, ◌⊎◌, ◌<◌, ℕ, ◌+◌, ◌==◌, ◌||◌, Bool as Truth, true, false, List}
+use Rattle.std.specs.Prelude.{[], ◌∷◌, ◌++◌, length, map, drop, get_or, codes, if◌then◌else◌}
 use Rattle.std.specs.Fmt.{decimal}
 use Rattle.std.specs.List.{list_all, list_any}
 use Rattle.std.specs.Option.{is_some}
@@ -7,7 +9,8 @@ use Rattle.scan_base.specs.declared.fault.Fault.{Fault}
 use Rattle.scan_base.specs.declared.fault.Fault.TheVariants.{BadBatch, LimitReached, OutOfMemory}
 use Rattle.arrow_schema.specs.declared.data_type.IntegerType.TheVariants.{Int64}
 use Rattle.arrow_schema.specs.declared.data_type.DataType.{DataType}
-use Rattle.arrow_schema.specs.declared.data_type.DataType.TheVariants.{Integer, Utf8, Bool, Decimal128, Date}
+use Rattle.arrow_schema.specs.declared.data_type.DataType.TheVariants.{Integer, Utf8, Bool}
+use Rattle.arrow_schema.specs.declared.data_type.DataType.TheVariants.{Decimal128, Date}
 use Rattle.arrow_schema.specs.declared.schema.Field.{Field}
 use Rattle.arrow_schema.specs.declared.schema.Schema.{Schema}
 use Rattle.arrow_schema.specs.Schema.{IsName}
@@ -43,7 +46,7 @@ abbrev pub name_of : Truth → List (List ℕ) → ℕ → List ℕ
 name_of true first k = get_or first k []
 name_of false first k = codes "col" ++ decimal (k + 1)
 
--- the records that say rows: those behind the first one, where that has the names, and else all
+-- the records that say rows: those after the first one, where that has the names, and else all
 abbrev pub rows_behind : Truth → List (List (List ℕ)) → List (List (List ℕ))
 rows_behind true records = drop 1 records
 rows_behind false records = records
@@ -61,14 +64,16 @@ abbrev pub AreFound : Truth → List (List (List ℕ)) → Schema → Type 0
 AreFound header [] schema = ⊥
 AreFound header (first ∷ others) schema =
     (length schema.fields ≡ length first)
-    × ((k : ℕ) (d : Field) → k < length first → get_or schema.fields k d ≡ column_seen header first (rows_behind header (first ∷ others)) k)
+    × ((k : ℕ) (d : Field) → k < length first →
+    get_or schema.fields k d ≡ column_seen header first (rows_behind header (first ∷ others)) k)
 
 -- the first name that is none, and why
 abbrev pub WhyNoNames : Truth → List (List ℕ) → Fault → Type 0
-WhyNoNames header first fault = FailsFirst (length first) (λ k. IsName (name_of header first k)) (λ k. WhyNoName (name_of header first k) fault)
+WhyNoNames header first fault = FailsFirst (length first) (λ k. IsName (name_of header first k))
+    (λ k. WhyNoName (name_of header first k) fault)
 
--- Why no columns are found. The first record has more fields than a schema may have columns, which is F12. Or no record has a
--- field, which is F8. Or the first name that is none says why.
+-- Why no columns are found. The first record has more fields than a schema may have columns, which
+-- is F12. Or no record has a field, which is F8. Or the first name that is none says why.
 abbrev pub WhyNoneFound : Truth → List (List (List ℕ)) → Fault → Type 0
 WhyNoneFound header records fault =
     (fault ≡ OutOfMemory)

@@ -1,19 +1,25 @@
 -- What a field of a CSV text says in a column.
-use Rattle.std.specs.Prelude.{ℕ, ◌-◌, ◌^◌, ◌==◌, Bool, true, false, List, [], ◌∷◌, length, drop, slice_index, ℤ, pos, neg_ℤ, Option, Some, None, option_map, codes, if◌then◌else◌}
+use Rattle.std.specs.Prelude.{ℕ, ◌-◌, ◌^◌, ◌==◌, Bool, true, false, List, [], ◌∷◌, length, drop}
+use Rattle.std.specs.Prelude.{slice_index, ℤ, pos, neg_ℤ, Option, Some, None, option_map, codes}
+use Rattle.std.specs.Prelude.{if◌then◌else◌}
 use Rattle.std.specs.Str.{bytes_eq, byte, is_utf8}
 use Rattle.scan_base.specs.declared.value.Value.{Value}
 use Rattle.scan_base.specs.declared.value.Value.TheVariants.{Null, Bool as Flag, Int, Text}
 use Rattle.arrow_schema.specs.declared.data_type.IntegerType.{IntegerType}
-use Rattle.arrow_schema.specs.declared.data_type.IntegerType.TheVariants.{Int8, Int16, Int32, Int64, UInt8, UInt16, UInt32, UInt64}
+use Rattle.arrow_schema.specs.declared.data_type.IntegerType.TheVariants.{Int8, Int16, Int32, Int64}
+use Rattle.arrow_schema.specs.declared.data_type.IntegerType.TheVariants.{UInt8, UInt16, UInt32}
+use Rattle.arrow_schema.specs.declared.data_type.IntegerType.TheVariants.{UInt64}
 use Rattle.arrow_schema.specs.declared.data_type.DataType.{DataType}
-use Rattle.arrow_schema.specs.declared.data_type.DataType.TheVariants.{Integer, Utf8, Bool as Truth, Decimal128, Date, Dictionary}
+use Rattle.arrow_schema.specs.declared.data_type.DataType.TheVariants.{Integer, Utf8, Bool as Truth}
+use Rattle.arrow_schema.specs.declared.data_type.DataType.TheVariants.{Decimal128, Date, Dictionary}
 use Rattle.arrow_schema.specs.declared.schema.Field.{Field}
 use Rattle.calendar.specs.Dates.{day_in, is_from_to}
 use Rattle.sql_text.specs.Values.{number_of}
 
 -- a whole number below 10^38: digits, and a minus may stand in front of them
 abbrev pub number_in : List ℕ → Option ℤ
-number_in text = if slice_index text 0 == byte "-" then option_map neg_ℤ (number_of (drop 1 text)) else number_of text
+number_in text = if slice_index text 0 == byte "-" then option_map neg_ℤ (number_of (drop 1 text))
+    else number_of text
 
 -- the least and the greatest number of a type
 abbrev pub least_of : IntegerType → ℤ
@@ -36,12 +42,14 @@ greatest_of UInt64 = pos 18446744073709551615
 -- a number, if it is one of the type
 abbrev pub kept_in : IntegerType → Option ℤ → Option ℤ
 kept_in integer None = None
-kept_in integer (Some number) = if is_from_to (least_of integer) (greatest_of integer) number then Some number else None
+kept_in integer (Some number) =
+    if is_from_to (least_of integer) (greatest_of integer) number then Some number else None
 
 -- a truth value
 abbrev pub flag_in : List ℕ → Option Bool
 flag_in text =
-    if bytes_eq text (codes "true") then Some true else if bytes_eq text (codes "false") then Some false else None
+    if bytes_eq text (codes "true") then Some true
+    else if bytes_eq text (codes "false") then Some false else None
 
 -- what a text says as a value of a type
 abbrev pub said_as : DataType → List ℕ → Option Value
@@ -58,4 +66,6 @@ value_in data_type text = if is_utf8 text then said_as data_type text else None
 
 -- What a field says in a column. One without a byte is a null where the column may have nulls.
 abbrev pub cell_in : Field → List ℕ → Option Value
-cell_in column text = if length text == 0 then (if column.nullable then Some Null else value_in column.data_type text) else value_in column.data_type text
+cell_in column text =
+    if length text == 0 then (if column.nullable then Some Null else value_in column.data_type text)
+    else value_in column.data_type text

@@ -1,9 +1,13 @@
 -- How columns are spelled: a record of CSV, with a field for each column.
-use Rattle.std.specs.Prelude.{◌≡◌, ◌<◌, ℕ, Bool as Truth, true, false, List, [], ◌∷◌, ◌++◌, length, map, get_or, codes}
+use Rattle.std.specs.Prelude.{◌≡◌, ◌<◌, ℕ, Bool as Truth, true, false, List, [], ◌∷◌, ◌++◌, length}
+use Rattle.std.specs.Prelude.{map, get_or, codes}
 use Rattle.csv.specs.Records.{trimmed}
-use Rattle.arrow_schema.specs.declared.data_type.IntegerType.TheVariants.{Int8, Int16, Int32, Int64, UInt8, UInt16, UInt32, UInt64}
+use Rattle.arrow_schema.specs.declared.data_type.IntegerType.TheVariants.{Int8, Int16, Int32, Int64}
+use Rattle.arrow_schema.specs.declared.data_type.IntegerType.TheVariants.{UInt8, UInt16, UInt32}
+use Rattle.arrow_schema.specs.declared.data_type.IntegerType.TheVariants.{UInt64}
 use Rattle.arrow_schema.specs.declared.data_type.DataType.{DataType}
-use Rattle.arrow_schema.specs.declared.data_type.DataType.TheVariants.{Integer, Bool, Decimal128, Date}
+use Rattle.arrow_schema.specs.declared.data_type.DataType.TheVariants.{Integer, Bool, Decimal128}
+use Rattle.arrow_schema.specs.declared.data_type.DataType.TheVariants.{Date}
 use Rattle.arrow_schema.specs.declared.schema.Field.{Field}
 use Rattle.arrow_schema.specs.declared.schema.Schema.{Schema}
 
@@ -34,9 +38,11 @@ spelled column = column.name ++ (codes ":" ++ (word_of column.data_type ++ mark_
 -- these texts spell the columns
 pub record AreSpelledAs (spellings : List (List ℕ)) (columns : List Field) : Type 0 where
   pub many : length columns ≡ length spellings
-  pub each : (k : ℕ) (d : Field) → k < length spellings → spelled (get_or columns k d) ≡ get_or spellings k []
+  pub each : (k : ℕ) (d : Field) → k < length spellings →
+      spelled (get_or columns k d) ≡ get_or spellings k []
 
 -- a text of one record spells the columns; white space around its fields is no part
 abbrev pub Spells : List (List (List ℕ)) → Schema → Type 0
 Spells records schema =
-    (fields : List (List ℕ)) × (records ≡ fields ∷ []) × AreSpelledAs (map trimmed fields) schema.fields
+    (fields : List (List ℕ)) × (records ≡ fields ∷ [])
+    × AreSpelledAs (map trimmed fields) schema.fields

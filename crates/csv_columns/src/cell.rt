@@ -9,8 +9,8 @@ use crate::said::value_in;
 use arrow_schema::Field;
 use scan_base::ValueRef;
 
-/// The value that a field says in a column, if it says one. A field without a byte is a null where the column may have
-/// nulls. It takes no memory.
+/// The value that a field says in a column, if it says one. A field without a byte is a null where
+/// the column may have nulls. It takes no memory.
 pub fn cell_in<'a>(column: &Field, field: &'a [u8]) -> Option<ValueRef<'a>>
     ensures value { option_map value_of result ≡ cell_in column.now field.now }
     ensures typed { IfSome result (λ value. IsValueOf (column.now).data_type (value_of value)) }

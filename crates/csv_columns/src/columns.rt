@@ -1,11 +1,13 @@
 //! The columns that are found.
 
-ghost use Rattle.std.specs.Prelude.{◌≡◌, ◌<◌, ◌∷◌, [], ◌++◌, ℕ, List, None, All, IfErr, IfOk, length, get_or};
+ghost use Rattle.std.specs.Prelude.{◌≡◌, ◌<◌, ◌∷◌, [], ◌++◌, ℕ, List, None, All, IfErr, IfOk};
+ghost use Rattle.std.specs.Prelude.{length, get_or};
 ghost use Rattle.csv.specs.Records.{fields_of};
 ghost use Rattle.arrow_schema.specs.Schema.{IsField, IsSchema};
 ghost use Rattle.arrow_schema.specs.Written.{encoding_of};
 ghost use Rattle.csv_columns.specs.Left.{records_in};
-ghost use Rattle.csv_columns.specs.Found.{AreFound, WhyNoNames, WhyNoneFound, column_seen, rows_behind};
+ghost use Rattle.csv_columns.specs.Found.{AreFound, WhyNoNames, WhyNoneFound, column_seen};
+ghost use Rattle.csv_columns.specs.Found.{rows_behind};
 ghost use Rattle.csv_columns.specs.inside.Tests.{HaveSeen, PassesOne};
 
 use crate::naming::name_in;
@@ -31,7 +33,8 @@ fn none_seen(alloc: Global, width: usize) -> Result<Vec<Seen>, AllocError>
 // Sees the fields of a record, each in its column.
 fn see(all: &mut Vec<Seen>, fields: &ByteRecord)
     ensures many { length all.new.items ≡ length all.old.items }
-    ensures seen { (records : List (List (List ℕ))) → HaveSeen all.old.items records → HaveSeen all.new.items (records ++ fields_of fields.now ∷ []) }
+    ensures seen { (records : List (List (List ℕ))) → HaveSeen all.old.items records →
+        HaveSeen all.new.items (records ++ fields_of fields.now ∷ []) }
 {
     for number in 0..all.len() {
         all[number] = all[number].with(field_in(fields, number));
@@ -60,10 +63,12 @@ fn fields_in(
 ) -> Result<Items<Field>, Fault>
     requires { length seen.now ≡ length (fields_of first.now) }
     ensures many { IfOk result (λ columns. length columns ≡ length seen.now) }
-    ensures found { (records : List (List (List ℕ))) → HaveSeen seen.now records → IfOk result (λ columns.
-        (k : ℕ) (d : Field) → k < length seen.now → get_or columns k d ≡ column_seen header (fields_of first.now) records k) }
+    ensures found { (records : List (List (List ℕ))) → HaveSeen seen.now records →
+        IfOk result (λ columns. (k : ℕ) (d : Field) → k < length seen.now →
+        get_or columns k d ≡ column_seen header (fields_of first.now) records k) }
     ensures named { IfOk result (λ columns. All IsField columns) }
-    ensures plain { IfOk result (λ columns. All (λ column. encoding_of column.data_type ≡ None) columns) }
+    ensures plain { IfOk result
+        (λ columns. All (λ column. encoding_of column.data_type ≡ None) columns) }
     ensures refused { IfErr result (WhyNoNames header (fields_of first.now)) }
 {
     let mut columns = Items::new(alloc);
@@ -86,7 +91,7 @@ fn pass_one(alloc: Global, records: &mut Records<'_>) -> Result<bool, AllocError
     records.next(&mut names)
 }
 
-// What is seen of the rows: of all records, or of those behind the first one.
+// What is seen of the rows: of all records, or of those after the first one.
 fn rows_seen(
     alloc: Global,
     text: &[u8],
@@ -94,7 +99,8 @@ fn rows_seen(
     width: usize,
 ) -> Result<Vec<Seen>, AllocError>
     ensures many { IfOk result (λ all. length all.items ≡ width) }
-    ensures seen { IfOk result (λ all. HaveSeen all.items (rows_behind header (records_in text.now))) }
+    ensures seen { IfOk result
+        (λ all. HaveSeen all.items (rows_behind header (records_in text.now))) }
 {
     let mut records = Records::new(alloc, text);
     if header && !pass_one(alloc, &mut records)? {
@@ -103,11 +109,13 @@ fn rows_seen(
     seen_in(alloc, width, &mut records)
 }
 
-/// The columns that a whole text fits, in two passes over it. The first record has the names where `header` says so.
+/// The columns that a whole text fits, in two passes over it. The first record has the names where
+/// `header` says so.
 ///
 /// # Errors
 ///
-/// - `Fault::LimitReached` (F12) where there are more than 64 columns, or a name has more than 64 bytes.
+/// - `Fault::LimitReached` (F12) where there are more than 64 columns, or a name has more than 64
+///   bytes.
 /// - `Fault::BadBatch` (F8) where there is no record, or a name is no text of a byte or more.
 /// - `Fault::OutOfMemory` (F21) where memory is refused.
 ///
@@ -115,7 +123,8 @@ fn rows_seen(
 pub fn found_columns(alloc: Global, text: &[u8], header: bool) -> Result<Schema, Fault>
     ensures found { IfOk result (AreFound header (records_in text.now)) }
     ensures schema { IfOk result IsSchema }
-    ensures plain { IfOk result (λ schema. All (λ column. encoding_of column.data_type ≡ None) schema.fields) }
+    ensures plain { IfOk result
+        (λ schema. All (λ column. encoding_of column.data_type ≡ None) schema.fields) }
     ensures refused { IfErr result (WhyNoneFound header (records_in text.now)) }
 {
     let mut first = ByteRecord::new(alloc);

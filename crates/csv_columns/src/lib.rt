@@ -1,6 +1,8 @@
-//! Columns as they are spelled for a CSV text: `id:int64, town:utf8?`.
+//! Texts of CSV: their records, the columns that are spelled for them (`id:int64, town:utf8?`) or
+//! found in them, and the value of a field.
 //!
-//! `specs/Spelled.antt` says how, and `specs/Refused.antt` why a text spells none.
+//! `specs/Spelled.antt` says how columns are spelled, and `specs/Refused.antt` why a text spells
+//! none.
 #![tactic(auto)]
 
 mod cell;

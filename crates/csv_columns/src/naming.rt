@@ -23,8 +23,8 @@ fn numbered(alloc: Global, number: usize) -> Result<String, AllocError>
 ///
 /// # Errors
 ///
-/// `Fault::BadBatch` where it is no text of a byte or more, `Fault::LimitReached` where it has more than 64 bytes, and
-/// `Fault::OutOfMemory` where memory is refused.
+/// `Fault::BadBatch` where it is no text of a byte or more, `Fault::LimitReached` where it has more
+/// than 64 bytes, and `Fault::OutOfMemory` where memory is refused.
 pub(crate) fn name_in(
     alloc: Global,
     header: bool,

@@ -1,6 +1,7 @@
 //! Reading spelled columns.
 
-ghost use Rattle.std.specs.Prelude.{◌≡◌, ◌≢◌, ◌<◌, ℕ, None, All, IfErr, IfOk, MatchOption, ◌++◌, ◌∷◌, [], drop, length, take, slice_index};
+ghost use Rattle.std.specs.Prelude.{◌≡◌, ◌≢◌, ◌<◌, ℕ, None, All, IfErr, IfOk, MatchOption, ◌++◌};
+ghost use Rattle.std.specs.Prelude.{◌∷◌, [], drop, length, take, slice_index};
 ghost use Rattle.csv.specs.Records.{fields_of, trimmed};
 ghost use Rattle.arrow_schema.specs.Schema.{IsField, IsSchema};
 ghost use Rattle.arrow_schema.specs.Written.{encoding_of};
@@ -64,7 +65,8 @@ fn column_in(alloc: Global, text: &[u8]) -> Result<Field, Fault>
 fn fields_in(alloc: Global, spellings: &ByteRecord) -> Result<Items<Field>, Fault>
     ensures spelled { IfOk result (λ columns. AreSpelledAs (fields_of spellings.now) columns) }
     ensures named { IfOk result (λ columns. All IsField columns) }
-    ensures plain { IfOk result (λ columns. All (λ column. encoding_of column.data_type ≡ None) columns) }
+    ensures plain { IfOk result
+        (λ columns. All (λ column. encoding_of column.data_type ≡ None) columns) }
     ensures refused { IfErr result (WhyNoFields (fields_of spellings.now)) }
 {
     let mut columns = Items::new(alloc);
@@ -79,13 +81,15 @@ fn fields_in(alloc: Global, spellings: &ByteRecord) -> Result<Items<Field>, Faul
 ///
 /// # Errors
 ///
-/// - `Fault::LimitReached` (F12) where its first record has more than 64 fields, or a name has more than 64 bytes.
+/// - `Fault::LimitReached` (F12) where its first record has more than 64 fields, or a name has more
+///   than 64 bytes.
 /// - `Fault::BadBatch` (F8) where it spells no columns.
 /// - `Fault::OutOfMemory` (F21) where memory is refused.
 pub fn columns_in(alloc: Global, text: &[u8]) -> Result<Schema, Fault>
     ensures spelled { IfOk result (Spells (records_in text.now)) }
     ensures schema { IfOk result IsSchema }
-    ensures plain { IfOk result (λ schema. All (λ column. encoding_of column.data_type ≡ None) schema.fields) }
+    ensures plain { IfOk result
+        (λ schema. All (λ column. encoding_of column.data_type ≡ None) schema.fields) }
     ensures refused { IfErr result (WhyNoColumns (records_in text.now)) }
 {
     let mut records = Records::new(alloc, text);

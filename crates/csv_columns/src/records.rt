@@ -37,7 +37,8 @@ impl<'a> Records<'a> {
         Records { reader }
     }
 
-    /// Reads the next record into `fields`, and says whether there was one. Memory grows to the longest record, and is used again.
+    /// Reads the next record into `fields`, and says whether there was one. Memory grows to the
+    /// longest record, and is used again.
     ///
     /// # Errors
     ///

@@ -19,7 +19,8 @@ pub(crate) struct Seen {
     empty: bool,
 }
 
-// Whether a type that took all fields so far takes one more, too. A field is read only where it did.
+// Whether a type that took all fields so far takes one more, too. A field is read only where it
+// did.
 fn still_takes(so_far: bool, data_type: DataType, field: &[u8]) -> bool
     ensures { result ≡ so_far && takes data_type field.now }
 {
@@ -44,7 +45,8 @@ impl Seen {
 
     /// A field more. It is tried as a value of the types that took all others.
     pub(crate) fn with(self, field: &[u8]) -> Seen
-        ensures { (fields : List (List ℕ)) → HasSeen self fields → HasSeen result (fields ++ field.now ∷ []) }
+        ensures { (fields : List (List ℕ)) → HasSeen self fields →
+            HasSeen result (fields ++ field.now ∷ []) }
     {
         Seen {
             flag: still_takes(self.flag, DataType::Bool, field),
@@ -57,7 +59,8 @@ impl Seen {
 
     /// The first type that takes all fields, and texts where none of the others does.
     pub(crate) fn data_type(self) -> DataType
-        ensures found { (fields : List (List ℕ)) → HasSeen self fields → result ≡ type_found fields }
+        ensures found { (fields : List (List ℕ)) → HasSeen self fields →
+            result ≡ type_found fields }
         ensures plain { encoding_of result ≡ None }
         ensures typed { IsType result }
     {
@@ -76,7 +79,8 @@ impl Seen {
 
     /// Whether one of the fields is empty.
     pub(crate) fn nullable(self) -> bool
-        ensures { (fields : List (List ℕ)) → HasSeen self fields → result ≡ list_any is_empty fields }
+        ensures { (fields : List (List ℕ)) → HasSeen self fields →
+            result ≡ list_any is_empty fields }
     {
         self.empty
     }

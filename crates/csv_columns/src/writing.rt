@@ -55,13 +55,15 @@ fn record_text(alloc: Global, fields: &ByteRecord) -> Result<Vec<u8>, AllocError
     }
 }
 
-/// The text that spells columns: a record of CSV with a field for each column, and the end of its line.
+/// The text that spells columns: a record of CSV with a field for each column, and the end of its
+/// line.
 ///
 /// # Errors
 ///
 /// `AllocError` where memory is refused.
 pub fn columns_text(alloc: Global, columns: &[Field]) -> Result<Vec<u8>, AllocError>
-    ensures spelled { IfOk result (λ text. text.items ≡ row_text default_writer (map spelled columns.now)) }
+    ensures spelled { IfOk result
+        (λ text. text.items ≡ row_text default_writer (map spelled columns.now)) }
     // Where it does not begin with a byte order mark, that record is read again.
     ensures again { 1 ≤ length columns.now → IfOk result (λ text. strip_bom text.items ≡ text.items
         → records_in text.items ≡ map spelled columns.now ∷ []) }

@@ -1,4 +1,4 @@
--- Columns whose elements are packed one behind another, and the values that they hold.
+-- Columns whose elements are packed one after another, and the values that they hold.
 use Rattle.std.proofs.Common.{◌≡◌, ◌<◌, ◌≤◌, ◌%◌, ◌^◌, ◌+◌, ◌-◌, ◌*◌, ℕ, suc, ℤ, pos, negsuc, Bool as Truth, true, false, true≢false, rules, not, List, [], ◌∷◌, ◌++◌, length, map, take, get_or, Option, Some, refl, sym, ap, subst, ◌∙◌, arith, inl, inr, append-nil, if◌then◌else◌}
 use Rattle.std.specs.Int.{w128, cast_unsigned, to_le_bytes, bytes_low_first}
 use Rattle.std.proofs.Math.Facts.{ltb_yes}

@@ -37,7 +37,7 @@ wrong_at columns fields number column inside is none so = record {
 
 -- ---- all records
 
--- a record was taken from those behind others
+-- a record was taken from those after others
 pub splits_more : (all read : List (List (List ℕ))) (fields : List (List ℕ)) (left rest : List (List (List ℕ))) → all ≡ read ++ left → left ≡ fields ∷ rest → all ≡ (read ++ fields ∷ []) ++ rest
 splits_more all read fields left rest splits took = splits ∙ ap (λ (l : List (List (List ℕ))). read ++ l) took ∙ sym (append_assoc read (fields ∷ []) rest)
 

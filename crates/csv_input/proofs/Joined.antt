@@ -1,4 +1,4 @@
--- Messages and rows, one behind another.
+-- Messages and rows, one after another.
 use Rattle.std.proofs.Common.{◌≡◌, ◌<◌, ◌-◌, ℕ, suc, List, [], ◌∷◌, ◌++◌, All, None, Some, length, map, get_or, refl, sym, subst, ◌∙◌, arith, inl, inr, append-nil}
 use Rattle.std.proofs.lemmas.Bool.{cases_lt}
 use Rattle.std.proofs.lemmas.List.{get_or_append_left, get_or-append_right, length-append, map-append}
@@ -42,7 +42,7 @@ led (field ∷ fields) dictionaries (column ∷ columns) plain typed = (
   led fields dictionaries columns (λ k d low. plain (suc k) d (omega (arith, low))) typed.1,
 )
 
--- the message of one batch more says its rows behind the others
+-- the message of one batch more says its rows after the others
 pub more_said : (messages : List IpcMessage) (message : IpcMessage) (schema : Schema) (rows : Rows) (batch : BatchAt) → SaysBatch (sent_in message) batch → ArePlain schema.fields →
     AreOfTypes schema.fields batch.columns → Says (map sent_in messages) schema rows → Says (map sent_in (messages ++ message ∷ [])) schema (rows ++ rows_of batch)
 more_said messages message schema rows batch tells plain typed said =
@@ -57,7 +57,7 @@ more_said messages message schema rows batch tells plain typed said =
     subst (λ (l : List Sent). Says l schema (rows ++ rows_of batch)) (sym (map-append sent_in messages (message ∷ [])))
     (known, said.1, subst (λ (more : Rows). Follows None (sent ++ sent_in message ∷ []) (Some known) (rows ++ more)) read.2 all)
 
--- records behind others say their rows behind the others'
+-- records after others say their rows after the others'
 pub rows_joined : (columns : List Field) (done held : List (List (List ℕ))) (rows more : Rows) → AreRows columns done rows → AreRows columns held more → AreRows columns (done ++ held) (rows ++ more)
 rows_joined columns done held rows more first second = record {
   count = length-append rows more ∙ omega (arith, first.count, second.count, length-append done held);

@@ -1,4 +1,4 @@
--- The rows that are left behind a message.
+-- The rows that are left after a message.
 use Rattle.std.proofs.Common.{◌≢◌, ◌<◌, ℕ, List, [], ◌∷◌, length, Option, None, Some, Result, Ok, Err, refl, ap, arith}
 use Rattle.std.specs.Prelude.{IfOk, IfSome}
 use Rattle.std.proofs.lemmas.List.{length-append}

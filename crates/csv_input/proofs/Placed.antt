@@ -64,7 +64,7 @@ holds_none width = record {
   each = λ k j low there. absurd (omega (arith, low));
 }
 
--- one field more of a record behind others
+-- one field more of a record after others
 pub fields_more : (base all new fields : List (List ℕ)) (i : ℕ) (partial field : List ℕ) → i < length fields → partial ≡ [] → field ≡ get_or fields i [] → all ≡ base ++ take i fields →
     new ≡ all ++ (partial ++ field) ∷ [] → new ≡ base ++ take (i + 1) fields
 fields_more base all new fields i partial field low none is so e =

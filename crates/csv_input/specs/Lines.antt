@@ -1,5 +1,6 @@
 -- The lines that are printed of columns and of a record that is wrong.
-use Rattle.std.specs.Prelude.{ℕ, ◌+◌, Bool, true, false, List, [], ◌++◌, length, map, codes, option_map, slice_get, unwrap_or}
+use Rattle.std.specs.Prelude.{ℕ, ◌+◌, Bool, true, false, List, [], ◌++◌, length, map, codes}
+use Rattle.std.specs.Prelude.{option_map, slice_get, unwrap_or}
 use Rattle.std.specs.Fmt.{decimal}
 use Rattle.csv.specs.Writing.{default_writer, row_text}
 use Rattle.arrow_schema.specs.declared.schema.Field.{Field}
@@ -20,15 +21,18 @@ head_rows false = 0
 -- a record has so many fields in place of so many columns
 abbrev pub length_words : ℕ → ℕ → ℕ → List ℕ
 length_words number count columns =
-    codes "fault: record " ++ (decimal number ++ (codes " has " ++ (decimal count ++ (codes " fields in place of " ++ (decimal columns ++ codes "\n")))))
+    codes "fault: record " ++ (decimal number ++ (codes " has "
+    ++ (decimal count ++ (codes " fields in place of " ++ (decimal columns ++ codes "\n")))))
 
 -- a field says no value of the column of this name
 abbrev pub cell_words : ℕ → List ℕ → List ℕ
-cell_words number name = codes "fault: record " ++ (decimal number ++ (codes ": no value of column " ++ (name ++ codes "\n")))
+cell_words number name = codes "fault: record "
+    ++ (decimal number ++ (codes ": no value of column " ++ (name ++ codes "\n")))
 
 -- the name of the column at a place
 abbrev pub name_at : List Field → ℕ → List ℕ
-name_at columns place = unwrap_or (option_map (λ (column : Field). column.name) (slice_get columns place)) []
+name_at columns place =
+    unwrap_or (option_map (λ (column : Field). column.name) (slice_get columns place)) []
 
 -- what is said of a record of this number
 abbrev pub line_for : List Field → ℕ → Wrong → List ℕ

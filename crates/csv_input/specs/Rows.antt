@@ -1,5 +1,6 @@
 -- The rows that the records of a CSV text say under columns, and the first record that is wrong.
-use Rattle.std.specs.Prelude.{◌≡◌, ◌≢◌, ◌<◌, ℕ, List, [], ◌∷◌, ◌++◌, All, length, map, get_or, Option, Some, None, IsSome}
+use Rattle.std.specs.Prelude.{◌≡◌, ◌≢◌, ◌<◌, ℕ, List, [], ◌∷◌, ◌++◌, All, length, map, get_or}
+use Rattle.std.specs.Prelude.{Option, Some, None, IsSome}
 use Rattle.scan_base.specs.declared.value.Value.{Value}
 use Rattle.scan_base.specs.declared.value.Value.TheVariants.{Null}
 use Rattle.arrow_schema.specs.declared.schema.Field.{Field}
@@ -15,10 +16,12 @@ use Rattle.csv_input.specs.declared.outcome.WrongRecord.{WrongRecord}
 pub record IsRow (columns : List Field) (fields : List (List ℕ)) (row : List Value) : Type 0 where
   pub long : length fields ≡ length columns
   pub wide : length row ≡ length columns
-  pub each : (k : ℕ) (d : Field) → k < length columns → cell_in (get_or columns k d) (get_or fields k []) ≡ Some (get_or row k Null)
+  pub each : (k : ℕ) (d : Field) → k < length columns →
+      cell_in (get_or columns k d) (get_or fields k []) ≡ Some (get_or row k Null)
 
 -- each record says a row
-pub record AreRows (columns : List Field) (records : List (List (List ℕ))) (rows : Rows) : Type 0 where
+pub record AreRows (columns : List Field) (records : List (List (List ℕ)))
+    (rows : Rows) : Type 0 where
   pub count : length rows ≡ length records
   pub each : (k : ℕ) → k < length records → IsRow columns (get_or records k []) (get_or rows k [])
 
@@ -40,10 +43,12 @@ pub record IsWrongCell (columns : List Field) (fields : List (List ℕ)) (place 
 -- what is wrong with a record
 abbrev pub IsWrong : List Field → List (List ℕ) → Wrong → Type 0
 IsWrong columns fields (Fields count) = (count ≡ length fields) × (count ≢ length columns)
-IsWrong columns fields (Cell place) = (length fields ≡ length columns) × IsWrongCell columns fields place
+IsWrong columns fields (Cell place) =
+    (length fields ≡ length columns) × IsWrongCell columns fields place
 
 -- a record is the first that is wrong
-pub record IsFirstWrong (columns : List Field) (records : List (List (List ℕ))) (wrong : WrongRecord) : Type 0 where
+pub record IsFirstWrong (columns : List Field) (records : List (List (List ℕ)))
+    (wrong : WrongRecord) : Type 0 where
   pub there : wrong.before < length records
   pub before : (k : ℕ) → k < wrong.before → IsRight columns (get_or records k [])
   pub is : IsWrong columns (get_or records wrong.before []) wrong.wrong
@@ -63,17 +68,21 @@ FindsWrong columns records (Some wrong) = IsFirstWrong columns records wrong
 
 -- messages say the schema and the rows of these records
 abbrev pub SaysRecords : Schema → List (List (List ℕ)) → List IpcMessage → Type 0
-SaysRecords schema records messages = (rows : Rows) × AreRows schema.fields records rows × Says (map sent_in messages) schema rows
+SaysRecords schema records messages =
+    (rows : Rows) × AreRows schema.fields records rows × Says (map sent_in messages) schema rows
 
--- a message of the next records says their rows behind those that other messages say
-pub record IsNext (schema : Schema) (message : IpcMessage) (old new : List (List (List ℕ))) : Type 0 where
+-- a message of the next records says their rows after those that other messages say
+pub record IsNext (schema : Schema) (message : IpcMessage)
+    (old new : List (List (List ℕ))) : Type 0 where
   pub taken : List (List (List ℕ))
   pub some : taken ≢ []
   pub splits : old ≡ taken ++ new
-  pub behind : (done : List (List (List ℕ))) (messages : List IpcMessage) → SaysRecords schema done messages →
+  pub behind : (done : List (List (List ℕ))) (messages : List IpcMessage) →
+      SaysRecords schema done messages →
       SaysRecords schema (done ++ taken) (messages ++ message ∷ [])
 
 -- the message of the next records, or nothing where none is left
-abbrev pub TakesMessage : Schema → Option IpcMessage → List (List (List ℕ)) → List (List (List ℕ)) → Type 0
+abbrev pub TakesMessage : Schema → Option IpcMessage → List (List (List ℕ)) →
+    List (List (List ℕ)) → Type 0
 TakesMessage schema None old new = old ≡ []
 TakesMessage schema (Some message) old new = IsNext schema message old new

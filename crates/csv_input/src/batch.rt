@@ -35,8 +35,8 @@ fn columns_in(alloc: Global, chunk: &Chunk, columns: &[Field]) -> Result<Option<
 ///
 /// # Errors
 ///
-/// `Fault::OutOfMemory` where memory is refused, and `Fault::LimitReached` where the texts of a column have 2 to the 31 bytes or
-/// more.
+/// `Fault::OutOfMemory` where memory is refused, and `Fault::LimitReached` where the texts of a
+/// column have 2 to the 31 bytes or more.
 pub(crate) fn batch_in(
     alloc: Global,
     chunk: &Chunk,

@@ -1,6 +1,7 @@
 //! A column of the fields at one place of records.
 
-ghost use Rattle.std.specs.Prelude.{◌≡◌, ◌≤◌, ◌<◌, ◌^◌, None, false, true, IfErr, IfOk, MatchOption, length, map};
+ghost use Rattle.std.specs.Prelude.{◌≡◌, ◌≤◌, ◌<◌, ◌^◌, None, false, true, IfErr, IfOk};
+ghost use Rattle.std.specs.Prelude.{MatchOption, length, map};
 ghost use Rattle.scan_base.specs.Value.{value_of};
 ghost use Rattle.arrow_schema.specs.Written.{encoding_of};
 ghost use Rattle.arrays.specs.Written.{text_bytes, texts_joined};
@@ -21,7 +22,8 @@ const MOST_TEXT_BYTES: usize = 2_147_483_647;
 ///
 /// # Errors
 ///
-/// `Fault::OutOfMemory` where memory is refused, and `Fault::LimitReached` where the texts have 2 to the 31 bytes or more.
+/// `Fault::OutOfMemory` where memory is refused, and `Fault::LimitReached` where the texts have 2
+/// to the 31 bytes or more.
 pub(crate) fn column_in(
     alloc: Global,
     chunk: &Chunk,
@@ -30,8 +32,8 @@ pub(crate) fn column_in(
 ) -> Result<Option<Column>, Fault>
     requires there { number < chunk.now.width }
     requires plain { encoding_of (column.now).data_type ≡ None }
-    ensures found { IfOk result (λ found. MatchOption found (HasWrongCell chunk.now column.now number)
-        (IsColumnIn chunk.now column.now number)) }
+    ensures found { IfOk result (λ found. MatchOption found
+        (HasWrongCell chunk.now column.now number) (IsColumnIn chunk.now column.now number)) }
     ensures refused { IfErr result (WhyNoColumn chunk.now column.now number) }
 {
     match cells_in(alloc, chunk, column, number)? {

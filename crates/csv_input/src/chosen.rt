@@ -31,7 +31,8 @@ fn flag_in(value: ValueRef<'_>) -> Option<bool>
 
 // The text of a value, if it is one.
 fn text_in<'a>(value: ValueRef<'a>) -> Option<&'a str>
-    ensures { value_or_null (λ text. kept.Text text.now) result ≡ text_or_null (value_of value.entry) }
+    ensures { value_or_null (λ text. kept.Text text.now) result
+        ≡ text_or_null (value_of value.entry) }
 {
     match value {
         ValueRef::Text(text) => Some(text),

@@ -1,4 +1,4 @@
-//! Records of one length, whose fields stand one behind another.
+//! Records of one length, whose fields stand one after another.
 
 ghost use Rattle.std.specs.Prelude.{◌≡◌, ◌<◌, ◌+◌, ◌++◌, [], OnOk, length};
 ghost use Rattle.csv.specs.Records.{fields_of, partial_of};
@@ -9,8 +9,8 @@ use csv::ByteRecord;
 use std::alloc::{AllocError, Global};
 use std::marker::Model;
 
-/// Records of one length, whose fields stand one behind another, so that none takes memory of its own. A contract sees how many
-/// fields each has, how many records there are, and all fields.
+/// Records of one length, whose fields stand one after another, so that none takes memory of its
+/// own. A contract sees how many fields each has, how many records there are, and all fields.
 #[derive(Drop)]
 pub(crate) struct Chunk {
     fields: ByteRecord,
@@ -25,9 +25,11 @@ impl Model for Chunk {
 
     ghost Value = { ChunkAt };
 
-    ghost view = { λ chunk. record { width = chunk.width; rows = chunk.rows; fields = fields_of chunk.fields } };
+    ghost view = { λ chunk.
+        record { width = chunk.width; rows = chunk.rows; fields = fields_of chunk.fields } };
 
-    ghost invariant = { λ chunk. (length (fields_of chunk.fields) ≡ chunk.width * chunk.rows) × (partial_of chunk.fields ≡ []) };
+    ghost invariant = { λ chunk. (length (fields_of chunk.fields) ≡ chunk.width * chunk.rows)
+        × (partial_of chunk.fields ≡ []) };
 }
 
 impl Chunk {
@@ -71,7 +73,7 @@ impl Chunk {
         self.fields.get(self.width * row + column).unwrap_or(&[])
     }
 
-    /// Adds a record of so many fields behind the others. Where memory is refused there are none.
+    /// Adds a record of so many fields after the others. Where memory is refused there are none.
     pub(crate) fn push(&mut self, fields: &ByteRecord) -> Result<(), AllocError>
         requires room { self.old.rows < MOST_BATCH_ROWS }
         requires long { length (fields_of fields.now) ≡ self.old.width }
@@ -101,7 +103,7 @@ impl Chunk {
     }
 }
 
-// Adds the fields of a record behind others.
+// Adds the fields of a record after others.
 fn push_fields(all: &mut ByteRecord, fields: &ByteRecord) -> Result<(), AllocError>
     requires { partial_of all.old ≡ [] }
     ensures fields { OnOk result (fields_of all.new ≡ fields_of all.old ++ fields_of fields.now) }

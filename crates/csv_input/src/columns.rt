@@ -16,8 +16,8 @@ use arrow_schema::DataType;
 use scan_base::ValueRef;
 use std::alloc::{AllocError, Global};
 
-/// A column of these values, of a type; of the texts of a dictionary one of texts. All texts together have fewer bytes than
-/// an offset can name.
+/// A column of these values, of a type; of the texts of a dictionary one of texts. All texts
+/// together have fewer bytes than an offset can name.
 ///
 /// # Errors
 ///

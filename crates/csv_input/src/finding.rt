@@ -17,7 +17,8 @@ const MOST_RECORDS: usize = 9_223_372_036_854_775_808;
 
 // The first column whose field in a record says no value of it.
 fn wrong_cell(columns: &[Field], fields: &ByteRecord) -> Option<usize>
-    ensures { MatchOption result ((k : ℕ) → k < length columns.now → SaysCell columns.now (fields_of fields.now) k)
+    ensures { MatchOption result
+        ((k : ℕ) → k < length columns.now → SaysCell columns.now (fields_of fields.now) k)
         (IsWrongCell columns.now (fields_of fields.now)) }
 {
     for (number, column) in columns.iter().enumerate() {
@@ -43,13 +44,13 @@ fn wrong_in(columns: &[Field], fields: &ByteRecord) -> Option<Wrong>
     }
 }
 
-/// The first of all records that are left which says no row of these columns, and what is wrong with it first. No value is kept:
-/// memory holds one record.
+/// The first of all records that are left which says no row of these columns, and what is wrong
+/// with it first. No value is kept: memory holds one record.
 ///
 /// # Errors
 ///
-/// `Fault::OutOfMemory` (F21) where memory is refused, and `Fault::LimitReached` (F12) where there are more than 2 to the 63
-/// records.
+/// `Fault::OutOfMemory` (F21) where memory is refused, and `Fault::LimitReached` (F12) where there
+/// are more than 2 to the 63 records.
 pub fn first_wrong(
     alloc: Global,
     columns: &[Field],

@@ -6,7 +6,8 @@ ghost use Rattle.csv_columns.specs.Left.{records_in};
 ghost use Rattle.command_ends.specs.Printing.{Prints, said_of};
 ghost use Rattle.command_ends.specs.Whole.{source_of};
 ghost use Rattle.command_ends.specs.declared.exit_status.ExitStatus.TheVariants.{FaultAtThisEnd};
-ghost use Rattle.csv_input.specs.Input.{ChecksRows, IsTold, IsUntold, ReadsCsv, ReadsText, TellsWrong, form_of};
+ghost use Rattle.csv_input.specs.Input.{ChecksRows, IsTold, IsUntold, ReadsCsv, ReadsText};
+ghost use Rattle.csv_input.specs.Input.{TellsWrong, form_of};
 
 use crate::WrongRecord;
 use crate::reading::{columns_of, wrong_record};
@@ -21,12 +22,13 @@ use grpc_frame::{Input, Output};
 use scan_base::Fault;
 use std::alloc::{AllocError, Global};
 
-/// Reads the whole input as CSV: a text of which each record says a row. Columns that are found are printed on `faults` in a line
-/// before the records are looked at. No row is made yet.
+/// Reads the whole input as CSV: a text of which each record says a row. Columns that are found are
+/// printed on `faults` in a line before the records are looked at. No row is made yet.
 ///
 /// # Errors
 ///
-/// How the command ends, where there are no rows. Why is printed on `faults` in a line, as far as that takes it:
+/// How the command ends, where there are no rows. Why is printed on `faults` in a line, as far as
+/// that takes it:
 ///
 /// - The input was not read (F22), or memory is refused (F21).
 /// - The form spells no columns, or none are found (F8, F12).
@@ -41,7 +43,8 @@ pub fn read_csv<I: Input, E: Output>(
     requires reads { CanFail (I.failures input.old) }
     requires prints { CanFail (E.failures faults.old) }
 
-    // The records of the whole input say rows, and columns that were found are printed; or why there are none is.
+    // The records of the whole input say rows, and columns that were found are printed; or why
+    // there are none is.
     ensures reads { ReadsCsv (form_of form.entry) (λ text. text) result
         (source_of I.Input input.old) (source_of I.Input input.new)
         (said_of E.Output faults.old) (said_of E.Output faults.new) }
@@ -66,8 +69,10 @@ fn tell_columns<E: Output>(
     requires { CanFail (E.failures faults.old) }
     ensures status { IfErr result (λ status. status ≡ FaultAtThisEnd) }
     ensures told { MatchResult result
-        (λ _. IsTold (form_of form.entry) columns.now (said_of E.Output faults.old) (said_of E.Output faults.new))
-        (λ _. IsUntold (form_of form.entry) columns.now (said_of E.Output faults.old) (said_of E.Output faults.new)) }
+        (λ _. IsTold (form_of form.entry) columns.now (said_of E.Output faults.old)
+        (said_of E.Output faults.new))
+        (λ _. IsUntold (form_of form.entry) columns.now (said_of E.Output faults.old)
+        (said_of E.Output faults.new)) }
     ensures quiet { OnOk result (E.failures faults.new ≡ E.failures faults.old) }
 {
     if form.columns.is_some() {
@@ -92,7 +97,8 @@ fn end_by_wrong<E: Output>(
 ) -> ExitStatus
     requires { CanFail (E.failures faults.old) }
     ensures status { result ≡ FaultAtThisEnd }
-    ensures line { TellsWrong columns.now header wrong (said_of E.Output faults.old) (said_of E.Output faults.new) }
+    ensures line { TellsWrong columns.now header wrong (said_of E.Output faults.old)
+        (said_of E.Output faults.new) }
 {
     match wrong_line(alloc, columns, header, wrong) {
         Ok(line) => {

@@ -1,4 +1,5 @@
-//! CSV from an input: its columns, its rows as messages, and what is printed of them and of a record that is wrong.
+//! CSV from an input: its columns, its rows as messages, and what is printed of them and of a
+//! record that is wrong.
 //!
 //! `specs/Input.antt` says what they are, and `specs/Lines.antt` which lines are printed.
 #![tactic(auto)]

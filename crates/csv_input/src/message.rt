@@ -29,7 +29,8 @@ pub fn schema_message(alloc: Global, schema: &Schema) -> Result<IpcMessage, Allo
 ///
 /// # Errors
 ///
-/// `Fault::OutOfMemory` where memory is refused, and `Fault::LimitReached` where the body would have 2 to the 31 bytes or more.
+/// `Fault::OutOfMemory` where memory is refused, and `Fault::LimitReached` where the body would
+/// have 2 to the 31 bytes or more.
 pub(crate) fn batch_message(alloc: Global, batch: &Batch) -> Result<IpcMessage, Fault>
     requires { length batch.now.columns ≤ most_columns }
     ensures says { IfOk result (λ message. SaysBatch (sent_in message) batch.now) }

@@ -5,7 +5,8 @@ ghost use Rattle.scan_base.specs.Value.{value_of};
 ghost use Rattle.arrow_schema.specs.declared.data_type.DataType.TheVariants as type;
 ghost use Rattle.arrays.specs.Column.{values_of};
 ghost use Rattle.arrays.specs.Typed.{IsOfType, IsValueOf};
-ghost use Rattle.array_select.specs.inside.Filled.{number_of, AreNumbersOf, AreValidUnlessNull, FillSlots};
+ghost use Rattle.array_select.specs.inside.Filled.{number_of, AreNumbersOf, AreValidUnlessNull};
+ghost use Rattle.array_select.specs.inside.Filled.{FillSlots};
 
 use arrays::{Column, Slots, Values, are_bytes, byte_width, is_null};
 use arrow_schema::IntegerType;
@@ -40,7 +41,8 @@ pub(crate) fn column_of_dates(alloc: Global, values: &[ValueRef<'_>]) -> Result<
     column_of_integers(alloc, IntegerType::Int32, values)
 }
 
-// The validity bits of slots that are valid where they are not null, and none where no slot is null.
+// The validity bits of slots that are valid where they are not null, and none where no slot is
+// null.
 fn validity_of(alloc: Global, values: &[ValueRef<'_>]) -> Result<Option<Bits>, AllocError>
     ensures { IfOk result (λ validity. AreValidUnlessNull validity (map value_of values.now)) }
 {
@@ -64,7 +66,8 @@ fn packed_integers(
     values: &[ValueRef<'_>],
 ) -> Result<Values, AllocError>
     requires { All (λ value. IsValueOf (type.Integer integer) (value_of value)) values.now }
-    ensures { IfOk result (λ kept. FillSlots kept (type.Integer integer) (map value_of values.now)) }
+    ensures { IfOk result
+        (λ kept. FillSlots kept (type.Integer integer) (map value_of values.now)) }
 {
     let packed = Bytes::from_vec(pack_numbers(alloc, byte_width(integer), values)?)?;
     are_bytes(packed.as_slice());

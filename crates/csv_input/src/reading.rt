@@ -21,13 +21,16 @@ use std::alloc::{AllocError, Global};
 ///
 /// # Errors
 ///
-/// - `Fault::BadBatch` (F8) where its text spells none, the text has no record, or a name is no text of a byte or more.
-/// - `Fault::LimitReached` (F12) where there are more than 64 columns, or a name has more than 64 bytes.
+/// - `Fault::BadBatch` (F8) where its text spells none, the text has no record, or a name is no
+///   text of a byte or more.
+/// - `Fault::LimitReached` (F12) where there are more than 64 columns, or a name has more than 64
+///   bytes.
 /// - `Fault::OutOfMemory` (F21) where memory is refused.
 pub(crate) fn columns_of(alloc: Global, text: &[u8], form: CsvForm<'_>) -> Result<Schema, Fault>
     ensures columns { IfOk result (AreColumnsOf (form_of form.entry) (records_in text.now)) }
     ensures schema { IfOk result IsSchema }
-    ensures plain { IfOk result (λ schema. All (λ column. encoding_of column.data_type ≡ None) schema.fields) }
+    ensures plain { IfOk result
+        (λ schema. All (λ column. encoding_of column.data_type ≡ None) schema.fields) }
     ensures refused { IfErr result (WhyNoneOf (form_of form.entry) (records_in text.now)) }
 {
     match form.columns {
@@ -66,8 +69,10 @@ pub(crate) fn wrong_record(
     schema: &Schema,
     header: bool,
 ) -> Result<Option<WrongRecord>, Fault>
-    ensures finds { IfOk result (FindsWrong (schema.now).fields (rows_behind header (records_in text.now))) }
-    ensures refused { IfErr result (WhyNoneTold (schema.now).fields (rows_behind header (records_in text.now))) }
+    ensures finds { IfOk result
+        (FindsWrong (schema.now).fields (rows_behind header (records_in text.now))) }
+    ensures refused { IfErr result
+        (WhyNoneTold (schema.now).fields (rows_behind header (records_in text.now))) }
 {
     let mut records = records_behind(alloc, text, header)?;
     first_wrong(alloc, schema.fields.as_slice(), &mut records)

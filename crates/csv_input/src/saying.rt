@@ -34,7 +34,8 @@ fn cell_words(alloc: Global, number: usize, name: &str) -> Result<String, AllocE
     format!(in alloc; "fault: record {number}: no value of column {name}\n")
 }
 
-/// The line that says which record is wrong, counted from 1 with the one of names, and what is wrong with it first.
+/// The line that says which record is wrong, counted from 1 with the one of names, and what is
+/// wrong with it first.
 ///
 /// # Errors
 ///
@@ -45,7 +46,8 @@ pub(crate) fn wrong_line(
     header: bool,
     wrong: WrongRecord,
 ) -> Result<String, AllocError>
-    ensures { wrong.before < 2 ^ 63 → IfOk result (λ line. string_bytes line ≡ wrong_line columns.now header wrong) }
+    ensures { wrong.before < 2 ^ 63 →
+        IfOk result (λ line. string_bytes line ≡ wrong_line columns.now header wrong) }
 {
     let number = wrong.before.saturating_add(head_rows(header) + 1);
     match wrong.wrong {

@@ -39,13 +39,14 @@ fn next_batch(
     }
 }
 
-/// Takes the next records, which are all right, and makes the message of their rows: of at most 65,536 rows and about 8 MB.
-/// Nothing where no record is left.
+/// Takes the next records, which are all right, and makes the message of their rows: of at most
+/// 65,536 rows and about 8 MB. Nothing where no record is left.
 ///
 /// # Errors
 ///
 /// - `Fault::OutOfMemory` (F21) where memory is refused.
-/// - `Fault::LimitReached` (F12) where they are too long: the texts of a column, or the body of the message.
+/// - `Fault::LimitReached` (F12) where they are too long: the texts of a column, or the body of the
+///   message.
 pub fn next_message(
     alloc: Global,
     schema: &Schema,

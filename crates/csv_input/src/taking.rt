@@ -14,7 +14,7 @@ use std::alloc::{AllocError, Global};
 // As many bytes as a batch may have before it ends.
 const MOST_BATCH_BYTES: usize = 8_388_608;
 
-// How many bytes of a value stand beside its text.
+// How many bytes of a value stand next to its text.
 fn fixed_bytes(column: &Field) -> usize
     ensures { result ≤ 17 }
 {
@@ -48,7 +48,8 @@ fn is_full(chunk: &Chunk, columns: &[Field]) -> bool
             >= MOST_BATCH_BYTES
 }
 
-/// Takes the records of the next batch: up to 65,536, or up to the one that brings it to about 8 MB, or all that are left.
+/// Takes the records of the next batch: up to 65,536, or up to the one that brings it to about 8
+/// MB, or all that are left.
 pub(crate) fn next_chunk(
     alloc: Global,
     columns: &[Field],
@@ -66,7 +67,8 @@ pub(crate) fn next_chunk(
             return Ok(chunk);
         }
     }
-    // A reader does not say what it has left behind the last record, so that this one takes its place.
+    // A reader does not say what it has left after the last record, so that this one takes its
+    // place.
     *records = Records::new(alloc, &[]);
     Ok(chunk)
 }

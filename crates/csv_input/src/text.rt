@@ -33,9 +33,11 @@ impl Model for CsvText {
 
     ghost Value = { TextAt };
 
-    ghost view = { λ text. record { schema = text.schema; records = rows_behind text.header (records_in text.text) } };
+    ghost view = { λ text.
+        record { schema = text.schema; records = rows_behind text.header (records_in text.text) } };
 
-    ghost invariant = { λ text. IsSchema text.schema × All (λ column. encoding_of column.data_type ≡ None) text.schema.fields
+    ghost invariant = { λ text. IsSchema text.schema
+        × All (λ column. encoding_of column.data_type ≡ None) text.schema.fields
         × AreRight text.schema.fields (rows_behind text.header (records_in text.text)) };
 }
 
@@ -67,7 +69,8 @@ impl CsvText {
     }
 }
 
-/// The rows of a text that were not taken yet. A contract sees a `TextAt`: the columns, and the records that are left.
+/// The rows of a text that were not taken yet. A contract sees a `TextAt`: the columns, and the
+/// records that are left.
 #[derive(Drop)]
 pub struct CsvRows<'a> {
     schema: &'a Schema,
@@ -85,7 +88,8 @@ impl<'a> Model for CsvRows<'a> {
 
     ghost view = { λ rows. record { schema = rows.schema.now; records = rows.records } };
 
-    ghost invariant = { λ rows. IsSchema rows.schema.now × All (λ column. encoding_of column.data_type ≡ None) rows.schema.now.fields
+    ghost invariant = { λ rows. IsSchema rows.schema.now
+        × All (λ column. encoding_of column.data_type ≡ None) rows.schema.now.fields
         × AreRight rows.schema.now.fields rows.records };
 }
 
@@ -97,10 +101,13 @@ impl<'a> CsvRows<'a> {
     /// - `Fault::OutOfMemory` (F21) where memory is refused.
     /// - `Fault::LimitReached` (F12) where they are too long for a message.
     pub fn next(&mut self, alloc: Global) -> Result<Option<IpcMessage>, Fault>
-        ensures taken { IfOk result (λ found. TakesMessage self.old.schema found self.old.records self.new.records) }
-        ensures refused { IfErr result (WhyNoMessage (self.old.schema).fields self.old.records self.new.records) }
+        ensures taken { IfOk result
+            (λ found. TakesMessage self.old.schema found self.old.records self.new.records) }
+        ensures refused { IfErr result
+            (WhyNoMessage (self.old.schema).fields self.old.records self.new.records) }
         ensures same { self.new.schema ≡ self.old.schema }
-        ensures fewer { IfOk result (λ found. IfSome found (λ _. length self.new.records < length self.old.records)) }
+        ensures fewer { IfOk result
+            (λ found. IfSome found (λ _. length self.new.records < length self.old.records)) }
     {
         next_message(alloc, self.schema, &mut self.records)
     }

@@ -61,11 +61,11 @@ put_at bytes after k number low long front back here =
 
 -- ---- numbers that are packed
 
--- a number read behind a list
+-- a number read after a list
 behind : (xs ys : List ℕ) (p n : ℕ) → little_from (length xs + p) n (xs ++ ys) ≡ little_from p n ys
 behind xs ys p n = sym (little_drop (length xs) p n (xs ++ ys)) ∙ ap (little_from p n) (drop-append_seam xs ys)
 
--- a number that was written behind a list
+-- a number that was written after a list
 pub number_behind : (front rest : List ℕ) (k number : ℕ) → length front ≡ 4 * k → number < 2 ^ 32 → element_at 4 (front ++ (little_bytes 4 number ++ rest)) k ≡ number
 unfolding element_at
 number_behind front rest k number long small =

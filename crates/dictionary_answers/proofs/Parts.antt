@@ -1,4 +1,4 @@
--- Texts that are made one behind another, and read.
+-- Texts that are made one after another, and read.
 use Rattle.std.proofs.Common.{◌≡◌, ◌≤◌, ◌<◌, ◌^◌, ℕ, suc, ◌+◌, Bool, true, false, List, [], ◌∷◌, ◌++◌, length, map, nat_le, None, get_or, take, slice_range, Ok, refl, sym, ap, ◌∙◌, arith}
 use Rattle.std.specs.List.{range_with_len}
 use Rattle.std.proofs.lemmas.List.{length-map, get_or-map}
@@ -14,7 +14,7 @@ use Rattle.arrays.specs.Written.{text_bytes, texts_joined, offsets_from}
 use Rattle.arrays.proofs.Offsets.{offset_again, text_again}
 use Rattle.dictionary_answers.specs.Firsts.{bytes_in}
 
--- slots of texts that stand one behind another
+-- slots of texts that stand one after another
 abbrev made : List (List ℕ) → TextsAt
 made texts = record { validity = None; offsets = offsets_from 0 (map Text texts); bytes = texts_joined (map Text texts); len = length texts }
 
@@ -60,7 +60,7 @@ part_made texts offsets bytes len part a b many short read =
     ap texts_values is ∙ all_texts texts (texts_slot (made texts)) 0
     (λ k low. let z : 0 + k ≡ k = omega arith in rw z (text_made texts k low short))
 
--- no values with those of one part behind them
+-- no values with those of one part after them
 pub alone_is : (old made : List Value) (part : TextsAt) → old ≡ [] → extended_by old part ≡ Ok made → made ≡ texts_values part
 unfolding extended_by
 alone_is old made part none read = by (nat_le (length old + part.len) most_values) read

@@ -43,7 +43,7 @@ firsts_more values value =
     ap (fold with_text []) (flat_map-append text_in values (value ∷ []))
     ∙ fold-append with_text [] (flat_map text_in values) (flat_map text_in (value ∷ []))
 
--- a text that stands among texts stands at its place when others come behind it
+-- a text that stands among texts stands at its place when others come after it
 get_more : (texts more : List (List ℕ)) (place : ℕ) (text : List ℕ) → slice_get texts place ≡ Some text → slice_get (texts ++ more) place ≡ Some text
 get_more texts more place text there =
     let low = slice_get_within texts place text there in

@@ -68,7 +68,7 @@ coded_on column n old new packed after place low is are finds =
     subst (λ (room : ℕ). AreCoded (map (slot_of column) (range_with_len 0 (n + 1))) room (coded_at new (take (n + 1) (numbers_in after)))) (sym finds.bytes)
     (slot_more (slot_of column) n (room_of old) old new packed after place low is are finds)
 
--- slots stay coded where a number is put behind them
+-- slots stay coded where a number is put after them
 pub coded_still : (column : ColumnAt) (n at place : ℕ) (found : FoundAt) (packed after : List ℕ) → n ≤ at → numbers_in after ≡ set (numbers_in packed) at place →
     AreCodedTo column n found packed → AreCodedTo column n found after
 coded_still column n at place found packed after high is are =

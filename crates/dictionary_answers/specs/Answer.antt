@@ -1,4 +1,5 @@
--- Columns as they are answered: those of dictionaries as indices of 32 bits over the texts that they hold, and no others.
+-- Columns as they are answered: those of dictionaries as indices of 32 bits over the texts that
+-- they hold, and no others.
 use Rattle.std.specs.Prelude.{◌≡◌, ◌<◌, ℕ, pos, ◌+◌, List, [], ◌∷◌, ◌++◌, All, map}
 use Rattle.scan_base.specs.declared.value.Value.{Value}
 use Rattle.scan_base.specs.declared.value.Value.TheVariants.{Null, Text}
@@ -15,7 +16,8 @@ use Rattle.arrays.specs.Texts.{texts_values}
 use Rattle.dictionary_answers.specs.declared.batches.ColumnDictionary.{ColumnDictionary}
 use Rattle.dictionary_answers.specs.Firsts.{firsts, bytes_in}
 
--- The column lies as indices of 32 bits over a dictionary of these texts. Where a slot is null, its index is 0.
+-- The column lies as indices of 32 bits over a dictionary of these texts. Where a slot is null, its
+-- index is 0.
 pub record LiesOver (texts : List (List ℕ)) (column : ColumnAt) : Type 0 where
   pub cells : IndicesAt
   pub layout : column.layout ≡ layout.Indices cells
@@ -31,7 +33,8 @@ IsCodable _ column = Unit {0}
 
 -- a column as it is answered: over its own texts, where its type is a dictionary, and else as it is
 abbrev pub IsAnswered : DataType → ColumnAt → ColumnAt → Type 0
-IsAnswered (Dictionary encoding) column made = (values_of made ≡ values_of column) × LiesOver (firsts (values_of column)) made
+IsAnswered (Dictionary encoding) column made =
+    (values_of made ≡ values_of column) × LiesOver (firsts (values_of column)) made
 IsAnswered _ column made = made ≡ column
 
 -- how many bytes the texts of a column have that is answered so
@@ -47,18 +50,22 @@ column_dictionary _ column = []
 -- the same of one column for each field
 abbrev pub AreCodable : List Field → List ColumnAt → Type 0
 AreCodable [] [] = Unit {0}
-AreCodable (field ∷ fields) (column ∷ columns) = IsCodable field.data_type column × AreCodable fields columns
+AreCodable (field ∷ fields) (column ∷ columns) =
+    IsCodable field.data_type column × AreCodable fields columns
 AreCodable _ _ = ⊥
 
 abbrev pub AreAnswered : List Field → List ColumnAt → List ColumnAt → Type 0
 AreAnswered [] [] [] = Unit {0}
-AreAnswered (field ∷ fields) (column ∷ columns) (made ∷ more) = IsAnswered field.data_type column made × AreAnswered fields columns more
+AreAnswered (field ∷ fields) (column ∷ columns) (made ∷ more) =
+    IsAnswered field.data_type column made × AreAnswered fields columns more
 AreAnswered _ _ _ = ⊥
 
--- the dictionaries of all columns, each with the number of its column, where the first has this number
+-- the dictionaries of all columns, each with the number of its column, where the first has this
+-- number
 abbrev pub dictionaries_of : ℕ → List Field → List ColumnAt → List (ℕ × List Value)
 dictionaries_of number (field ∷ fields) (column ∷ columns) =
-    map (λ values. (number, values)) (column_dictionary field.data_type column) ++ dictionaries_of (number + 1) fields columns
+    map (λ values. (number, values)) (column_dictionary field.data_type column)
+    ++ dictionaries_of (number + 1) fields columns
 dictionaries_of number _ _ = []
 
 -- a dictionary as it is made: the number of its column, and its values
@@ -66,5 +73,6 @@ abbrev pub dictionary_seen : ColumnDictionary → ℕ × List Value
 dictionary_seen made = (made.number, texts_values made.texts)
 
 abbrev pub coded_bytes : List Field → List ColumnAt → ℕ
-coded_bytes (field ∷ fields) (column ∷ columns) = column_bytes field.data_type column + coded_bytes fields columns
+coded_bytes (field ∷ fields) (column ∷ columns) =
+    column_bytes field.data_type column + coded_bytes fields columns
 coded_bytes _ _ = 0

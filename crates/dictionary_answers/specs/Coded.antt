@@ -26,8 +26,8 @@ pub record FoundAt : Type 0 where
 abbrev pub coded_at : FoundAt → List ℕ → CodedAt
 coded_at found places = record { texts = found.texts; places = map held places; left = found.left }
 
--- The values are coded: the texts are theirs, each place leads to its value, and the bytes of the texts and those that
--- are left are all for which there was room.
+-- The values are coded: the texts are theirs, each place leads to its value, and the bytes of the
+-- texts and those that are left are all for which there was room.
 pub record AreCoded (values : List Value) (room : ℕ) (coded : CodedAt) : Type 0 where
   pub texts : coded.texts ≡ firsts values
   pub places : AreLed coded.texts coded.places values

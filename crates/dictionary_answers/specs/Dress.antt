@@ -1,4 +1,4 @@
--- Batches over their own texts, behind the messages of these.
+-- Batches over their own texts, after the messages of these.
 use Rattle.std.specs.Prelude.{◌≡◌, ◌≤◌, ℕ, ◌+◌, false, List, [], ◌∷◌, All, length, map, Ok}
 use Rattle.std.specs.List.{AllZip}
 use Rattle.arrow_schema.specs.declared.data_type.IntegerType.TheVariants.{Int32}
@@ -17,7 +17,8 @@ use Rattle.arrays.specs.Typed.{IsOfType}
 use Rattle.dictionary_answers.specs.Answer.{AreAnswered}
 use Rattle.dictionary_answers.specs.declared.batches.ColumnDictionary.{ColumnDictionary}
 use Rattle.ipc_batch.specs.Said.{Sent}
-use Rattle.ipc_batch.specs.Written.{body_length, most_header_bytes, values_batch, SaysBatch, SaysValues}
+use Rattle.ipc_batch.specs.Written.{body_length, most_header_bytes, values_batch, SaysBatch}
+use Rattle.ipc_batch.specs.Written.{SaysValues}
 use Rattle.ipc_batch.specs.Seen.{written_seen}
 use Rattle.ipc_batch.specs.Dressed.{cells_in, coded_from, SaysWhole, AddsRows}
 use Rattle.dictionary_answers.specs.Lengths.{bodies_length, dressed_length}
@@ -31,7 +32,8 @@ IsNumbered number _ = Unit {0}
 -- the same of each field, where the first has this number
 abbrev pub AreNumbered : ℕ → List Field → Type 0
 AreNumbered number [] = Unit {0}
-AreNumbered number (field ∷ fields) = IsNumbered number field.data_type × AreNumbered (number + 1) fields
+AreNumbered number (field ∷ fields) =
+    IsNumbered number field.data_type × AreNumbered (number + 1) fields
 
 -- texts, as they are or by indices
 abbrev pub HoldsTexts : Layout → Type 0
@@ -47,7 +49,8 @@ IsDressable data_type column = IsOfType data_type column.layout
 -- the same of one column for each field
 abbrev pub AreDressable : List Field → List ColumnAt → Type 0
 AreDressable [] [] = Unit {0}
-AreDressable (field ∷ fields) (column ∷ columns) = IsDressable field.data_type column × AreDressable fields columns
+AreDressable (field ∷ fields) (column ∷ columns) =
+    IsDressable field.data_type column × AreDressable fields columns
 AreDressable _ _ = ⊥
 
 -- the header of a message claims all of its body
@@ -63,15 +66,18 @@ pub record IsMessageOf (dictionary : ColumnDictionary) (sent : Sent) : Type 0 wh
   pub short : length sent.header ≤ most_header_bytes
   pub sized : length sent.body ≡ body_length (values_batch dictionary.texts)
 
--- The dictionaries say the texts of the rows, column by column, and what says the batch that was made adds the rows to whoever
--- has these. Its columns of dictionaries lie over these texts, with the index 0 where a slot is null, and the others as they are.
--- Together the bodies have no more bytes than they may.
+-- The dictionaries say the texts of the rows, column by column, and what says the batch that was
+-- made adds the rows to whoever has these. Its columns of dictionaries lie over these texts, with
+-- the index 0 where a slot is null, and the others as they are. Together the bodies have no more
+-- bytes than they may.
 pub record IsDressedBatch (schema : Schema) (batch : BatchAt) (made : DressedBatch) : Type 0 where
-  pub coded : AllZip (λ number sent. SaysWhole schema number (firsts (cells_in number (rows_of batch))) sent)
+  pub coded : AllZip
+      (λ number sent. SaysWhole schema number (firsts (cells_in number (rows_of batch))) sent)
       (coded_from 0 schema.fields) (map written_seen made.dictionaries.items)
   pub adds : (sent : Sent) → SaysBatch sent made.batch → AddsRows schema (rows_of batch) sent
   pub claim : All ClaimsAll (map written_seen made.dictionaries.items)
-  pub short : All (λ (sent : Sent). length sent.header ≤ most_header_bytes) (map written_seen made.dictionaries.items)
+  pub short : All (λ (sent : Sent). length sent.header ≤ most_header_bytes)
+      (map written_seen made.dictionaries.items)
   pub sized : bodies_length (map written_seen made.dictionaries.items) + body_length made.batch
       ≤ dressed_length schema.fields batch.columns
   pub many : length made.batch.columns ≡ length batch.columns

@@ -9,7 +9,8 @@ pub use Rattle.arrays.specs.Firsts.{text_in, with_text, firsts_behind, firsts}
 -- a place among texts leads to a value: none to null, and one to the text that stands there
 abbrev pub Leads : List (List ℕ) → Option ℕ → Value → Type 0
 Leads texts None value = value ≡ Null
-Leads texts (Some place) value = (text : List ℕ) × (slice_get texts place ≡ Some text) × (value ≡ Text text)
+Leads texts (Some place) value =
+    (text : List ℕ) × (slice_get texts place ≡ Some text) × (value ≡ Text text)
 
 -- the places lead to the values, one by one
 abbrev pub AreLed : List (List ℕ) → List (Option ℕ) → List Value → Type 0

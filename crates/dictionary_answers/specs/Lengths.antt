@@ -9,7 +9,7 @@ use Rattle.dictionary_answers.specs.Firsts.{firsts, bytes_in}
 use Rattle.ipc_batch.specs.Said.{Sent}
 use Rattle.ipc_batch.specs.Written.{body_of}
 
--- so many bytes, and zeros behind them up to a multiple of 8
+-- so many bytes, and zeros after them up to a multiple of 8
 abbrev pub with_zeros : ℕ → ℕ
 with_zeros bytes = bytes + (8 - bytes % 8) % 8
 
@@ -17,7 +17,8 @@ with_zeros bytes = bytes + (8 - bytes % 8) % 8
 abbrev pub texts_length : List (List ℕ) → ℕ
 texts_length texts = with_zeros (4 * (length texts + 1)) + with_zeros (bytes_in texts)
 
--- a column: of one that is answered as a dictionary the texts that it holds, its validity bits, and its indices
+-- a column: of one that is answered as a dictionary the texts that it holds, its validity bits, and
+-- its indices
 abbrev pub column_length : DataType → ColumnAt → ℕ
 column_length (Dictionary encoding) column = texts_length (firsts (values_of column))
     + (with_zeros (length (validity_written column)) + with_zeros (4 * column.len))
@@ -25,7 +26,8 @@ column_length _ column = length (body_of (buffers_written column))
 
 -- columns, one for each field
 abbrev pub dressed_length : List Field → List ColumnAt → ℕ
-dressed_length (field ∷ fields) (column ∷ columns) = column_length field.data_type column + dressed_length fields columns
+dressed_length (field ∷ fields) (column ∷ columns) =
+    column_length field.data_type column + dressed_length fields columns
 dressed_length _ _ = 0
 
 -- messages, all together

@@ -1,13 +1,15 @@
 //! Batches whose columns of dictionaries are coded.
 
-ghost use Rattle.std.specs.Prelude.{◌≡◌, ◌≤◌, ◌<◌, ◌+◌, ◌^◌, ◌++◌, All, IfErr, IfNone, IfOk, IfSome, OnOk, map};
+ghost use Rattle.std.specs.Prelude.{◌≡◌, ◌≤◌, ◌<◌, ◌+◌, ◌^◌, ◌++◌, All, IfErr, IfNone, IfOk};
+ghost use Rattle.std.specs.Prelude.{IfSome, OnOk, map};
 ghost use Rattle.std.specs.Option.{option_to_list};
 ghost use Rattle.scan_base.specs.Limits.{most_values};
 ghost use Rattle.arrays.specs.Batch.{AreLong, rows_of};
 ghost use Rattle.arrays.specs.Texts.{texts_values};
 ghost use Rattle.dictionary_answers.specs.declared.coding.Stop.TheVariants.{OutOfRoom};
 ghost use Rattle.dictionary_answers.specs.Answer.{AreAnswered, AreCodable, IsAnswered, IsCodable};
-ghost use Rattle.dictionary_answers.specs.Answer.{coded_bytes, column_bytes, column_dictionary, dictionaries_of, dictionary_seen};
+ghost use Rattle.dictionary_answers.specs.Answer.{coded_bytes, column_bytes, column_dictionary};
+ghost use Rattle.dictionary_answers.specs.Answer.{dictionaries_of, dictionary_seen};
 
 use crate::built::{column_over, column_validity};
 use crate::coding::Stop;
@@ -24,17 +26,17 @@ pub struct ColumnDictionary {
     pub texts: Texts,
 }
 
-/// A batch whose columns of dictionaries lie over their own texts, and these dictionaries, in the order of the columns. Both
-/// share the texts.
+/// A batch whose columns of dictionaries lie over their own texts, and these dictionaries, in the
+/// order of the columns. Both share the texts.
 #[derive(Drop)]
 pub struct CodedBatch {
     pub batch: Batch,
     pub dictionaries: Vec<ColumnDictionary>,
 }
 
-/// The same rows, where each column whose field is a dictionary lies as indices of 32 bits over the texts that it holds,
-/// each once and by first appearance, and each other column as it is. `None` where those texts have more bytes than there
-/// is room for: it comes before a text is copied.
+/// The same rows, where each column whose field is a dictionary lies as indices of 32 bits over the
+/// texts that it holds, each once and by first appearance, and each other column as it is. `None`
+/// where those texts have more bytes than there is room for: it comes before a text is copied.
 ///
 /// # Errors
 ///
@@ -49,13 +51,17 @@ pub fn code_batch(
     requires rows { batch.now.rows ≤ most_values }
     requires room { room < 2 ^ 31 }
     requires codable { AreCodable schema.now.fields batch.now.columns }
-    ensures rows { IfOk result (λ made. IfSome made (λ made. rows_of made.batch ≡ rows_of batch.now)) }
+    ensures rows { IfOk result
+        (λ made. IfSome made (λ made. rows_of made.batch ≡ rows_of batch.now)) }
     ensures columns { IfOk result (λ made. IfSome made (λ made.
         AreAnswered schema.now.fields batch.now.columns made.batch.columns)) }
     ensures dictionaries { IfOk result (λ made. IfSome made (λ made.
-        map dictionary_seen made.dictionaries.items ≡ dictionaries_of 0 schema.now.fields batch.now.columns)) }
-    ensures fits { IfOk result (λ made. IfSome made (λ _. coded_bytes schema.now.fields batch.now.columns ≤ room)) }
-    ensures full { IfOk result (λ made. IfNone made (room < coded_bytes schema.now.fields batch.now.columns)) }
+        map dictionary_seen made.dictionaries.items
+        ≡ dictionaries_of 0 schema.now.fields batch.now.columns)) }
+    ensures fits { IfOk result
+        (λ made. IfSome made (λ _. coded_bytes schema.now.fields batch.now.columns ≤ room)) }
+    ensures full { IfOk result
+        (λ made. IfNone made (room < coded_bytes schema.now.fields batch.now.columns)) }
 {
     let fields = schema.fields.as_slice();
     match code_columns(alloc, seed, fields, batch.columns(), room) {
@@ -83,9 +89,11 @@ fn code_columns(
     requires room { room < 2 ^ 31 }
     requires codable { AreCodable fields.now columns.now }
     ensures columns { IfOk result (λ made. AreAnswered fields.now columns.now made.0.items) }
-    ensures dictionaries { IfOk result (λ made. map dictionary_seen made.1.items ≡ dictionaries_of 0 fields.now columns.now) }
+    ensures dictionaries { IfOk result
+        (λ made. map dictionary_seen made.1.items ≡ dictionaries_of 0 fields.now columns.now) }
     ensures fits { IfOk result (λ _. coded_bytes fields.now columns.now ≤ room) }
-    ensures full { IfErr result (λ stop. stop ≡ OutOfRoom → room < coded_bytes fields.now columns.now) }
+    ensures full { IfErr result
+        (λ stop. stop ≡ OutOfRoom → room < coded_bytes fields.now columns.now) }
 {
     let mut made = Vec::with_capacity(alloc, columns.len())?;
     let mut dictionaries = Vec::new(alloc);
@@ -100,14 +108,15 @@ fn code_columns(
     Ok((made, dictionaries))
 }
 
-// Puts the dictionary of a column behind the others, if it has one.
+// Puts the dictionary of a column after the others, if it has one.
 #[tactic(auto, using(crate::proofs::AnsweredSoFar::seen_more, crate::proofs::AnsweredSoFar::seen_none))]
 fn add_dictionary(
     dictionaries: &mut Vec<ColumnDictionary>,
     number: u64,
     texts: Option<Texts>,
 ) -> Result<(), AllocError>
-    ensures { OnOk result (map dictionary_seen dictionaries.new.items ≡ map dictionary_seen dictionaries.old.items
+    ensures { OnOk result
+        (map dictionary_seen dictionaries.new.items ≡ map dictionary_seen dictionaries.old.items
         ++ map (λ values. (number, values)) (map texts_values (option_to_list texts))) }
 {
     let Some(texts) = texts else {
@@ -117,8 +126,8 @@ fn add_dictionary(
     Ok(())
 }
 
-// A column as its type is answered, the dictionary over which it lies, if it lies over one, and how many bytes more texts may
-// have behind its own.
+// A column as its type is answered, the dictionary over which it lies, if it lies over one, and how
+// many bytes more texts may have after its own.
 fn answer_column(
     alloc: Global,
     seed: HashSeed,
@@ -130,9 +139,11 @@ fn answer_column(
     requires room { room < 2 ^ 31 }
     requires codable { IsCodable data_type column.now }
     ensures column { IfOk result (λ made. IsAnswered data_type column.now made.0) }
-    ensures texts { IfOk result (λ made. map texts_values (option_to_list made.1) ≡ column_dictionary data_type column.now) }
+    ensures texts { IfOk result (λ made. map texts_values (option_to_list made.1)
+        ≡ column_dictionary data_type column.now) }
     ensures left { IfOk result (λ made. column_bytes data_type column.now + made.2 ≡ room) }
-    ensures full { IfErr result (λ stop. stop ≡ OutOfRoom → room < column_bytes data_type column.now) }
+    ensures full { IfErr result
+        (λ stop. stop ≡ OutOfRoom → room < column_bytes data_type column.now) }
 {
     match data_type {
         DataType::Dictionary(_) => {

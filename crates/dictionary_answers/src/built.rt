@@ -22,8 +22,9 @@ use bytes::Bytes;
 use std::alloc::{AllocError, Global};
 use std::sync::Arc;
 
-/// A column of indices of 32 bits into a dictionary of these texts, and the one part in which they stand there. Each slot has
-/// the index that is its place, and is null where `NO_PLACE` stands in its stead.
+/// A column of indices of 32 bits into a dictionary of these texts, and the one part in which they
+/// stand there. Each slot has the index that is its place, and is null where `NO_PLACE` stands in
+/// its stead.
 ///
 /// # Errors
 ///
@@ -33,13 +34,16 @@ pub fn column_of_indices(
     places: &[u32],
     texts: &[&str],
 ) -> Result<(Column, Texts), AllocError>
-    requires led { (values : List Value) × AreLed (map (λ text. text.now) texts.now) (map held places.now) values }
+    requires led { (values : List Value)
+        × AreLed (map (λ text. text.now) texts.now) (map held places.now) values }
     requires few { length texts.now ≤ most_values }
     requires short { bytes_in (map (λ text. text.now) texts.now) < 2 ^ 31 }
-    ensures values { IfOk result (λ made. AreLed (map (λ text. text.now) texts.now) (map held places.now) (values_of made.0)) }
+    ensures values { IfOk result (λ made. AreLed (map (λ text. text.now) texts.now)
+        (map held places.now) (values_of made.0)) }
     ensures over { IfOk result (λ made. LiesOver (map (λ text. text.now) texts.now) made.0) }
     ensures long { IfOk result (λ made. made.0.len ≡ length places.now) }
-    ensures part { IfOk result (λ made. texts_values made.1 ≡ map Text (map (λ text. text.now) texts.now)) }
+    ensures part { IfOk result
+        (λ made. texts_values made.1 ≡ map Text (map (λ text. text.now) texts.now)) }
 {
     let validity = places_validity(alloc, places)?;
     let packed = pack_numbers(alloc, places)?;
@@ -54,13 +58,16 @@ pub(crate) fn column_over(
     texts: &[&str],
 ) -> Result<(Column, Texts), AllocError>
     requires valid { AreValidWhereSome validity (map held (numbers_in packed.items)) }
-    requires led { (values : List Value) × AreLed (map (λ text. text.now) texts.now) (map held (numbers_in packed.items)) values }
+    requires led { (values : List Value)
+        × AreLed (map (λ text. text.now) texts.now) (map held (numbers_in packed.items)) values }
     requires few { length texts.now ≤ most_values }
     requires short { bytes_in (map (λ text. text.now) texts.now) < 2 ^ 31 }
-    ensures values { IfOk result (λ made. AreLed (map (λ text. text.now) texts.now) (map held (numbers_in packed.items)) (values_of made.0)) }
+    ensures values { IfOk result (λ made. AreLed (map (λ text. text.now) texts.now)
+        (map held (numbers_in packed.items)) (values_of made.0)) }
     ensures over { IfOk result (λ made. LiesOver (map (λ text. text.now) texts.now) made.0) }
     ensures long { IfOk result (λ made. made.0.len ≡ length packed.items / 4) }
-    ensures part { IfOk result (λ made. texts_values made.1 ≡ map Text (map (λ text. text.now) texts.now)) }
+    ensures part { IfOk result
+        (λ made. texts_values made.1 ≡ map Text (map (λ text. text.now) texts.now)) }
 {
     let part = part_of(alloc, texts)?;
     let dictionary = dictionary_of(alloc, part.share()?)?;
@@ -73,7 +80,8 @@ pub(crate) fn column_over(
     Ok((column, part))
 }
 
-/// The validity bits of slots that lie at places of a column's values: the column's own, where these tell each null.
+/// The validity bits of slots that lie at places of a column's values: the column's own, where
+/// these tell each null.
 ///
 /// # Errors
 ///
@@ -83,8 +91,10 @@ pub(crate) fn column_validity(
     column: &Column,
     packed: &[u8],
 ) -> Result<Option<Bits>, AllocError>
-    requires led { (texts : List (List ℕ)) × AreLed texts (map held (numbers_in packed.now)) (values_of column.now) }
-    ensures { IfOk result (λ validity. AreValidWhereSome validity (map held (numbers_in packed.now))) }
+    requires led { (texts : List (List ℕ))
+        × AreLed texts (map held (numbers_in packed.now)) (values_of column.now) }
+    ensures { IfOk result
+        (λ validity. AreValidWhereSome validity (map held (numbers_in packed.now))) }
 {
     if column.null_count() == 0 {
         return Ok(None);
@@ -120,10 +130,11 @@ fn dictionary_of(alloc: Global, part: Texts) -> Result<Dictionary, AllocError>
     }
 }
 
-// The texts, one behind another.
+// The texts, one after another.
 fn part_of(alloc: Global, texts: &[&str]) -> Result<Texts, AllocError>
     requires short { bytes_in (map (λ text. text.now) texts.now) < 2 ^ 31 }
-    ensures values { IfOk result (λ part. texts_values part ≡ map Text (map (λ text. text.now) texts.now)) }
+    ensures values { IfOk result
+        (λ part. texts_values part ≡ map Text (map (λ text. text.now) texts.now)) }
     ensures long { IfOk result (λ part. part.len ≡ length texts.now) }
 {
     let (packed, total) = pack_offsets(alloc, texts)?;
@@ -135,10 +146,11 @@ fn part_of(alloc: Global, texts: &[&str]) -> Result<Texts, AllocError>
     }
 }
 
-// The offsets that cut the texts where they stand one behind another, and how many bytes those have.
+// The offsets that cut the texts where they stand one after another, and how many bytes those have.
 fn pack_offsets(alloc: Global, texts: &[&str]) -> Result<(Vec<u8>, u32), AllocError>
     requires { bytes_in (map (λ text. text.now) texts.now) < 2 ^ 31 }
-    ensures { IfOk result (λ made. made.0.items ≡ offsets_from 0 (map Text (map (λ text. text.now) texts.now))) }
+    ensures { IfOk result
+        (λ made. made.0.items ≡ offsets_from 0 (map Text (map (λ text. text.now) texts.now))) }
 {
     let room = texts.len().saturating_add(1).saturating_mul(4);
     let mut packed = Vec::with_capacity(alloc, room)?;
@@ -151,9 +163,10 @@ fn pack_offsets(alloc: Global, texts: &[&str]) -> Result<(Vec<u8>, u32), AllocEr
     Ok((packed, offset))
 }
 
-// The bytes of the texts, one behind another; room for `total` bytes is made at once.
+// The bytes of the texts, one after another; room for `total` bytes is made at once.
 fn join_texts(alloc: Global, texts: &[&str], total: u32) -> Result<Vec<u8>, AllocError>
-    ensures { IfOk result (λ joined. joined.items ≡ texts_joined (map Text (map (λ text. text.now) texts.now))) }
+    ensures { IfOk result
+        (λ joined. joined.items ≡ texts_joined (map Text (map (λ text. text.now) texts.now))) }
 {
     let mut joined = Vec::with_capacity(alloc, total as usize)?;
     for text in texts {

@@ -7,10 +7,12 @@ use crate::found::Found;
 use std::alloc::{AllocError, AllocFailed};
 use std::marker::Model;
 
-/// What stands in a list of places for a slot that has none, and in a table at an index that was not met.
+/// What stands in a list of places for a slot that has none, and in a table at an index that was
+/// not met.
 pub const NO_PLACE: u32 = 4_294_967_295;
 
-/// Why the texts of a column are not coded: memory is refused, or they have more bytes than there is room for.
+/// Why the texts of a column are not coded: memory is refused, or they have more bytes than there
+/// is room for.
 #[derive(Debug, Drop)]
 pub enum Stop {
     OutOfMemory,
@@ -39,7 +41,8 @@ impl<T: Drop> From<AllocFailed<T>> for Stop {
     }
 }
 
-/// Texts, each once, by first appearance, and for each slot which of them it holds; and how many bytes more texts may have.
+/// Texts, each once, by first appearance, and for each slot which of them it holds; and how many
+/// bytes more texts may have.
 #[derive(Drop)]
 pub struct Coded<'t> {
     found: Found<'t>,

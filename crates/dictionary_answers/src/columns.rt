@@ -1,6 +1,7 @@
 //! Coding columns slot by slot.
 
-ghost use Rattle.std.specs.Prelude.{◌≡◌, ◌<◌, ◌+◌, ◌*◌, ◌^◌, ◌∷◌, [], All, IfErr, IfOk, OnOk, length, nat_eq};
+ghost use Rattle.std.specs.Prelude.{◌≡◌, ◌<◌, ◌+◌, ◌*◌, ◌^◌, ◌∷◌, [], All, IfErr, IfOk, OnOk};
+ghost use Rattle.std.specs.Prelude.{length, nat_eq};
 ghost use Rattle.indexmap.specs.IndexMap.{get};
 ghost use Rattle.scan_base.specs.Value.{IsTextOrNull};
 ghost use Rattle.arrays.specs.Column.{values_of};
@@ -26,19 +27,20 @@ use hash_seed::HashSeed;
 use indexmap::IndexMap;
 use std::alloc::Global;
 
-// For each slot of a column, its dictionary may have so many values for a table of them to be made: so what a table takes
-// is bounded by the slots, however many values the dictionary has.
+// For each slot of a column, its dictionary may have so many values for a table of them to be made:
+// so what a table takes is bounded by the slots, however many values the dictionary has.
 const VALUES_FOR_EACH_SLOT: usize = 16;
 
 // How many slots are copied before it is asked whether the table had met all their indices.
 const BLOCK_SLOTS: usize = 1_024;
 
-/// The texts of a column, each once, and which of them each slot holds. No text is copied. Where slots are indices, one
-/// text is looked up for each index that is met.
+/// The texts of a column, each once, and which of them each slot holds. No text is copied. Where
+/// slots are indices, one text is looked up for each index that is met.
 ///
 /// # Errors
 ///
-/// - `Stop::OutOfRoom` where the texts have more than `room` bytes. It comes at the text with which they have.
+/// - `Stop::OutOfRoom` where the texts have more than `room` bytes. It comes at the text with which
+///   they have.
 /// - `Stop::OutOfMemory` where memory is refused.
 pub fn code_column<'t>(
     alloc: Global,
@@ -49,7 +51,8 @@ pub fn code_column<'t>(
     requires small { column.now.len < 2 ^ 31 }
     requires texts { All IsTextOrNull (values_of column.now) }
     ensures coded { IfOk result (AreCoded (values_of column.now) room) }
-    ensures full { IfErr result (λ stop. stop ≡ OutOfRoom → room < bytes_in (firsts (values_of column.now))) }
+    ensures full { IfErr result
+        (λ stop. stop ≡ OutOfRoom → room < bytes_in (firsts (values_of column.now))) }
 {
     let (found, packed) = code_packed(alloc, seed, column, room)?;
     let places = unpack_numbers(alloc, &packed)?;
@@ -65,8 +68,10 @@ pub(crate) fn code_packed<'t>(
 ) -> Result<(Found<'t>, Vec<u8>), Stop>
     requires small { column.now.len < 2 ^ 31 }
     requires texts { All IsTextOrNull (values_of column.now) }
-    ensures coded { IfOk result (λ made. AreCoded (values_of column.now) room (coded_at made.0 (numbers_in made.1.items))) }
-    ensures full { IfErr result (λ stop. stop ≡ OutOfRoom → room < bytes_in (firsts (values_of column.now))) }
+    ensures coded { IfOk result
+        (λ made. AreCoded (values_of column.now) room (coded_at made.0 (numbers_in made.1.items))) }
+    ensures full { IfErr result
+        (λ stop. stop ≡ OutOfRoom → room < bytes_in (firsts (values_of column.now))) }
 {
     let mut found = Found::new(alloc, seed, room);
     let mut packed = zeros(alloc, column.len())?;
@@ -86,8 +91,10 @@ fn code_slots<'t>(
     requires texts { All IsTextOrNull (values_of column.now) }
     requires long { length packed.old ≡ 4 * column.now.len }
     requires none { AreCoded [] (found.old).left (coded_at found.old []) }
-    ensures coded { OnOk result (AreCoded (values_of column.now) (found.old).left (coded_at found.new (numbers_in packed.new))) }
-    ensures full { IfErr result (λ stop. stop ≡ OutOfRoom → (found.old).left < bytes_in (firsts (values_of column.now))) }
+    ensures coded { OnOk result (AreCoded (values_of column.now) (found.old).left
+        (coded_at found.new (numbers_in packed.new))) }
+    ensures full { IfErr result
+        (λ stop. stop ≡ OutOfRoom → (found.old).left < bytes_in (firsts (values_of column.now))) }
 {
     match column.layout() {
         Layout::Indices(cells) => {
@@ -104,8 +111,10 @@ fn code_values<'t>(found: &mut Found<'t>, column: &'t Column, packed: &mut [u8])
     requires texts { All IsTextOrNull (values_of column.now) }
     requires long { length packed.old ≡ 4 * column.now.len }
     requires none { AreCoded [] (found.old).left (coded_at found.old []) }
-    ensures coded { OnOk result (AreCoded (values_of column.now) (found.old).left (coded_at found.new (numbers_in packed.new))) }
-    ensures full { IfErr result (λ stop. stop ≡ OutOfRoom → (found.old).left < bytes_in (firsts (values_of column.now))) }
+    ensures coded { OnOk result (AreCoded (values_of column.now) (found.old).left
+        (coded_at found.new (numbers_in packed.new))) }
+    ensures full { IfErr result
+        (λ stop. stop ≡ OutOfRoom → (found.old).left < bytes_in (firsts (values_of column.now))) }
 {
     for place in 0..column.len() {
         let number = found.place_of_value(column.value_at(place))?;
@@ -114,8 +123,8 @@ fn code_values<'t>(found: &mut Found<'t>, column: &'t Column, packed: &mut [u8])
     Ok(())
 }
 
-// Codes each slot by its index: with a table of the dictionary's values, or with a map of the indices that are met, where
-// the dictionary has too many.
+// Codes each slot by its index: with a table of the dictionary's values, or with a map of the
+// indices that are met, where the dictionary has too many.
 fn code_indices<'t>(
     alloc: Global,
     seed: HashSeed,
@@ -127,8 +136,10 @@ fn code_indices<'t>(
     requires cells { (of.now).column.now.layout ≡ layout.Indices (of.now).cells }
     requires long { length packed.old ≡ 4 * (of.now).column.now.len }
     requires none { AreCoded [] (found.old).left (coded_at found.old []) }
-    ensures coded { OnOk result (AreCoded (values_of (of.now).column.now) (found.old).left (coded_at found.new (numbers_in packed.new))) }
-    ensures full { IfErr result (λ stop. stop ≡ OutOfRoom → (found.old).left < bytes_in (firsts (values_of (of.now).column.now))) }
+    ensures coded { OnOk result (AreCoded (values_of (of.now).column.now) (found.old).left
+        (coded_at found.new (numbers_in packed.new))) }
+    ensures full { IfErr result (λ stop. stop ≡ OutOfRoom →
+        (found.old).left < bytes_in (firsts (values_of (of.now).column.now))) }
 {
     if is_worth_a_table(&of.cells, of.column.len()) {
         let mut table = vec![in alloc; NO_PLACE; of.cells.dictionary().len()]?;
@@ -156,8 +167,10 @@ fn code_far<'t>(
     requires long { length packed.old ≡ 4 * (of.now).column.now.len }
     requires none { AreCoded [] (found.old).left (coded_at found.old []) }
     requires met { AreMet (of.now).cells.dictionary (found.old).texts (get nat_eq met.old) }
-    ensures coded { OnOk result (AreCoded (values_of (of.now).column.now) (found.old).left (coded_at found.new (numbers_in packed.new))) }
-    ensures full { IfErr result (λ stop. stop ≡ OutOfRoom → (found.old).left < bytes_in (firsts (values_of (of.now).column.now))) }
+    ensures coded { OnOk result (AreCoded (values_of (of.now).column.now) (found.old).left
+        (coded_at found.new (numbers_in packed.new))) }
+    ensures full { IfErr result (λ stop. stop ≡ OutOfRoom →
+        (found.old).left < bytes_in (firsts (values_of (of.now).column.now))) }
 {
     let (first, count) = (of.column.first(), of.column.len());
     for place in 0..count {
@@ -177,10 +190,13 @@ fn far_place<'t>(
     requires few { length (found.old).texts < 2 ^ 31 }
     requires met { AreMet (cells.now).dictionary (found.old).texts (get nat_eq met.old) }
     requires within { slot < (cells.now).len }
-    ensures found { IfOk result (λ place. Finds found.old found.new place (layout_slot (layout.Indices cells.now) slot)) }
-    ensures met { OnOk result (AreMet (cells.now).dictionary (found.new).texts (get nat_eq met.new)) }
+    ensures found { IfOk result
+        (λ place. Finds found.old found.new place (layout_slot (layout.Indices cells.now) slot)) }
+    ensures met { OnOk result
+        (AreMet (cells.now).dictionary (found.new).texts (get nat_eq met.new)) }
     ensures full { IfErr result (λ stop. stop ≡ OutOfRoom →
-        bytes_in (found.old).texts + (found.old).left < bytes_in (firsts_behind (found.old).texts (layout_slot (layout.Indices cells.now) slot ∷ []))) }
+        bytes_in (found.old).texts + (found.old).left < bytes_in (firsts_behind (found.old).texts
+        (layout_slot (layout.Indices cells.now) slot ∷ []))) }
 {
     match valid_index(cells, slot) {
         Some(index) => found.place_of_far_index(met, cells.dictionary(), index),
@@ -200,8 +216,10 @@ fn code_near<'t>(
     requires long { length packed.old ≡ 4 * (of.now).column.now.len }
     requires none { AreCoded [] (found.old).left (coded_at found.old []) }
     requires table { IsTable (of.now).cells.dictionary (found.old).texts table.old }
-    ensures coded { OnOk result (AreCoded (values_of (of.now).column.now) (found.old).left (coded_at found.new (numbers_in packed.new))) }
-    ensures full { IfErr result (λ stop. stop ≡ OutOfRoom → (found.old).left < bytes_in (firsts (values_of (of.now).column.now))) }
+    ensures coded { OnOk result (AreCoded (values_of (of.now).column.now) (found.old).left
+        (coded_at found.new (numbers_in packed.new))) }
+    ensures full { IfErr result (λ stop. stop ≡ OutOfRoom →
+        (found.old).left < bytes_in (firsts (values_of (of.now).column.now))) }
 {
     match of.cells.index_type() {
         IntegerType::Int8 | IntegerType::UInt8 => code_elements::<u8>(found, table, of, packed),
@@ -224,8 +242,10 @@ fn code_elements<'t, E: IndexElement>(
     requires long { length packed.old ≡ 4 * (of.now).column.now.len }
     requires none { AreCoded [] (found.old).left (coded_at found.old []) }
     requires table { IsTable (of.now).cells.dictionary (found.old).texts table.old }
-    ensures coded { OnOk result (AreCoded (values_of (of.now).column.now) (found.old).left (coded_at found.new (numbers_in packed.new))) }
-    ensures full { IfErr result (λ stop. stop ≡ OutOfRoom → (found.old).left < bytes_in (firsts (values_of (of.now).column.now))) }
+    ensures coded { OnOk result (AreCoded (values_of (of.now).column.now) (found.old).left
+        (coded_at found.new (numbers_in packed.new))) }
+    ensures full { IfErr result (λ stop. stop ≡ OutOfRoom →
+        (found.old).left < bytes_in (firsts (values_of (of.now).column.now))) }
 {
     if of.column.null_count() == 0 {
         code_valid::<E>(found, table, of, packed)
@@ -234,8 +254,8 @@ fn code_elements<'t, E: IndexElement>(
     }
 }
 
-// Codes each slot, none of which is null, block by block. A block whose indices the table has all met is copied through it, in
-// a loop that asks nothing of its slots one by one.
+// Codes each slot, none of which is null, block by block. A block whose indices the table has all
+// met is copied through it, in a loop that asks nothing of its slots one by one.
 fn code_valid<'t, E: IndexElement>(
     found: &mut Found<'t>,
     table: &mut [u32],
@@ -249,8 +269,10 @@ fn code_valid<'t, E: IndexElement>(
     requires long { length packed.old ≡ 4 * (of.now).column.now.len }
     requires none { AreCoded [] (found.old).left (coded_at found.old []) }
     requires table { IsTable (of.now).cells.dictionary (found.old).texts table.old }
-    ensures coded { OnOk result (AreCoded (values_of (of.now).column.now) (found.old).left (coded_at found.new (numbers_in packed.new))) }
-    ensures full { IfErr result (λ stop. stop ≡ OutOfRoom → (found.old).left < bytes_in (firsts (values_of (of.now).column.now))) }
+    ensures coded { OnOk result (AreCoded (values_of (of.now).column.now) (found.old).left
+        (coded_at found.new (numbers_in packed.new))) }
+    ensures full { IfErr result (λ stop. stop ≡ OutOfRoom →
+        (found.old).left < bytes_in (firsts (values_of (of.now).column.now))) }
 {
     let count = of.column.len();
     let mut from = 0;
@@ -265,7 +287,7 @@ fn code_valid<'t, E: IndexElement>(
     Ok(())
 }
 
-// Codes the slots of a block, none of which is null, behind those before it.
+// Codes the slots of a block, none of which is null, after those before it.
 fn code_block<'t, E: IndexElement>(
     found: &mut Found<'t>,
     table: &mut [u32],
@@ -275,12 +297,16 @@ fn code_block<'t, E: IndexElement>(
     requires small { (block.now).of.now.column.now.len < 2 ^ 31 }
     requires block { IsBlock E.WIDTH block.now }
     requires long { length packed.old ≡ 4 * (block.now).of.now.column.now.len }
-    requires coded { AreCodedTo (block.now).of.now.column.now (block.now).from found.old packed.old }
+    requires coded { AreCodedTo (block.now).of.now.column.now
+        (block.now).from found.old packed.old }
     requires table { IsTable (block.now).of.now.cells.dictionary (found.old).texts table.old }
-    ensures coded { OnOk result (AreCodedTo (block.now).of.now.column.now (block.now).to found.new packed.new) }
+    ensures coded { OnOk result
+        (AreCodedTo (block.now).of.now.column.now (block.now).to found.new packed.new) }
     ensures room { OnOk result (room_of found.new ≡ room_of found.old) }
-    ensures table { OnOk result (IsTable (block.now).of.now.cells.dictionary (found.new).texts table.new) }
-    ensures full { IfErr result (λ stop. stop ≡ OutOfRoom → room_of found.old < bytes_in (firsts (values_of (block.now).of.now.column.now))) }
+    ensures table { OnOk result
+        (IsTable (block.now).of.now.cells.dictionary (found.new).texts table.new) }
+    ensures full { IfErr result (λ stop. stop ≡ OutOfRoom →
+        room_of found.old < bytes_in (firsts (values_of (block.now).of.now.column.now))) }
 {
     let of = block.of;
     let (first, _count, _slots) = (of.column.first(), of.column.len(), of.cells.len());
@@ -306,8 +332,10 @@ fn code_some<'t, E: IndexElement>(
     requires long { length packed.old ≡ 4 * (of.now).column.now.len }
     requires none { AreCoded [] (found.old).left (coded_at found.old []) }
     requires table { IsTable (of.now).cells.dictionary (found.old).texts table.old }
-    ensures coded { OnOk result (AreCoded (values_of (of.now).column.now) (found.old).left (coded_at found.new (numbers_in packed.new))) }
-    ensures full { IfErr result (λ stop. stop ≡ OutOfRoom → (found.old).left < bytes_in (firsts (values_of (of.now).column.now))) }
+    ensures coded { OnOk result (AreCoded (values_of (of.now).column.now) (found.old).left
+        (coded_at found.new (numbers_in packed.new))) }
+    ensures full { IfErr result (λ stop. stop ≡ OutOfRoom →
+        (found.old).left < bytes_in (firsts (values_of (of.now).column.now))) }
 {
     let (first, count) = (of.column.first(), of.column.len());
     for place in 0..count {
@@ -328,10 +356,12 @@ fn near_place<'t, E: IndexElement>(
     requires width { byte_width (cells.now).index ≡ E.WIDTH }
     requires table { IsTable (cells.now).dictionary (found.old).texts table.old }
     requires within { slot < (cells.now).len }
-    ensures found { IfOk result (λ place. Finds found.old found.new place (layout_slot (layout.Indices cells.now) slot)) }
+    ensures found { IfOk result
+        (λ place. Finds found.old found.new place (layout_slot (layout.Indices cells.now) slot)) }
     ensures table { OnOk result (IsTable (cells.now).dictionary (found.new).texts table.new) }
     ensures full { IfErr result (λ stop. stop ≡ OutOfRoom →
-        bytes_in (found.old).texts + (found.old).left < bytes_in (firsts_behind (found.old).texts (layout_slot (layout.Indices cells.now) slot ∷ []))) }
+        bytes_in (found.old).texts + (found.old).left < bytes_in (firsts_behind (found.old).texts
+        (layout_slot (layout.Indices cells.now) slot ∷ []))) }
 {
     let _slots = cells.len();
     if !is_valid(cells, slot) {

@@ -1,6 +1,7 @@
 //! The texts of a column, each once, as they are found.
 
-ghost use Rattle.std.specs.Prelude.{◌≡◌, ◌<◌, ◌+◌, ◌*◌, ◌^◌, ◌∷◌, [], Some, IfErr, IfOk, IsTrue, OnOk, get_or, length, map, nat_eq, slice_get, slice_index};
+ghost use Rattle.std.specs.Prelude.{◌≡◌, ◌<◌, ◌+◌, ◌*◌, ◌^◌, ◌∷◌, [], Some, IfErr, IfOk, IsTrue};
+ghost use Rattle.std.specs.Prelude.{OnOk, get_or, length, map, nat_eq, slice_get, slice_index};
 ghost use Rattle.indexmap.specs.IndexMap.{get};
 ghost use Rattle.scan_base.specs.declared.value.Value.TheVariants.{Null};
 ghost use Rattle.scan_base.specs.Value.{value_of, IsTextOrNull};
@@ -47,14 +48,16 @@ impl<'t> Found<'t> {
         }
     }
 
-    // Where a text stands among the texts: behind them, where it is new.
+    // Where a text stands among the texts: after them, where it is new.
     fn place_of(&mut self, text: &'t str) -> Result<u32, Stop>
         requires few { length (self.old).texts < 2 ^ 31 }
         ensures texts { OnOk result ((self.new).texts ≡ with_text (self.old).texts text.now) }
         ensures there { IfOk result (λ place. slice_get (self.new).texts place ≡ Some text.now) }
-        ensures room { OnOk result (bytes_in (self.new).texts + (self.new).left ≡ bytes_in (self.old).texts + (self.old).left) }
+        ensures room { OnOk result (bytes_in (self.new).texts + (self.new).left
+            ≡ bytes_in (self.old).texts + (self.old).left) }
         ensures full { IfErr result (λ stop. stop ≡ OutOfRoom →
-            bytes_in (self.old).texts + (self.old).left < bytes_in (with_text (self.old).texts text.now)) }
+            bytes_in (self.old).texts + (self.old).left
+            < bytes_in (with_text (self.old).texts text.now)) }
     {
         let Ok((place, added)) = self.texts.insert_full(text) else {
             return Err(Stop::OutOfMemory);
@@ -73,9 +76,11 @@ impl<'t> Found<'t> {
     pub(crate) fn place_of_value(&mut self, value: ValueRef<'t>) -> Result<u32, Stop>
         requires few { length (self.old).texts < 2 ^ 31 }
         requires text { IsTextOrNull (value_of value) }
-        ensures found { IfOk result (λ place. Finds self.old self.new place (value_of value.entry)) }
+        ensures found { IfOk result
+            (λ place. Finds self.old self.new place (value_of value.entry)) }
         ensures full { IfErr result (λ stop. stop ≡ OutOfRoom →
-            bytes_in (self.old).texts + (self.old).left < bytes_in (firsts_behind (self.old).texts (value_of value.entry ∷ []))) }
+            bytes_in (self.old).texts + (self.old).left
+            < bytes_in (firsts_behind (self.old).texts (value_of value.entry ∷ []))) }
     {
         match value {
             ValueRef::Text(text) => self.place_of(text),
@@ -93,10 +98,12 @@ impl<'t> Found<'t> {
         requires few { length (self.old).texts < 2 ^ 31 }
         requires table { IsTable dictionary.now (self.old).texts table.old }
         requires within { index < length dictionary.now }
-        ensures found { IfOk result (λ place. Finds self.old self.new place (get_or dictionary.now index Null)) }
+        ensures found { IfOk result
+            (λ place. Finds self.old self.new place (get_or dictionary.now index Null)) }
         ensures table { OnOk result (IsTable dictionary.now (self.new).texts table.new) }
         ensures full { IfErr result (λ stop. stop ≡ OutOfRoom →
-            bytes_in (self.old).texts + (self.old).left < bytes_in (firsts_behind (self.old).texts (get_or dictionary.now index Null ∷ []))) }
+            bytes_in (self.old).texts + (self.old).left
+            < bytes_in (firsts_behind (self.old).texts (get_or dictionary.now index Null ∷ []))) }
     {
         let place = self.place_of_value(entry(dictionary, index))?;
         table[index] = place;
@@ -113,10 +120,12 @@ impl<'t> Found<'t> {
         requires few { length (self.old).texts < 2 ^ 31 }
         requires table { IsTable dictionary.now (self.old).texts table.old }
         requires within { index < length dictionary.now }
-        ensures found { IfOk result (λ place. Finds self.old self.new place (get_or dictionary.now index Null)) }
+        ensures found { IfOk result
+            (λ place. Finds self.old self.new place (get_or dictionary.now index Null)) }
         ensures table { OnOk result (IsTable dictionary.now (self.new).texts table.new) }
         ensures full { IfErr result (λ stop. stop ≡ OutOfRoom →
-            bytes_in (self.old).texts + (self.old).left < bytes_in (firsts_behind (self.old).texts (get_or dictionary.now index Null ∷ []))) }
+            bytes_in (self.old).texts + (self.old).left
+            < bytes_in (firsts_behind (self.old).texts (get_or dictionary.now index Null ∷ []))) }
     {
         let known = table[index];
         if known != NO_PLACE {
@@ -125,8 +134,8 @@ impl<'t> Found<'t> {
         self.meet(table, dictionary, index)
     }
 
-    /// Puts the places of a block's indices, none of which is null, as the table has them, and gives whether it had met all. Only
-    /// then they are these indices' places among the texts.
+    /// Puts the places of a block's indices, none of which is null, as the table has them, and
+    /// gives whether it had met all. Only then they are these indices' places among the texts.
     pub(crate) fn copy_known<E: IndexElement>(
         &self,
         table: &[u32],
@@ -135,10 +144,13 @@ impl<'t> Found<'t> {
     ) -> bool
         requires block { IsBlock E.WIDTH block.now }
         requires long { length packed.old ≡ 4 * (block.now).of.now.column.now.len }
-        requires coded { AreCodedTo (block.now).of.now.column.now (block.now).from self.now packed.old }
+        requires coded { AreCodedTo (block.now).of.now.column.now
+            (block.now).from self.now packed.old }
         requires table { IsTable (block.now).of.now.cells.dictionary (self.now).texts table.now }
-        ensures before { AreCodedTo (block.now).of.now.column.now (block.now).from self.now packed.new }
-        ensures known { IsTrue result → AreCodedTo (block.now).of.now.column.now (block.now).to self.now packed.new }
+        ensures before { AreCodedTo (block.now).of.now.column.now
+            (block.now).from self.now packed.new }
+        ensures known { IsTrue result →
+            AreCodedTo (block.now).of.now.column.now (block.now).to self.now packed.new }
     {
         let of = block.of;
         let (first, _count, _slots) = (of.column.first(), of.column.len(), of.cells.len());
@@ -152,7 +164,8 @@ impl<'t> Found<'t> {
         are_known
     }
 
-    /// The place of the value of an index, with a map in the stead of a table: it holds only indices that were met, and forgets none.
+    /// The place of the value of an index, with a map in the stead of a table: it holds only
+    /// indices that were met, and forgets none.
     pub(crate) fn place_of_far_index(
         &mut self,
         met: &mut IndexMap<usize, u32, HashSeed>,
@@ -162,10 +175,12 @@ impl<'t> Found<'t> {
         requires few { length (self.old).texts < 2 ^ 31 }
         requires met { AreMet dictionary.now (self.old).texts (get nat_eq met.old) }
         requires within { index < length dictionary.now }
-        ensures found { IfOk result (λ place. Finds self.old self.new place (get_or dictionary.now index Null)) }
+        ensures found { IfOk result
+            (λ place. Finds self.old self.new place (get_or dictionary.now index Null)) }
         ensures met { OnOk result (AreMet dictionary.now (self.new).texts (get nat_eq met.new)) }
         ensures full { IfErr result (λ stop. stop ≡ OutOfRoom →
-            bytes_in (self.old).texts + (self.old).left < bytes_in (firsts_behind (self.old).texts (get_or dictionary.now index Null ∷ []))) }
+            bytes_in (self.old).texts + (self.old).left
+            < bytes_in (firsts_behind (self.old).texts (get_or dictionary.now index Null ∷ []))) }
     {
         if let Some(place) = met.get(&index) {
             return Ok(*place);

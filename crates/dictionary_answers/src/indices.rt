@@ -1,6 +1,7 @@
 //! The indices of slots.
 
-ghost use Rattle.std.specs.Prelude.{◌≡◌, ◌≤◌, ◌<◌, ◌+◌, ◌*◌, ℕ, None, MatchOption, get_or, length, slice_get};
+ghost use Rattle.std.specs.Prelude.{◌≡◌, ◌≤◌, ◌<◌, ◌+◌, ◌*◌, ℕ, None, MatchOption, get_or, length};
+ghost use Rattle.std.specs.Prelude.{slice_get};
 ghost use Rattle.scan_base.specs.declared.value.Value.TheVariants.{Null};
 ghost use Rattle.arrays.specs.Number.{element_at, integer_at};
 ghost use Rattle.arrays.specs.Validity.{is_valid};
@@ -26,8 +27,8 @@ pub(crate) struct Block<'b, 't> {
     pub(crate) to: usize,
 }
 
-/// A type of numbers without a sign as which indices are read. A number that is not negative has the same bits in the type
-/// of its width that has a sign.
+/// A type of numbers without a sign as which indices are read. A number that is not negative has
+/// the same bits in the type of its width that has a sign.
 pub(crate) trait IndexElement {
     ghost WIDTH: { ℕ };
 
@@ -69,12 +70,14 @@ impl IndexElement for u64 {
     }
 }
 
-/// The index of a slot that is not null by its validity bit: it is that of a value of the dictionary.
+/// The index of a slot that is not null by its validity bit: it is that of a value of the
+/// dictionary.
 pub(crate) fn valid_index(cells: &Indices<'_>, slot: usize) -> Option<usize>
     requires { slot < (cells.now).len }
     ensures { MatchOption result (layout_slot (layout.Indices cells.now) slot ≡ Null)
         (λ index. (index < length (cells.now).dictionary)
-        × (layout_slot (layout.Indices cells.now) slot ≡ get_or (cells.now).dictionary index Null)) }
+        × (layout_slot (layout.Indices cells.now) slot
+        ≡ get_or (cells.now).dictionary index Null)) }
 {
     if is_valid(cells, slot) {
         index_at(cells, slot)
@@ -94,7 +97,8 @@ pub(crate) fn is_valid(cells: &Indices<'_>, slot: usize) -> bool
         None => true,
     }
 }
-// The index of a slot, where it is that of a value of the dictionary; as may not be where the slot is null.
+// The index of a slot, where it is that of a value of the dictionary; as may not be where the slot
+// is null.
 fn index_at(cells: &Indices<'_>, slot: usize) -> Option<usize>
     requires { slot < (cells.now).len }
     ensures { MatchOption result (entry_of cells.now slot ≡ None)

@@ -1,4 +1,5 @@
-//! Columns of texts as indices over dictionaries of their own texts.
+//! Columns of texts as indices over dictionaries of their own texts, and batches whose messages
+//! carry such columns with their dictionaries.
 #![tactic(auto)]
 
 pub mod batches;

@@ -3,7 +3,8 @@ use Rattle.std.specs.Prelude.{◌≡◌, ℕ, zero, suc, ◌+◌, ◌*◌, ◌/�
 use Rattle.scan_base.specs.Limits.{most_endpoints}
 use Rattle.endpoint_split.specs.declared.ranges.Range.{Range}
 
--- how many ranges: as many as parts, but no more than an info has endpoints, nor than rows, and at least one
+-- how many ranges: as many as parts, but no more than an info has endpoints, nor than rows, and at
+-- least one
 abbrev pub count_of : ℕ → ℕ → ℕ
 count_of rows parts = max (min (min parts most_endpoints) rows) 1
 

@@ -2,7 +2,8 @@
 
 ghost use Rattle.std.specs.Prelude.{◌≡◌, IfOk};
 ghost use Rattle.scan_base.specs.Reading.{Gives};
-ghost use Rattle.endpoint_split.specs.Handle.{handle_bytes, handle_of, Query, tables_behind, query_behind};
+ghost use Rattle.endpoint_split.specs.Handle.{handle_bytes, handle_of, Query, tables_behind};
+ghost use Rattle.endpoint_split.specs.Handle.{query_behind};
 ghost use Rattle.endpoint_split.specs.Seen.{handle_seen};
 
 use crate::ranges::Range;
@@ -29,8 +30,8 @@ pub enum Handle<'a> {
 ///
 /// # Errors
 ///
-/// `Fault::BadTicket` for another first byte than 1 and 2, a handle that is too short, bytes after a
-/// tables handle, and a query that is not UTF-8.
+/// `Fault::BadTicket` for another first byte than 1 and 2, a handle that is too short, bytes after
+/// a tables handle, and a query that is not UTF-8.
 pub fn read_handle(bytes: &[u8]) -> Result<Handle<'_>, Fault>
     ensures { Gives handle_seen result (handle_of bytes.now) }
 {
@@ -96,7 +97,8 @@ fn write_query(
     range: Range,
     query: &str,
 ) -> Result<Vec<u8>, AllocError>
-    ensures { IfOk result (λ bytes. bytes.items ≡ handle_bytes (Query version range.from range.to query.now)) }
+    ensures { IfOk result
+        (λ bytes. bytes.items ≡ handle_bytes (Query version range.from range.to query.now)) }
 {
     let mut bytes = Vec::with_capacity(alloc, query.len() + 17)?;
     bytes.push(1)?;

@@ -40,9 +40,9 @@ impl Ranges {
 // The most endpoints of an info.
 const MOST_ENDPOINTS: u32 = 64;
 
-/// Cuts rows into as many ranges as there are parts, but no more than 64, nor than there are rows, and at least
-/// one: range i of p is `i * rows / p` to `(i + 1) * rows / p`, rounded down. So of 0 parts, as of 1, it is one
-/// range of all rows. It takes no memory.
+/// Cuts rows into as many ranges as there are parts, but no more than 64, nor than there are rows,
+/// and at least one: range i of p is `i * rows / p` to `(i + 1) * rows / p`, rounded down. So of 0
+/// parts, as of 1, it is one range of all rows. It takes no memory.
 #[tactic(auto, unfolding(crate::specs::Split::ranges_of))]
 pub fn split(rows: u32, parts: u32) -> Ranges
     ensures exact { result ≡ ranges_of rows parts }

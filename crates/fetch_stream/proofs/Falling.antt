@@ -56,7 +56,7 @@ whole_of cutter source scan count begun refused is none nothing has = rw (is, no
 pub source_of : (source : Source) (scan : ScanAt) → source ≡ Scanned scan → IsSource source → IsSource (Scanned scan)
 source_of source scan is goes = subst IsSource is goes
 
--- the stream of a morsel, behind the payload of its schema
+-- the stream of a morsel, after the payload of its schema
 pub behind_part : (scan : ScanAt) (number : ℕ) (nothing : List Row) (morsel : ScanAt) (stream last : StreamAt) → nothing ≡ [] → morsel ≡ record (morsel_of scan number) { unseen = morsel.unseen }
     → stream ≡ record { schema = morsel.schema; begun = false; left = nothing ++ left morsel; given = 0; refused = None } → last ≡ record stream { begun = true }
     → last ≡ behind_schema scan.schema (morsel_rows scan number)

@@ -86,7 +86,7 @@ same_stream schema new left rest count more same rows counted = rw (same, rows, 
 pub cut_few : (cutter : Cutter) (source : Source) → IsGoing cutter source → rows_cut cutter source ≤ most_answer_rows
 cut_few cutter source is = omega (arith, is.within)
 
--- a turn behind the first one
+-- a turn after the first one
 pub gives_next : (patience : Patience) (cutter : Cutter) (source : Source) (given : Turn Parcel) (new_cutter : Cutter) (new : Source) (begun : Bool) → begun ≡ true
     → GivesRows patience cutter source (Ok given) new_cutter new
     → GivesTurn patience (stream_of (schema_behind source) begun (rows_left cutter source) (rows_cut cutter source)) (Ok given)

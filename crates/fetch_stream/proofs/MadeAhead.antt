@@ -36,7 +36,7 @@ stays_refused before after result fault is gives = by before.schema before.begun
 -- ---- one parcel more
 
 module _ (schema : Schema) (rows : List Row) (given : ℕ) (parcel : Parcel) (after : StreamAt) (gives : GivesParcel (behind schema rows given) parcel after) where
-  -- behind the next parcel a stream of these rows stands at the rows behind it
+  -- after the next parcel a stream of these rows stands at the rows after it
   pub next_stands : after ≡ behind schema rows after.given
   next_stands =
       let n = length gives.rows in

@@ -1,4 +1,4 @@
--- Zeros behind a buffer.
+-- Zeros after a buffer.
 use Rattle.std.proofs.Common.{◌≡◌, ◌≤◌, ℕ, zero, suc, List, [], ◌∷◌, ◌++◌, length, take, replicate, refl, ap, ◌∙◌, append_assoc, append-nil, arith}
 use Rattle.std.specs.List.{flat_map}
 use Rattle.std.proofs.lemmas.Grind.{flat_map-append}
@@ -10,7 +10,7 @@ zeros_taken zero n low = refl
 zeros_taken (suc z) zero low = absurd (omega (arith, low))
 zeros_taken (suc z) (suc n) low = ap (λ (l : List ℕ). 0 ∷ l) (zeros_taken z n (omega (arith, low)))
 
--- a buffer and its zeros behind other parts
+-- a buffer and its zeros after other parts
 pub parts_padded : (parts : List (List ℕ)) (buffer zeros : List ℕ) (new : List (List ℕ)) → new ≡ (parts ++ buffer ∷ []) ++ zeros ∷ [] → zeros ≡ padding (length buffer)
     → flat_map (λ part. part) new ≡ flat_map (λ part. part) parts ++ padded buffer
 parts_padded parts buffer zeros new pushed is =

@@ -22,7 +22,7 @@ parts_join a b c xs low high =
     sym (ap (λ n. take n (drop a xs)) (sym long) ∙ take-add (b - a) (c - b) (drop a xs)
     ∙ ap (λ rest. take (b - a) (drop a xs) ++ take (c - b) rest) (drop_more a (b - a) xs ∙ ap (λ n. drop n xs) there))
 
--- rows of a batch, and those behind them
+-- rows of a batch, and those after them
 pub cuts_join : BatchSlicesKeepRows → (batch : BatchAt) (from at to : ℕ) → from ≤ at → at ≤ to → to ≤ batch.rows
     → rows_of (cut_batch batch from at) ++ rows_of (cut_batch batch at to) ≡ rows_of (cut_batch batch from to)
 cuts_join keep batch from at to low high within =

@@ -126,7 +126,7 @@ answered schema types columns behind typed = record {
 
 -- ---- what a scan gives
 
--- where no text of the rows that are left is too long, none of a batch of them is, and none behind it
+-- where no text of the rows that are left is too long, none of a batch of them is, and none after it
 both_short : (rows rest all : List Row) → rows ++ rest ≡ all → list_any (list_any is_long_text) all ≡ false
     → (list_any (list_any is_long_text) rows ≡ false) × (list_any (list_any is_long_text) rest ≡ false)
 both_short rows rest all e short =

@@ -64,7 +64,7 @@ half_reaches schema cutter old same rows some within over = inr (
 
 -- ---- the next batch
 
--- none yet: the source is behind the same rows
+-- none yet: the source is after the same rows
 pub keeps_still : (cutter : Cutter) (source new : Source) → IsGoing cutter source → GivesNoneYet source new → Waits cutter source cutter new
 keeps_still cutter source new is none = record {
   keeps = record {

@@ -185,7 +185,7 @@ say_carried payloads messages schema rows e said = (e.all, e.read, subst (λ (se
 none_dressed : (schema : Schema) → AreDressed schema [] []
 none_dressed schema = record { dressings = []; are = refl; all = All-nil (IsDressed schema); whole = refl }
 
--- one more behind others
+-- one more after others
 more_dressed : (schema : Schema) (messages : List Sent) (rows : Rows) (d : Dressing) → AreDressed schema messages rows → IsDressed schema d
     → AreDressed schema (messages ++ (d.dictionaries ++ d.batch ∷ [])) (rows ++ d.rows)
 more_dressed schema messages rows d are is =
@@ -216,7 +216,7 @@ say_first payload schema s =
       some = All-nil HasRow;
     }
 
--- rows more, in a batch behind its dictionaries
+-- rows more, in a batch after its dictionaries
 pub say_more : (payloads : List Payload) (parcel : Parcel) (schema : Schema) (rows more : Rows) → SaysRows parcel schema more → 0 < length more
     → SayDressed payloads schema rows → SayDressed (payloads ++ parcel) schema (rows ++ more)
 unfolding say_carried more_dressed
@@ -298,7 +298,7 @@ short_each [] most short k d low = absurd (omega (arith, low))
 short_each (message ∷ messages) most short zero d low = omega (arith, short)
 short_each (message ∷ messages) most short (suc k) d low = short_each messages most (omega (arith, short)) k d (omega (arith, low))
 
--- one more behind them
+-- one more after them
 zip_more : (payloads : List Payload) (messages : List Sent) (payload : Payload) (message : Sent) → AllZip Carries payloads messages → Carries payload message
     → AllZip Carries (payloads ++ payload ∷ []) (messages ++ message ∷ [])
 zip_more [] [] payload message all is = (is, tt)

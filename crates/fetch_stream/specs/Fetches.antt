@@ -1,5 +1,6 @@
 -- What a handle shows by itself, and what it answers.
-use Rattle.std.specs.Prelude.{◌≡◌, ◌≤◌, ◌<◌, ◌⊎◌, ◌&&◌, ℕ, Bool, true, nat_le, All, List, [], ◌∷◌, length, map, take, Option, Some, None, Ok}
+use Rattle.std.specs.Prelude.{◌≡◌, ◌≤◌, ◌<◌, ◌⊎◌, ◌&&◌, ℕ, Bool, true, nat_le, All, List, [], ◌∷◌}
+use Rattle.std.specs.Prelude.{length, map, take, Option, Some, None, Ok}
 use Rattle.scan_base.specs.declared.fault.Fault.{Fault}
 use Rattle.scan_base.specs.declared.fault.Fault.TheVariants.{BadTicket, ResultTooLarge, OutOfMemory}
 use Rattle.scan_base.specs.Limits.{most_query_bytes, most_answer_rows}
@@ -48,14 +49,16 @@ MeansNothing database handle = (answer : Table) → HandleMeans database handle 
 abbrev pub HasRow : Dressing → Type 0
 HasRow dressing = 0 < length dressing.rows
 
--- A FlightData has only a header, field 2, and a body, field 1000: no descriptor, and no app_metadata.
+-- A FlightData has only a header, field 2, and a body, field 1000: no descriptor, and no
+-- app_metadata.
 abbrev pub IsBare : Payload → Type 0
 IsBare payload = (fields : List Entry) → fields_of payload ≡ Ok fields →
     All (λ field. (field.number ≡ 2) ⊎ (field.number ≡ 1000)) fields
 
--- Payloads say a schema and rows, each by only a header and a body. The schema's message says no more than it has to. After it
--- come record batches of one row or more, and right before each of them a dictionary for each column that is one, in the
--- columns' order: its id is the column's number, and its values the texts of that batch.
+-- Payloads say a schema and rows, each by only a header and a body. The schema's message says no
+-- more than it has to. After it come record batches of one row or more, and right before each of
+-- them a dictionary for each column that is one, in the columns' order: its id is the column's
+-- number, and its values the texts of that batch.
 pub record SayDressed (payloads : List Payload) (schema : Schema) (rows : List Row) : Type 0 where
   pub said : PayloadsSay payloads schema rows
   pub bare : All IsBare payloads
@@ -66,23 +69,27 @@ pub record SayDressed (payloads : List Payload) (schema : Schema) (rows : List R
   pub dressed : AreDressed schema behind rows
   pub some : All HasRow dressed.dressings
 
--- payloads say a beginning of an answer, or all of it, in the form of a whole answer, but no more rows than an answer may have
+-- payloads say a beginning of an answer, or all of it, in the form of a whole answer, but no more
+-- rows than an answer may have
 abbrev pub SayBeginning : List Payload → Table → Type 0
 SayBeginning payloads answer = (n : ℕ) × (n ≤ most_answer_rows) × (n ≤ length answer.rows)
     × SayDressed payloads answer.schema (take n answer.rows)
 
--- payloads are all of an answer: what the handle means, its rows cut into batches freely, each behind its dictionaries
-pub record IsAnswer (database : Database) (handle : HandleAt) (payloads : List Payload) : Type 0 where
+-- payloads are all of an answer: what the handle means, its rows cut into batches freely, each
+-- after its dictionaries
+pub record IsAnswer (database : Database) (handle : HandleAt)
+    (payloads : List Payload) : Type 0 where
   pub answer : Table
   pub means : HandleMeans database handle answer
   pub few : length answer.rows ≤ most_answer_rows
   pub said : SayDressed payloads answer.schema answer.rows
 
--- The answer to a handle at its version. Of an answer of too many rows it is a beginning, and where memory is refused there may
--- be one. A handle that means nothing is a bad ticket.
+-- The answer to a handle at its version. Of an answer of too many rows it is a beginning, and where
+-- memory is refused there may be one. A handle that means nothing is a bad ticket.
 abbrev pub FetchAt : Database → HandleAt → List Payload → Option Fault → Type 0
 FetchAt database handle payloads None = IsAnswer database handle payloads
-FetchAt database handle payloads (Some ResultTooLarge) = (answer : Table) × HandleMeans database handle answer
+FetchAt database handle payloads (Some ResultTooLarge) =
+    (answer : Table) × HandleMeans database handle answer
     × (most_answer_rows < length answer.rows) × SayBeginning payloads answer
 FetchAt database handle payloads (Some OutOfMemory) = (payloads ≡ [])
     ⊎ ((answer : Table) × HandleMeans database handle answer × SayBeginning payloads answer)

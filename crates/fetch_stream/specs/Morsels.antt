@@ -1,5 +1,6 @@
 -- A stream that falls into morsels: each is a stream of its own, and in order they are the whole.
-use Rattle.std.specs.Prelude.{◌≡◌, ℕ, Bool, true, false, List, [], ◌∷◌, get_or, None, Result, Ok, Err}
+use Rattle.std.specs.Prelude.{◌≡◌, ℕ, Bool, true, false, List, [], ◌∷◌, get_or, None, Result, Ok}
+use Rattle.std.specs.Prelude.{Err}
 use Rattle.std.specs.List.{flat_map}
 use Rattle.scan_base.specs.declared.fault.Fault.{Fault}
 use Rattle.scan_base.specs.declared.fault.Fault.TheVariants.{OutOfMemory}
@@ -16,11 +17,13 @@ pub record MorselsAt : Type 0 where
 
 -- all rows are still to come, before the payload of the schema
 abbrev pub before_schema : Schema → List Row → StreamAt
-before_schema schema rows = record { schema = schema; begun = false; left = rows; given = 0; refused = None }
+before_schema schema rows =
+    record { schema = schema; begun = false; left = rows; given = 0; refused = None }
 
--- all rows are still to come, behind it
+-- all rows are still to come, after it
 abbrev pub behind_schema : Schema → List Row → StreamAt
-behind_schema schema rows = record { schema = schema; begun = true; left = rows; given = 0; refused = None }
+behind_schema schema rows =
+    record { schema = schema; begun = true; left = rows; given = 0; refused = None }
 
 -- what the morsels are in order
 abbrev pub whole_stream : MorselsAt → StreamAt
@@ -36,7 +39,8 @@ whole_stream morsels = record {
 abbrev pub morsel_stream : MorselsAt → ℕ → StreamAt
 morsel_stream morsels number = behind_schema morsels.schema (get_or morsels.rows number [])
 
--- the payload of a schema, whatever rows come behind it, unless memory is refused
+-- the payload of a schema, whatever rows come after it, unless memory is refused
 abbrev pub GivesSchema : Schema → Result Payload Fault → Type 0
-GivesSchema schema (Ok payload) = (rows : List Row) → GivesParcel (before_schema schema rows) (payload ∷ []) (behind_schema schema rows)
+GivesSchema schema (Ok payload) = (rows : List Row) →
+    GivesParcel (before_schema schema rows) (payload ∷ []) (behind_schema schema rows)
 GivesSchema schema (Err fault) = fault ≡ OutOfMemory

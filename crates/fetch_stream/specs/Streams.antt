@@ -1,6 +1,8 @@
--- A stream of an answer's payloads: what is still to come, and what its calls give. Each call gives a parcel: the payload of
--- the schema, or those of the dictionaries of some rows, and behind them that of these rows.
-use Rattle.std.specs.Prelude.{◌≡◌, ◌≢◌, ◌≤◌, ◌<◌, ◌⊎◌, ℕ, ◌+◌, Bool, true, false, List, [], ◌++◌, length, map, Option, Some, None, Result, Ok, Err}
+-- A stream of an answer's payloads: what is still to come, and what its calls give. Each call gives
+-- a parcel: the payload of the schema, or those of the dictionaries of some rows, and after them
+-- that of these rows.
+use Rattle.std.specs.Prelude.{◌≡◌, ◌≢◌, ◌≤◌, ◌<◌, ◌⊎◌, ℕ, ◌+◌, Bool, true, false, List, [], ◌++◌}
+use Rattle.std.specs.Prelude.{length, map, Option, Some, None, Result, Ok, Err}
 use Rattle.scan_base.specs.declared.fault.Fault.{Fault}
 use Rattle.scan_base.specs.declared.fault.Fault.TheVariants.{BadTicket, ResultTooLarge, OutOfMemory}
 use Rattle.scan_base.specs.Limits.{most_answer_rows}
@@ -26,8 +28,8 @@ most_message_rows = 65536
 abbrev pub most_body_bytes : ℕ
 most_body_bytes = 8388608
 
--- what is still to come of an answer: its schema, and whether a payload has said it, and its rows; how many rows were given
--- before; and what refused the stream
+-- what is still to come of an answer: its schema, and whether a payload has said it, and its rows;
+-- how many rows were given before; and what refused the stream
 pub record StreamAt : Type 0 where
   pub schema : Schema
   pub begun : Bool
@@ -46,7 +48,8 @@ Parcel = List Payload
 
 -- all of an answer is still to come
 abbrev pub opened : Table → StreamAt
-opened answer = record { schema = answer.schema; begun = false; left = answer.rows; given = 0; refused = None }
+opened answer =
+    record { schema = answer.schema; begun = false; left = answer.rows; given = 0; refused = None }
 
 -- The stream of a handle, or why there is none: a handle that means nothing is a bad ticket.
 abbrev pub Opens : Database → HandleAt → Result StreamAt Fault → Type 0
@@ -56,7 +59,8 @@ Opens database handle (Err BadTicket) = MeansNothing database handle
 Opens database handle (Err OutOfMemory) = Unit {0}
 Opens database handle (Err _) = ⊥
 
--- the payloads that a stream has given say these rows behind its schema, each batch of them right behind its dictionaries
+-- the payloads that a stream has given say these rows after its schema, each batch of them right
+-- after its dictionaries
 abbrev pub SaySoFar : StreamAt → List Payload → List Row → Type 0
 SaySoFar stream payloads rows = so_far stream.begun
   where
@@ -69,9 +73,9 @@ abbrev pub HaveShortBodies : List Payload → Type 0
 HaveShortBodies payloads = (all : List DataSaid) × (each data_of payloads ≡ Ok all)
     × (bodies_length (map message_in all) ≤ most_body_bytes)
 
--- The next parcel: the schema's payload, and then one row or more behind their dictionaries. With those before it, it says them
--- behind theirs. A message has no more rows and bytes than it may have, nor have its body and those of its dictionaries
--- together; and an answer has no more rows.
+-- The next parcel: the schema's payload, and then one row or more after their dictionaries. With
+-- those before it, it says them after theirs. A message has no more rows and bytes than it may
+-- have, nor have its body and those of its dictionaries together; and an answer has no more rows.
 pub record GivesParcel (before : StreamAt) (parcel : Parcel) (after : StreamAt) : Type 0 where
   pub rows : List Row
   pub said : (payloads : List Payload) (given : List Row) → SaySoFar before payloads given →
@@ -87,10 +91,11 @@ pub record GivesParcel (before : StreamAt) (parcel : Parcel) (after : StreamAt) 
   pub begun : after.begun ≡ true
   pub refused : after.refused ≡ None
 
--- Why a stream may be refused: memory, or, behind its schema, more rows than an answer has.
+-- Why a stream may be refused: memory, or, after its schema, more rows than an answer has.
 abbrev pub MayRefuse : StreamAt → Fault → Type 0
 MayRefuse before fault = (fault ≡ OutOfMemory)
-    ⊎ ((fault ≡ ResultTooLarge) × (before.begun ≡ true) × (most_answer_rows < before.given + length before.left))
+    ⊎ ((fault ≡ ResultTooLarge) × (before.begun ≡ true)
+    × (most_answer_rows < before.given + length before.left))
 
 -- What a call gives. What refused a stream is answered from then on.
 abbrev pub Gives : StreamAt → Result (Option Parcel) Fault → StreamAt → Type 0
@@ -102,11 +107,12 @@ Gives before result after = going before.refused result
     going None (Ok None) = (before.begun ≡ true) × (before.left ≡ []) × (after ≡ before)
     going None (Err fault) = MayRefuse before fault × (after.refused ≡ Some fault)
 
--- What a turn gives: what a call gives, or nothing yet, of a stream that was not refused, where its patience has an end. Then
--- the same is still to come.
+-- What a turn gives: what a call gives, or nothing yet, of a stream that was not refused, where its
+-- patience has an end. Then the same is still to come.
 abbrev pub GivesTurn : Patience → StreamAt → Result (Turn Parcel) Fault → StreamAt → Type 0
 GivesTurn patience before (Ok (Given parcel)) after = Gives before (Ok (Some parcel)) after
-GivesTurn patience before (Ok Working) after = (before.refused ≡ None) × (after ≡ before) × (patience ≢ Endless)
+GivesTurn patience before (Ok Working) after =
+    (before.refused ≡ None) × (after ≡ before) × (patience ≢ Endless)
 GivesTurn patience before (Ok End) after = Gives before (Ok None) after
 GivesTurn patience before (Err fault) after = Gives before (Err fault) after
 
@@ -124,15 +130,17 @@ pub record HasGiven (answer : Table) (payloads : List Payload) (stream : StreamA
   pub all : rows ++ stream.left ≡ answer.rows
   pub schema : stream.schema ≡ answer.schema
 
--- What a stream of an answer gives, call by call, is the answer: all of it where nothing is left, and a beginning of it where
--- the stream is refused.
+-- What a stream of an answer gives, call by call, is the answer: all of it where nothing is left,
+-- and a beginning of it where the stream is refused.
 pub record StreamsAnswer : Type 0 where
   pub begin : (answer : Table) → HasGiven answer [] (opened answer)
-  pub go_on : (answer : Table) (payloads : List Payload) (before after : StreamAt) (parcel : Parcel) →
-      HasGiven answer payloads before → GivesParcel before parcel after → HasGiven answer (payloads ++ parcel) after
-  pub end : (database : Database) (handle : HandleAt) (answer : Table) (payloads : List Payload) (stream : StreamAt) →
-      HandleMeans database handle answer → HasGiven answer payloads stream →
+  pub go_on : (answer : Table) (payloads : List Payload) (before after : StreamAt)
+      (parcel : Parcel) → HasGiven answer payloads before → GivesParcel before parcel after →
+      HasGiven answer (payloads ++ parcel) after
+  pub end : (database : Database) (handle : HandleAt) (answer : Table) (payloads : List Payload)
+      (stream : StreamAt) → HandleMeans database handle answer → HasGiven answer payloads stream →
       stream.begun ≡ true → stream.left ≡ [] → FetchAt database handle payloads None
-  pub refused : (database : Database) (handle : HandleAt) (answer : Table) (payloads : List Payload) (stream : StreamAt)
+  pub refused : (database : Database) (handle : HandleAt) (answer : Table) (payloads : List Payload)
+      (stream : StreamAt)
       (fault : Fault) → HandleMeans database handle answer → HasGiven answer payloads stream →
       MayRefuse stream fault → FetchAt database handle payloads (Some fault)

@@ -34,8 +34,8 @@ struct Turns {
     most: usize,
 }
 
-/// The parcels of a morsel: those that were made ahead, and behind them the others, each of which is made when it is asked
-/// for. A contract sees a stream that has begun: it says no schema.
+/// The parcels of a morsel: those that were made ahead, and after them the others, each of which is
+/// made when it is asked for. A contract sees a stream that has begun: it says no schema.
 pub struct Ahead<'s> {
     scan: &'s Scan,
     number: usize,
@@ -65,8 +65,9 @@ impl<'s> Model for Ahead<'s> {
       refused = a.refused;
     } };
 
-    ghost invariant = { λ a. (a.given ≤ a.taken) × (a.taken ≤ length (morsel_rows a.scan.now a.number))
-        × (a.refused ≡ None → AreAhead a.scan.now.schema (morsel_rows a.scan.now a.number) a.given a.made.items a.rest) };
+    ghost invariant = { λ a. (a.given ≤ a.taken)
+        × (a.taken ≤ length (morsel_rows a.scan.now a.number)) × (a.refused ≡ None →
+        AreAhead a.scan.now.schema (morsel_rows a.scan.now a.number) a.given a.made.items a.rest) };
 }
 
 // Written out, so that dropping it is one call (docs/DECISIONS.md).
@@ -93,8 +94,8 @@ impl<'s> Ahead<'s> {
         self.given
     }
 
-    /// How many rows were taken of the morsel's scan: those that were given, and behind them the others of the batch of which
-    /// the last parcel is a part.
+    /// How many rows were taken of the morsel's scan: those that were given, and after them the
+    /// others of the batch of which the last parcel is a part.
     pub fn taken(&self) -> usize
         ensures given { self.now.given ≤ result }
         ensures there { result ≤ self.now.given + length self.now.left }
@@ -102,13 +103,14 @@ impl<'s> Ahead<'s> {
         self.taken
     }
 
-    /// A turn to the next parcel. `Turn::Working` where none of the rows is given that the turn looked at: then the same is
-    /// still to come, and the next turn goes on behind them.
+    /// A turn to the next parcel. `Turn::Working` where none of the rows is given that the turn
+    /// looked at: then the same is still to come, and the next turn goes on after them.
     ///
     /// # Errors
     ///
-    /// F20 (`Fault::ResultTooLarge`) where the morsel has more than 67,108,864 rows; F21 (`Fault::OutOfMemory`) where memory is
-    /// refused, or was when parcels were made ahead. What refuses it is answered from then on.
+    /// F20 (`Fault::ResultTooLarge`) where the morsel has more than 67,108,864 rows; F21
+    /// (`Fault::OutOfMemory`) where memory is refused, or was when parcels were made ahead. What
+    /// refuses it is answered from then on.
     pub fn turn(&mut self, alloc: Global, patience: Patience) -> Result<Turn<Parcel>, Fault>
         ensures { GivesTurn patience self.old result self.new }
     {
@@ -142,9 +144,10 @@ impl<'s> Ahead<'s> {
         make_more(&turns, &mut self.made, &mut self.bytes, &mut self.rest);
     }
 
-    /// Makes parcels ahead for so many turns of the stream at most (`Morsels::turns_ahead`), until there are 16 or they have 8,388,608
-    /// bytes. A turn looks at 65,536 rows, and the rest of a piece. Whether there is more to be made ahead then. The same is still to come. What refuses a parcel is answered behind those
-    /// that were made before.
+    /// Makes parcels ahead for so many turns of the stream at most (`Morsels::turns_ahead`), until
+    /// there are 16 or they have 8,388,608 bytes. A turn looks at 65,536 rows, and the rest of a
+    /// piece. Whether there is more to be made ahead then. The same is still to come. What refuses
+    /// a parcel is answered after those that were made before.
     pub fn go_on(&mut self, alloc: Global, turns: usize) -> bool
         ensures { self.new ≡ self.old }
     {
@@ -164,7 +167,8 @@ fn turn_of_made(
     made: &mut VecDeque<Made>,
     rest: &mut Option<FetchStream>,
 ) -> Result<Turn<Made>, Fault>
-    ensures { (schema : Schema) (rows : List Row) (given : ℕ) → AreAhead schema rows given made.old.items rest.old →
+    ensures { (schema : Schema) (rows : List Row) (given : ℕ) →
+        AreAhead schema rows given made.old.items rest.old →
         GivesMade patience schema rows given result made.new.items rest.new }
 {
     if let Some(first) = made.pop_front() {
@@ -197,14 +201,16 @@ fn make_next(
     }))
 }
 
-// Makes parcels of a stream ahead for so many turns, as many as there is room for. Whether there is more to be made ahead then.
+// Makes parcels of a stream ahead for so many turns, as many as there is room for. Whether there is
+// more to be made ahead then.
 fn make_ahead(
     turns: &Turns,
     made: &mut VecDeque<Made>,
     bytes: &mut usize,
     rest: &mut FetchStream,
 ) -> bool
-    ensures { (schema : Schema) (rows : List Row) (given : ℕ) → AreAhead schema rows given made.old.items (Some rest.old) →
+    ensures { (schema : Schema) (rows : List Row) (given : ℕ) →
+        AreAhead schema rows given made.old.items (Some rest.old) →
         AreAhead schema rows given made.new.items (Some rest.new) }
 {
     let mut left = turns.most;
@@ -230,7 +236,8 @@ fn make_more(
     bytes: &mut usize,
     rest: &mut Option<FetchStream>,
 ) -> bool
-    ensures { (schema : Schema) (rows : List Row) (given : ℕ) → AreAhead schema rows given made.old.items rest.old →
+    ensures { (schema : Schema) (rows : List Row) (given : ℕ) →
+        AreAhead schema rows given made.old.items rest.old →
         AreAhead schema rows given made.new.items rest.new }
 {
     match rest {
@@ -256,7 +263,8 @@ pub(crate) fn made_ahead<'s>(
     number: usize,
     stream: Result<FetchStream, AllocError>,
 ) -> Ahead<'s>
-    requires { IfOk stream (λ stream. stream.stream ≡ behind_schema scan.now.schema (morsel_rows scan.now number)) }
+    requires { IfOk stream
+        (λ stream. stream.stream ≡ behind_schema scan.now.schema (morsel_rows scan.now number)) }
     ensures { result ≡ behind_schema scan.now.schema (morsel_rows scan.now number) }
 {
     let made = room_ahead(alloc);

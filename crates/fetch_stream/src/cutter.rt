@@ -50,8 +50,8 @@ impl Cutter {
         }
     }
 
-    /// The next rows as a parcel: as many as a message may have. Where the bodies of its payloads would have too many bytes, it
-    /// has half as many rows, down to one.
+    /// The next rows as a parcel: as many as a message may have. Where the bodies of its payloads
+    /// would have too many bytes, it has half as many rows, down to one.
     ///
     /// # Errors
     ///

@@ -27,11 +27,13 @@ pub trait Payloads {
     ///
     /// # Errors
     ///
-    /// F20 (`Fault::ResultTooLarge`) where the answer has more than 67,108,864 rows, behind a beginning of it; F21
-    /// (`Fault::OutOfMemory`) where memory is refused. What refuses payloads is answered from then on.
+    /// F20 (`Fault::ResultTooLarge`) where the answer has more than 67,108,864 rows, after a
+    /// beginning of it; F21 (`Fault::OutOfMemory`) where memory is refused. What refuses payloads
+    /// is answered from then on.
     fn turn(&mut self, alloc: Global, patience: Patience) -> Result<Turn<Parcel>, Fault>
         ensures turns { GivesTurn patience (stream self.old) result (stream self.new) }
-        ensures looks { waits self.old ⊎ LooksFor patience result (unseen self.old) (unseen self.new) };
+        ensures looks { waits self.old
+            ⊎ LooksFor patience result (unseen self.old) (unseen self.new) };
 }
 
 impl Payloads for FetchStream {
@@ -64,9 +66,11 @@ pub trait ReadsPayloads {
         ensures { reads self.old (P.stream payloads.old) result self.new };
 }
 
-/// Who makes the payloads of a fetch: the thread that reads them, or others beside it. What is read is the same.
+/// Who makes the payloads of a fetch: the thread that reads them, or others next to it. What is
+/// read is the same.
 pub trait Executor {
-    /// Has the payloads of a stream made, as many workers as it asks for helping at most, and read by this reader.
+    /// Has the payloads of a stream made, as many workers as it asks for helping at most, and read
+    /// by this reader.
     ///
     /// # Errors
     ///
@@ -80,8 +84,8 @@ pub trait Executor {
         requires { S.takes reader.old }
         ensures { S.reads reader.old stream.stream result reader.new };
 
-    /// Has what a stream needs before its rows made: the groups of a grouped query. Who watches may end it. What it gives is the
-    /// same, made or not.
+    /// Has what a stream needs before its rows made: the groups of a grouped query. Who watches may
+    /// end it. What it gives is the same, made or not.
     ///
     /// # Errors
     ///
@@ -98,7 +102,8 @@ pub trait Executor {
         ensures watched { W.watched watch.old watch.new };
 }
 
-/// The thread that reads makes each payload itself, when it is asked for, however many workers a stream asks for.
+/// The thread that reads makes each payload itself, when it is asked for, however many workers a
+/// stream asks for.
 #[derive(Clone, Copy, Debug, Drop)]
 pub struct OneWorker;
 

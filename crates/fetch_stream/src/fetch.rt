@@ -14,8 +14,8 @@ use scan_base::Fault;
 ///
 /// # Errors
 ///
-/// F4 (`Fault::BadProto`) where the Ticket does not read. F17 (`Fault::BadTicket`) where what it holds is no
-/// Any of a TicketStatementQuery, and for a malformed handle.
+/// F4 (`Fault::BadProto`) where the Ticket does not read. F17 (`Fault::BadTicket`) where what it
+/// holds is no Any of a TicketStatementQuery, and for a malformed handle.
 #[tactic(auto, unfolding(flight_info::specs::Infos::handle_asked))]
 pub fn read_ticket(ticket: &[u8]) -> Result<Handle<'_>, Fault>
     ensures { Gives handle_seen result (handle_asked ticket.now) }

@@ -2,7 +2,8 @@
 
 ghost use Rattle.fetch_stream.specs.Streams.{StreamsAnswer};
 
-/// What a stream has given, call by call, answers its handle: at its end whole, and else a beginning.
+/// What a stream has given, call by call, answers its handle: at its end whole, and else a
+/// beginning.
 pub fn streams_answer()
     ensures { StreamsAnswer }
 {}

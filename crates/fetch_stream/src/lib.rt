@@ -1,7 +1,7 @@
 //! The answer to a fetch: the rows of a handle at its version, as messages.
 //!
-//! `specs/Fetches.antt` says what a fetch shows, and what its handle answers; `specs/Streams.antt` what a stream gives of
-//! an answer, one payload at a time.
+//! `specs/Fetches.antt` says what a fetch shows, and what its handle answers; `specs/Streams.antt`
+//! what a stream gives of an answer, one payload at a time.
 #![tactic(auto)]
 
 pub mod ahead;

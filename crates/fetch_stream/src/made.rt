@@ -2,7 +2,8 @@
 
 use crate::parcel::Parcel;
 
-// A parcel that was made ahead, how many rows of its morsel are given with it, and how many were taken of the scan.
+// A parcel that was made ahead, how many rows of its morsel are given with it, and how many were
+// taken of the scan.
 #[derive(Drop)]
 pub(crate) struct Made {
     pub(crate) parcel: Parcel,

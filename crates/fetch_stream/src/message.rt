@@ -1,6 +1,7 @@
-//! The messages of an answer: its schema, and batches behind their dictionaries.
+//! The messages of an answer: its schema, and batches after their dictionaries.
 
-ghost use Rattle.std.specs.Prelude.{◌≡◌, ◌≤◌, ◌<◌, ◌+◌, ◌++◌, ◌∷◌, [], All, length, map, None, IfOk, IfSome, MatchOption};
+ghost use Rattle.std.specs.Prelude.{◌≡◌, ◌≤◌, ◌<◌, ◌+◌, ◌++◌, ◌∷◌, [], All, length, map, None};
+ghost use Rattle.std.specs.Prelude.{IfOk, IfSome, MatchOption};
 ghost use Rattle.std.specs.List.{AllZip};
 ghost use Rattle.scan_base.specs.Limits.{most_columns, most_message_bytes, most_values};
 ghost use Rattle.arrow_schema.specs.Schema.{IsSchema};
@@ -12,7 +13,8 @@ ghost use Rattle.dictionary_answers.specs.Lengths.{bodies_length, dressed_length
 ghost use Rattle.fetch_stream.specs.Morsels.{GivesSchema};
 ghost use Rattle.fetch_stream.specs.Streams.{most_body_bytes};
 ghost use Rattle.fetch_stream.specs.inside.Ahead.{AnsweredAs};
-ghost use Rattle.fetch_stream.specs.inside.Written.{Carries, CarryDressed, IsShort, SaysRows, SaysSchema, SaysWritten};
+ghost use Rattle.fetch_stream.specs.inside.Written.{Carries, CarryDressed, IsShort, SaysRows};
+ghost use Rattle.fetch_stream.specs.inside.Written.{SaysSchema, SaysWritten};
 
 use crate::parcel::Parcel;
 use crate::payload::{Payload, body_parts};
@@ -26,8 +28,8 @@ use ipc_batch::{SizedBatch, WrittenMessage};
 use scan_base::Fault;
 use std::alloc::{AllocError, Global};
 
-// The most bytes of the bodies of a batch and of its dictionaries. Those of one row have fewer: at most 64 texts of at most
-// 65,536 bytes.
+// The most bytes of the bodies of a batch and of its dictionaries. Those of one row have fewer: at
+// most 64 texts of at most 65,536 bytes.
 const MOST_BODY_BYTES: usize = 8_388_608;
 
 /// Whence memory is taken, and what the hashes of texts begin with.
@@ -95,7 +97,8 @@ fn message_payloads(
     messages: Vec<WrittenMessage>,
 ) -> Result<Vec<Payload>, AllocError>
     requires short { All IsShort (map written_seen messages.items) }
-    ensures carry { IfOk result (λ payloads. AllZip Carries payloads.items (map written_seen messages.items)) }
+    ensures carry { IfOk result
+        (λ payloads. AllZip Carries payloads.items (map written_seen messages.items)) }
     ensures fits { IfOk result (λ payloads. FitMessages payloads.items) }
 {
     let mut payloads = Vec::with_capacity(alloc, messages.len().saturating_add(1))?;
@@ -105,7 +108,7 @@ fn message_payloads(
     Ok(payloads)
 }
 
-// How many bytes a body may have beside those of these messages: `None` where they have too many.
+// How many bytes a body may have next to those of these messages: `None` where they have too many.
 fn room_beside(messages: &[WrittenMessage]) -> Option<usize>
     ensures { MatchOption result (most_body_bytes < bodies_length (map written_seen messages.now))
         (λ room. bodies_length (map written_seen messages.now) + room ≡ most_body_bytes) }
@@ -121,15 +124,18 @@ fn room_beside(messages: &[WrittenMessage]) -> Option<usize>
     Some(room)
 }
 
-// The payloads of a batch and of its dictionaries, which come before it, or nothing where their bodies would have too many
-// bytes.
+// The payloads of a batch and of its dictionaries, which come before it, or nothing where their
+// bodies would have too many bytes.
 fn dressed_parcel(alloc: Global, dressed: DressedBatch) -> Result<Option<Parcel>, AllocError>
     requires few { length dressed.batch.columns ≤ most_columns }
-    requires short { All (λ sent. length sent.header ≤ most_header_bytes) (map written_seen dressed.dictionaries.items) }
-    ensures carry { IfOk result (λ found. IfSome found (λ parcel. CarryDressed parcel (map written_seen dressed.dictionaries.items) dressed.batch)) }
+    requires short { All (λ sent. length sent.header ≤ most_header_bytes)
+        (map written_seen dressed.dictionaries.items) }
+    ensures carry { IfOk result (λ found. IfSome found (λ parcel. CarryDressed parcel
+        (map written_seen dressed.dictionaries.items) dressed.batch)) }
     ensures fits { IfOk result (λ found. IfSome found FitMessages) }
     ensures long { IfOk result (λ found. found ≡ None →
-        most_body_bytes < bodies_length (map written_seen dressed.dictionaries.items) + body_length dressed.batch) }
+        most_body_bytes
+        < bodies_length (map written_seen dressed.dictionaries.items) + body_length dressed.batch) }
 {
     let DressedBatch {
         dictionaries,
@@ -149,8 +155,9 @@ fn dressed_parcel(alloc: Global, dressed: DressedBatch) -> Result<Option<Parcel>
     }
 }
 
-/// The payloads of a batch: one for each column that is answered as a dictionary, of the texts that the batch holds, and behind
-/// them that of its rows. Nothing where their bodies would have too many bytes.
+/// The payloads of a batch: one for each column that is answered as a dictionary, of the texts that
+/// the batch holds, and after them that of its rows. Nothing where their bodies would have too many
+/// bytes.
 pub(crate) fn batch_parcel(
     writing: Writing,
     schema: &Schema,
@@ -159,7 +166,8 @@ pub(crate) fn batch_parcel(
     requires few { length batch.now.columns ≤ most_columns }
     requires rows { batch.now.rows ≤ most_values }
     requires answered { AnsweredAs schema.now batch.now.columns }
-    ensures said { IfOk result (λ found. IfSome found (λ parcel. SaysRows parcel schema.now (rows_of batch.now))) }
+    ensures said { IfOk result
+        (λ found. IfSome found (λ parcel. SaysRows parcel schema.now (rows_of batch.now))) }
     ensures fits { IfOk result (λ found. IfSome found FitMessages) }
     ensures long { IfOk result (λ found. found ≡ None →
         most_body_bytes < dressed_length schema.now.fields batch.now.columns) }

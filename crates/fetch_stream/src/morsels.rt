@@ -17,10 +17,11 @@ use scan_exec::Scan;
 use std::alloc::{AllocError, Global};
 use std::marker::Model;
 
-/// The morsels of a stream of which no row was given. The payloads of each can be made apart from those of the others, also
-/// by several threads. Behind the payload of the schema, those of all morsels in order are what the stream gives, as long as
-/// it has no more rows than an answer may: who reads them counts their rows. A contract sees the schema, whether a payload has
-/// said it, and the rows of each morsel.
+/// The morsels of a stream of which no row was given. The payloads of each can be made apart from
+/// those of the others, also by several threads. After the payload of the schema, those of all
+/// morsels in order are what the stream gives, as long as it has no more rows than an answer may:
+/// who reads them counts their rows. A contract sees the schema, whether a payload has said it, and
+/// the rows of each morsel.
 pub struct Morsels<'s> {
     scan: &'s Scan,
     count: usize,
@@ -28,7 +29,8 @@ pub struct Morsels<'s> {
     making: MakingMorsels,
 }
 
-// What the hashes of texts begin with, and how many turns of a morsel's stream are one turn of making ahead.
+// What the hashes of texts begin with, and how many turns of a morsel's stream are one turn of
+// making ahead.
 #[derive(Clone, Copy, Drop)]
 pub(crate) struct MakingMorsels {
     pub(crate) seed: HashSeed,
@@ -91,8 +93,8 @@ impl<'s> Morsels<'s> {
         self.begun
     }
 
-    /// How many turns of a morsel's stream are one turn of making ahead (`Ahead::go_on`): fewer where the filters compare much.
-    /// Contracts say nothing of it.
+    /// How many turns of a morsel's stream are one turn of making ahead (`Ahead::go_on`): fewer
+    /// where the filters compare much. Contracts say nothing of it.
     pub fn turns_ahead(&self) -> usize {
         self.making.turns
     }
@@ -108,8 +110,9 @@ impl<'s> Morsels<'s> {
         Ok(schema_payload(alloc, self.scan.schema())?)
     }
 
-    /// A morsel, counted from 0, as a stream of its own, behind the payload of the schema. Its payloads are made when they are
-    /// asked for, or ahead (`Ahead::go_on`). What refuses it, as memory that is refused here, is answered by it.
+    /// A morsel, counted from 0, as a stream of its own, after the payload of the schema. Its
+    /// payloads are made when they are asked for, or ahead (`Ahead::go_on`). What refuses it, as
+    /// memory that is refused here, is answered by it.
     pub fn ahead(&self, alloc: Global, number: usize) -> Ahead<'s>
         requires { number < length self.now.rows }
         ensures { result ≡ morsel_stream self.now number }
@@ -127,7 +130,8 @@ impl<'s> Morsels<'s> {
 // The stream of a morsel of a scan, before its first row.
 fn morsel_rest(writing: Writing, scan: &Scan, number: usize) -> Result<FetchStream, AllocError>
     requires falls { (count : ℕ) × FallsInto scan.now count × (number < count) }
-    ensures { IfOk result (λ stream. stream.stream ≡ behind_schema scan.now.schema (morsel_rows scan.now number)) }
+    ensures { IfOk result
+        (λ stream. stream.stream ≡ behind_schema scan.now.schema (morsel_rows scan.now number)) }
 {
     let Writing { alloc, seed } = writing;
     let morsel = scan.morsel(alloc, number)?;

@@ -1,7 +1,9 @@
 //! Openings: what a handle means, before a row of it is read.
 
-ghost use Rattle.std.specs.Prelude.{◌≡◌, ◌≢◌, ◌≤◌, true, false, length, nat_le, Err, IfOk, IfErr, OnOk};
-ghost use Rattle.scan_base.specs.declared.fault.Fault.TheVariants.{BadTicket, LimitReached, OutOfMemory};
+ghost use Rattle.std.specs.Prelude.{◌≡◌, ◌≢◌, ◌≤◌, true, false, length, nat_le, Err, IfOk, IfErr};
+ghost use Rattle.std.specs.Prelude.{OnOk};
+ghost use Rattle.scan_base.specs.declared.fault.Fault.TheVariants.{BadTicket, LimitReached};
+ghost use Rattle.scan_base.specs.declared.fault.Fault.TheVariants.{OutOfMemory};
 ghost use Rattle.scan_base.specs.Limits.{most_query_bytes};
 ghost use Rattle.scan_base.specs.Reading.{RefusesFirst, demand};
 ghost use Rattle.endpoint_split.specs.Seen.{handle_seen};
@@ -38,10 +40,11 @@ use work_watch::{Watches, comparisons_in};
 // How many rows of a place are joined or grouped in no time that shows.
 const FEW_ROWS: usize = 64;
 
-// Behind how many rows who watches long work looks at the client.
+// After how many rows who watches long work looks at the client.
 const LOOKED_ROWS: usize = 1_048_576;
 
-// A query that is planned, the range of its first place that is scanned, and what the hashes of its keys begin with.
+// A query that is planned, the range of its first place that is scanned, and what the hashes of its
+// keys begin with.
 pub(crate) struct PlannedScan {
     pub(crate) seed: HashSeed,
     pub(crate) plan: TypedPlan,
@@ -77,9 +80,9 @@ impl Drop for Meaning {
     }
 }
 
-/// What a handle means, before a row of it is read. Its first payload can be told at once, and making its stream may take long:
-/// batches are judged by their statistics then, and the further places of a join are read and hashed. A contract sees the stream,
-/// of which nothing was given.
+/// What a handle means, before a row of it is read. Its first payload can be told at once, and
+/// making its stream may take long: batches are judged by their statistics then, and the further
+/// places of a join are read and hashed. A contract sees the stream, of which nothing was given.
 pub struct Opening {
     meaning: Meaning,
     // How its payloads may be made.
@@ -127,16 +130,17 @@ impl Opening {
         Opening { meaning, work }
     }
 
-    /// What a handle means at a version of the catalog. The list of tables has a row for each table of this
-    /// version, in byte order of the names. So many workers may make the parcels, if an executor lets them: what its stream
-    /// gives is the same for any number.
+    /// What a handle means at a version of the catalog. The list of tables has a row for each table
+    /// of this version, in byte order of the names. So many workers may make the parcels, if an
+    /// executor lets them: what its stream gives is the same for any number.
     ///
     /// # Errors
     ///
-    /// F17 (`Fault::BadTicket`) where the query does not parse or is not bound at this version, or the range is not within the
-    /// rows of its first place. Also where the query makes groups and the range is not all of them, so never for the list of
-    /// tables. F21 (`Fault::OutOfMemory`) where memory is refused, but neither for a query of more than 16,384 bytes nor for a
-    /// range that ends before it begins.
+    /// F17 (`Fault::BadTicket`) where the query does not parse or is not bound at this version, or
+    /// the range is not within the rows of its first place. Also where the query makes groups and
+    /// the range is not all of them, so never for the list of tables. F21 (`Fault::OutOfMemory`)
+    /// where memory is refused, but neither for a query of more than 16,384 bytes nor for a range
+    /// that ends before it begins.
     pub fn new(
         alloc: Global,
         snapshot: &Snapshot,
@@ -155,7 +159,7 @@ impl Opening {
         Ok(opening.with_work(work))
     }
 
-    /// The payload of the schema, behind which the stream is `FetchStream::behind_schema`.
+    /// The payload of the schema, after which the stream is `FetchStream::behind_schema`.
     ///
     /// # Errors
     ///
@@ -167,8 +171,9 @@ impl Opening {
         said_schema(alloc, schema_of(&self.meaning))
     }
 
-    /// Whether its second payload may come late. It joins or makes groups, and a place has more than 64 rows; or the judging of its
-    /// batches counts as more than 1,048,576 rows; or the filters compare more than 64 times for a row. Contracts say nothing of it.
+    /// Whether its second payload may come late. It joins or makes groups, and a place has more
+    /// than 64 rows; or the judging of its batches counts as more than 1,048,576 rows; or the
+    /// filters compare more than 64 times for a row. Contracts say nothing of it.
     pub fn takes_long(&self) -> bool {
         match &self.meaning {
             Meaning::Planned(scan) => self.work.compares_much() || scan.takes_long(),
@@ -176,7 +181,8 @@ impl Opening {
         }
     }
 
-    /// The stream. Batches are judged by their statistics here, and the further places of a join are read. Who watches may end it then.
+    /// The stream. Batches are judged by their statistics here, and the further places of a join
+    /// are read. Who watches may end it then.
     ///
     /// # Errors
     ///
@@ -226,7 +232,8 @@ impl PlannedScan {
     fn stream<W: Watches>(self, alloc: Global, watch: &mut W) -> Result<FetchStream, AllocError>
         requires schema { IsSchema self.plan.schema }
         requires ready { W.ready watch.old }
-        ensures stream { IfOk result (λ stream. stream.stream ≡ before_schema self.plan.schema (rows_meant self)) }
+        ensures stream { IfOk result
+            (λ stream. stream.stream ≡ before_schema self.plan.schema (rows_meant self)) }
         ensures ready { OnOk result (W.ready watch.new) }
         ensures watched { W.watched watch.old watch.new }
     {
@@ -241,7 +248,8 @@ impl PlannedScan {
         Ok(FetchStream::of(seed, nothing, Source::Scanned(scan)))
     }
 
-    // Whether its batches are judged for long, or it joins or makes groups, and a place has more than a few rows.
+    // Whether its batches are judged for long, or it joins or makes groups, and a place has more
+    // than a few rows.
     fn takes_long(&self) -> bool {
         judging_rows(&self.plan) > LOOKED_ROWS || self.makes_much()
     }
@@ -294,7 +302,8 @@ fn rows_asked(handle: &Handle<'_>) -> usize {
     }
 }
 
-// How many rows a range of a query has at least: all of the first place, where the query makes groups.
+// How many rows a range of a query has at least: all of the first place, where the query makes
+// groups.
 fn least_rows(planned: &Planned) -> usize
     ensures whole { planned.now.grouped ≡ true → result ≡ planned.now.rows }
     ensures part { planned.now.grouped ≡ false → result ≡ 0 }
@@ -326,10 +335,12 @@ fn open_query(
 ) -> Result<Opening, Fault>
     requires ordered { range.from ≤ range.to }
     ensures opened { IfOk result (λ opening. (answer : Table)
-        × Meant (tables_of catalog.now) range.from range.to text.now answer × (opening ≡ opened answer)) }
+        × Meant (tables_of catalog.now) range.from range.to text.now answer
+        × (opening ≡ opened answer)) }
     ensures refused { IfErr result (λ fault. fault ≢ OutOfMemory →
         (answer : Table) → Meant (tables_of catalog.now) range.from range.to text.now answer → ⊥) }
-    ensures first { RefusesFirst result (demand (nat_le (length text.now) most_query_bytes) LimitReached) }
+    ensures first { RefusesFirst result
+        (demand (nat_le (length text.now) most_query_bytes) LimitReached) }
 {
     let planned = plan_text(alloc, catalog, text)?;
     let (from, to) = (range.from as usize, range.to as usize);

@@ -6,8 +6,8 @@ use crate::payload::Payload;
 use std::alloc::{AllocError, Global};
 use std::marker::Model;
 
-/// Payloads of an answer that are given together: that of the schema, or those of the dictionaries of some rows, and behind them
-/// that of these rows. A contract sees the bytes of each.
+/// Payloads of an answer that are given together: that of the schema, or those of the dictionaries
+/// of some rows, and after them that of these rows. A contract sees the bytes of each.
 pub struct Parcel {
     payloads: Vec<Payload>,
 }

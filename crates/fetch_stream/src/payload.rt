@@ -11,11 +11,12 @@ use flight_info::payload_of;
 use std::alloc::{AllocError, Global};
 use std::marker::Model;
 
-// The bytes behind a buffer in a body.
+// The bytes after a buffer in a body.
 static ZEROS: [u8; 8] = [0; 8];
 
-/// The bytes of a message of an answer: a head, and the parts behind it, in order. A part may be a cut of a table's
-/// buffer, of which no copy is made. A contract sees all of the bytes: at most 16,777,216.
+/// The bytes of a message of an answer: a head, and the parts after it, in order. A part may be a
+/// cut of a table's buffer, of which no copy is made. A contract sees all of the bytes: at most
+/// 16,777,216.
 pub struct Payload {
     head: Vec<u8>,
     parts: Vec<Bytes>,
@@ -42,11 +43,13 @@ impl Model for Payload {
 
     ghost view = { λ p. p.head.items ++ flat_map (λ part. part) p.parts.items };
 
-    ghost invariant = { λ p. (p.len ≡ length (p.head.items ++ flat_map (λ part. part) p.parts.items)) × (p.len ≤ most_message_bytes) };
+    ghost invariant = { λ p.
+        (p.len ≡ length (p.head.items ++ flat_map (λ part. part) p.parts.items))
+        × (p.len ≤ most_message_bytes) };
 }
 
 impl Payload {
-    // A head with these parts behind it, of so many bytes in all.
+    // A head with these parts after it, of so many bytes in all.
     pub(crate) fn new(head: Vec<u8>, parts: Vec<Bytes>, len: usize) -> Payload
         requires whole { len ≡ length (head.items ++ flat_map (λ part. part) parts.items) }
         requires short { len ≤ most_message_bytes }
@@ -63,7 +66,7 @@ impl Payload {
         self.len
     }
 
-    /// The head, and the parts behind it in order.
+    /// The head, and the parts after it in order.
     pub fn pieces(&self) -> (&[u8], &[Bytes])
         ensures { self.now ≡ result.0.now ++ flat_map (λ part. part) result.1.now }
     {
@@ -90,7 +93,7 @@ impl Payload {
     }
 }
 
-// Puts these parts behind the bytes.
+// Puts these parts after the bytes.
 fn append_parts(bytes: &mut Vec<u8>, parts: &[Bytes]) -> Result<(), AllocError>
     ensures { OnOk result (bytes.new.items ≡ bytes.old.items ++ flat_map (λ part. part) parts.now) }
 {
@@ -100,9 +103,10 @@ fn append_parts(bytes: &mut Vec<u8>, parts: &[Bytes]) -> Result<(), AllocError>
     Ok(())
 }
 
-// Puts a buffer behind the parts, and zeros up to a multiple of 8.
+// Puts a buffer after the parts, and zeros up to a multiple of 8.
 fn push_padded(parts: &mut Vec<Bytes>, buffer: Bytes) -> Result<(), AllocError>
-    ensures { OnOk result (flat_map (λ part. part) parts.new.items ≡ flat_map (λ part. part) parts.old.items ++ padded buffer) }
+    ensures { OnOk result (flat_map (λ part. part) parts.new.items
+        ≡ flat_map (λ part. part) parts.old.items ++ padded buffer) }
 {
     let zeros = (8 - buffer.len() % 8) % 8;
     parts.push(buffer)?;

@@ -79,8 +79,8 @@ impl Source {
     ///
     /// # Errors
     ///
-    /// F20 (`Fault::ResultTooLarge`) where the answer has more than 67,108,864 rows, and F21 (`Fault::OutOfMemory`) where
-    /// memory is refused; and from then on.
+    /// F20 (`Fault::ResultTooLarge`) where the answer has more than 67,108,864 rows, and F21
+    /// (`Fault::OutOfMemory`) where memory is refused; and from then on.
     pub(crate) fn turn(&mut self, alloc: Global, patience: Patience) -> Result<Turn<Batch>, Fault>
         requires { IsSource self.old }
         ensures { TurnsBatch patience self.old result self.new }

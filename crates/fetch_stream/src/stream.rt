@@ -1,6 +1,7 @@
 //! Streams: an answer, one parcel at a time.
 
-ghost use Rattle.std.specs.Prelude.{◌≡◌, ◌≤◌, ◌<◌, ◌+◌, ◌++◌, true, false, None, length, IfOk, IfSome, OnOk};
+ghost use Rattle.std.specs.Prelude.{◌≡◌, ◌≤◌, ◌<◌, ◌+◌, ◌++◌, true, false, None, length, IfOk};
+ghost use Rattle.std.specs.Prelude.{IfSome, OnOk};
 ghost use Rattle.std.specs.List.{list_any};
 ghost use Rattle.scan_base.specs.Limits.{most_answer_rows};
 ghost use Rattle.arrow_schema.specs.Schema.{IsSchema};
@@ -8,7 +9,8 @@ ghost use Rattle.arrays.specs.Batch.{rows_of};
 ghost use Rattle.table_versions.specs.Table.{is_long_text};
 ghost use Rattle.fetch_stream.specs.Streams.{Gives, GivesTurn, LooksFor};
 ghost use Rattle.fetch_stream.specs.Morsels.{whole_stream};
-ghost use Rattle.fetch_stream.specs.inside.Ahead.{IsGoing, IsSource, AnsweredAs, schema_behind, left_behind, rows_taken};
+ghost use Rattle.fetch_stream.specs.inside.Ahead.{IsGoing, IsSource, AnsweredAs, schema_behind};
+ghost use Rattle.fetch_stream.specs.inside.Ahead.{left_behind, rows_taken};
 ghost use Rattle.fetch_stream.specs.inside.Steps.{GivesFirst, Refills, GivesRows};
 
 use crate::cutter::Cutter;
@@ -28,9 +30,10 @@ use std::alloc::{AllocError, Global};
 use std::marker::Model;
 use work_watch::Watches;
 
-/// The answer to a handle, one parcel at a time: the message of its schema, and then record batches, each right behind its
-/// dictionaries. A contract sees what is still to come, what refused the stream, and how many rows its turns have still to look at. It
-/// shares the tables of its version, and holds no message.
+/// The answer to a handle, one parcel at a time: the message of its schema, and then record
+/// batches, each right after its dictionaries. A contract sees what is still to come, what refused
+/// the stream, and how many rows its turns have still to look at. It shares the tables of its
+/// version, and holds no message.
 pub struct FetchStream {
     begun: bool,
     cutter: Cutter,
@@ -45,7 +48,8 @@ pub struct FetchStream {
 impl Model for FetchStream {
     ghost use Rattle.std.specs.Prelude.{◌≡◌, ◌++◌, None};
     ghost use Rattle.fetch_stream.specs.Streams.{RunningAt};
-    ghost use Rattle.fetch_stream.specs.inside.Ahead.{IsGoing, schema_behind, left_behind, rows_cut, uncut, unseen_behind};
+    ghost use Rattle.fetch_stream.specs.inside.Ahead.{IsGoing, schema_behind, left_behind};
+    ghost use Rattle.fetch_stream.specs.inside.Ahead.{rows_cut, uncut, unseen_behind};
 
     ghost Value = { RunningAt };
 
@@ -78,7 +82,7 @@ impl Drop for FetchStream {
 }
 
 impl FetchStream {
-    // The stream of the rows of a batch and of those that a source gives behind them.
+    // The stream of the rows of a batch and of those that a source gives after them.
     pub(crate) fn of(seed: HashSeed, batch: Batch, source: Source) -> FetchStream
         requires source { IsSource source }
         requires columns { 0 < batch.rows → AnsweredAs (schema_behind source) batch.columns }
@@ -126,7 +130,8 @@ impl FetchStream {
         }
     }
 
-    /// The same stream, behind the payload of its schema, for who gives that payload otherwise (`Opening::first_payload`).
+    /// The same stream, after the payload of its schema, for who gives that payload otherwise
+    /// (`Opening::first_payload`).
     pub fn behind_schema(self) -> FetchStream
         ensures { result.stream ≡ record self.stream { begun = true } }
     {
@@ -153,14 +158,14 @@ impl FetchStream {
         self.work.workers
     }
 
-    /// How many rows of its first place the answer comes of at most: 0 for the list of tables. Contracts say nothing of it: it
-    /// tells how much work there is.
+    /// How many rows of its first place the answer comes of at most: 0 for the list of tables.
+    /// Contracts say nothing of it: it tells how much work there is.
     pub fn rows(&self) -> usize {
         self.work.rows
     }
 
-    /// Whether a parcel may come late behind another one, since the filters compare more than 64 times for a row. Contracts say nothing
-    /// of it.
+    /// Whether a parcel may come late after another one, since the filters compare more than 64
+    /// times for a row. Contracts say nothing of it.
     pub fn comes_slowly(&self) -> bool {
         self.work.compares_much()
     }
@@ -182,7 +187,8 @@ impl FetchStream {
         self.source.taken(rows).saturating_sub(uncut)
     }
 
-    // How many rows were taken of the source: those that were given, and what is left of the batch that is being cut.
+    // How many rows were taken of the source: those that were given, and what is left of the batch
+    // that is being cut.
     pub(crate) fn taken(&self) -> usize
         ensures given { self.now.stream.given ≤ result }
         ensures there { result ≤ self.now.stream.given + length self.now.stream.left }
@@ -191,8 +197,8 @@ impl FetchStream {
         self.source.taken(self.cutter.batch.rows())
     }
 
-    /// The morsels of a stream of which no row was given: `None` for the list of tables, for groups, and for a stream whose rows
-    /// are begun or that was refused.
+    /// The morsels of a stream of which no row was given: `None` for the list of tables, for
+    /// groups, and for a stream whose rows are begun or that was refused.
     pub fn morsels(&self) -> Option<Morsels<'_>>
         ensures { IfSome result (λ morsels. self.now.stream ≡ whole_stream morsels) }
     {
@@ -252,14 +258,15 @@ impl FetchStream {
         })
     }
 
-    /// The next parcel, and `None` behind the last one: first the message of the schema, and then record batches of at
-    /// most 65,536 rows, each behind a dictionary for each column that is answered as one. The bodies of a parcel have at most
-    /// 8,388,608 bytes together. What refuses a stream is answered from then on.
+    /// The next parcel, and `None` after the last one: first the message of the schema, and then
+    /// record batches of at most 65,536 rows, each after a dictionary for each column that is
+    /// answered as one. The bodies of a parcel have at most 8,388,608 bytes together. What refuses
+    /// a stream is answered from then on.
     ///
     /// # Errors
     ///
-    /// F20 (`Fault::ResultTooLarge`) where the answer has more than 67,108,864 rows, behind a beginning of it; F21
-    /// (`Fault::OutOfMemory`) where memory is refused.
+    /// F20 (`Fault::ResultTooLarge`) where the answer has more than 67,108,864 rows, after a
+    /// beginning of it; F21 (`Fault::OutOfMemory`) where memory is refused.
     pub fn next(&mut self, alloc: Global) -> Result<Option<Parcel>, Fault>
         ensures { Gives self.old.stream result self.new.stream }
     {
@@ -270,8 +277,9 @@ impl FetchStream {
         }
     }
 
-    /// A turn to the next parcel. `Turn::Working` where none of the rows is given that the turn looked at: then the same is
-    /// still to come, and the next turn goes on behind them. Groups that were not made before are made in one turn.
+    /// A turn to the next parcel. `Turn::Working` where none of the rows is given that the turn
+    /// looked at: then the same is still to come, and the next turn goes on after them. Groups that
+    /// were not made before are made in one turn.
     ///
     /// # Errors
     ///

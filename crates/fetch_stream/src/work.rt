@@ -1,12 +1,14 @@
 //! How the payloads of a stream may be made.
 
-// How many comparisons a piece of rows takes at most, as `Picker::most_rows` of `row_sources` has it for 65,536 rows.
+// How many comparisons a piece of rows takes at most, as `Picker::most_rows` of `row_sources` has
+// it for 65,536 rows.
 const PIECE_COMPARISONS: usize = 64;
 
 // How many turns of a stream are one turn of making ahead at most.
 const MOST_TURNS: usize = 8;
 
-// How the payloads of a stream may be made. Contracts see nothing of it: the answer is the same for any.
+// How the payloads of a stream may be made. Contracts see nothing of it: the answer is the same for
+// any.
 #[derive(Clone, Copy, Drop)]
 pub(crate) struct Work {
     // How many workers may make them.
@@ -32,8 +34,9 @@ impl Work {
         self.comparisons > PIECE_COMPARISONS
     }
 
-    // How many turns of a stream are one turn of making ahead. Each looks at a piece of rows. Where filters compare more, they are fewer: all
-    // together make some 4,194,304 comparisons then, or those of one piece.
+    // How many turns of a stream are one turn of making ahead. Each looks at a piece of rows. Where
+    // filters compare more, they are fewer: all together make some 4,194,304 comparisons then, or
+    // those of one piece.
     pub(crate) fn turns_ahead(&self) -> usize {
         (PIECE_COMPARISONS / self.comparisons.max(1)).clamp(1, MOST_TURNS)
     }

@@ -1,4 +1,4 @@
--- The streams of morsels, one behind the other, are the stream that they make up.
+-- The streams of morsels, one after the other, are the stream that they make up.
 use Rattle.std.proofs.Common.{◌≡◌, ◌≢◌, ◌≤◌, ◌<◌, ◌+◌, ℕ, Bool, true, false, List, [], ◌++◌, length, drop, Option, Some, None, Result, Ok, Err, inl, inr, refl, sym, ap, subst, ◌∙◌, append_assoc, length-append, arith}
 use Rattle.std.specs.List.{flat_map}
 use Rattle.std.proofs.lemmas.List.{drop_more, drop_all}
@@ -18,7 +18,7 @@ use Rattle.fetch_stream.specs.Morsels.{MorselsAt, morsel_stream, whole_stream}
 use Rattle.fetch_stream.proofs.Answering.{gave, ended, was_refused}
 use Rattle.fetch_workers.specs.inside.Joined.{GivesCounted, GivesFirst, GivesJoined, GivesPresent, Goes, IsJoined, given_of, joined_stream, left_of}
 
--- the rows of the morsels that come behind
+-- the rows of the morsels that come after
 abbrev rest_of : MorselsAt → ℕ → List Row
 rest_of morsels answered = flat_map (λ (rows : List Row). rows) (drop answered morsels.rows)
 
@@ -96,7 +96,7 @@ refuses_counted patience morsels answered done present fault (inl memory) = inl 
 refuses_counted patience morsels answered done present fault (inr large) =
     inr (large.0, refl, omega (arith, large.1, length-append present.left (rest_of morsels answered)))
 
--- behind the end of the present morsel the stream is the same with none
+-- after the end of the present morsel the stream is the same with none
 none_present : (morsels : MorselsAt) (answered done : ℕ) (present : StreamAt) → present.left ≡ []
     → joined_stream morsels answered true None (done + present.given) None ≡ joined_stream morsels answered true (Some present) done None
 none_present morsels answered done present none = by present.left present.given none
@@ -151,7 +151,7 @@ fresh_goes : (morsels : MorselsAt) (now : ℕ) (part : StreamAt) → part ≡ mo
 fresh_goes morsels now part is = subst (λ (s : StreamAt). Goes morsels.schema (Some s)) (sym is) (refl, refl, refl)
 
 module _ (patience : Patience) (morsels : MorselsAt) (done first now : ℕ) (stood : StoodSo morsels done first now) where
-  -- behind the last morsel nothing is left
+  -- after the last morsel nothing is left
   pub later_none : (last : ℕ) (next : Option StreamAt) → last ≡ now → next ≡ None → done ≤ most_answer_rows → length morsels.rows ≤ now → GivesJoined patience morsels first None done (Ok End) last next done
   later_none last next same none few high =
       let empty : (joined_stream morsels now true None done None).left ≡ [] = ap (flat_map (λ (rows : List Row). rows)) (drop_all now morsels.rows high) in
@@ -244,7 +244,7 @@ next_joined patience morsels answered done now all true present next (Given parc
 next_joined patience morsels answered done now all true present next Working on gives = (refl, gives.0, gives.3)
 next_joined patience morsels answered done now all true present next End on gives = (refl, gives.0, gives.1)
 
--- where a stream stands behind a call
+-- where a stream stands after a call
 pub stands_on : (patience : Patience) (morsels : MorselsAt) (answered done now all : ℕ) (present next : Option StreamAt) (given : Turn Parcel) (refused : Option Fault) → GivesJoined patience morsels answered present done (Ok given) now next all
     → IsJoined morsels true next all refused
 stands_on patience morsels answered done now all present next (Given parcel) refused gives = record { goes = λ e. gives.1; few = λ e. gives.2; first = λ e. absurd cc }

@@ -65,7 +65,7 @@ module _ (work : GroupWorkAt) (parts number : ℕ) where
       let whole = ap (λ (some : List BatchAt). length (flat_map rows_of some)) (from_first after work.batches) in
       omega (arith, whole, ap length both_are, length-append so_far here, size, all, few, mine.held.count, theirs.held.count)
 
-  -- and with its groups merged behind, they are those of one part more
+  -- and with its groups merged after, they are those of one part more
   pub more_merged : (groups other next : GroupsAt) → AreGroupsOf work so_far groups → AreGroupsOf work here other → HasMerged groups other next →
       AreGroupsOf work (passing work.pick (flat_map rows_of (take after work.batches))) next
   more_merged groups other next mine theirs has = record {

@@ -8,7 +8,7 @@ use Rattle.fetch_workers.specs.Parts.{batches_before}
 pub none_before : (batches parts : ℕ) → batches_before batches parts 0 ≡ 0
 none_before batches parts = omega arith
 
--- each part ends behind its begin
+-- each part ends after its begin
 pub before_next : (batches parts number : ℕ) → batches_before batches parts number ≤ batches_before batches parts (number + 1)
 before_next batches parts number =
     let wide = mul-le number (batches / parts) (number + 1) (batches / parts) (omega arith) (omega arith) in

@@ -15,7 +15,8 @@ use std::sync::Wait;
 use std::thread::Threads;
 use work_watch::Watches;
 
-/// A handle that starts the threads which make groups: each that may start threads and wait, and that threads may share.
+/// A handle that starts the threads which make groups: each that may start threads and wait, and
+/// that threads may share.
 pub trait StartsGroupWorkers {
     ghost use Rattle.std.specs.Prelude.{OnOk};
     ghost use Rattle.scan_exec.specs.GroupWork.{CanBeGrouped, GroupsOfAll, work_at};
@@ -23,7 +24,8 @@ pub trait StartsGroupWorkers {
     // What is to be known of it: that threads may share it.
     ghost shared: { Self → Type 0 };
 
-    /// The groups of all batches, of which so many workers make those of each part. Who watches may end it.
+    /// The groups of all batches, of which so many workers make those of each part. Who watches may
+    /// end it.
     ///
     /// # Errors
     ///
@@ -59,17 +61,19 @@ impl<R: Threads + Wait + Sync> StartsGroupWorkers for R {
     }
 }
 
-/// Groups the rows of each part of the batches for itself, by several workers, and merges the groups in the order of the
-/// parts. There is one part for each worker, or for each batch where there are fewer batches. Threads are started once
-/// for a call, and have ended when it returns. No more workers are at work than there are batches; with fewer than two the rows
-/// are grouped in one walk, and no thread is started.
+/// Groups the rows of each part of the batches for itself, by several workers, and merges the
+/// groups in the order of the parts. There is one part for each worker, or for each batch where
+/// there are fewer batches. Threads are started once for a call, and have ended when it returns. No
+/// more workers are at work than there are batches; with fewer than two the rows are grouped in one
+/// walk, and no thread is started.
 #[derive(Drop)]
 pub struct GroupWorkers<'h, R: StartsGroupWorkers> {
     rt: &'h R,
     workers: usize,
 }
 
-// That threads may share the handle is known where workers are made of it, and kept for where they group.
+// That threads may share the handle is known where workers are made of it, and kept for where they
+// group.
 impl<'h, R: StartsGroupWorkers> Model for GroupWorkers<'h, R> {
     ghost Value = { Unit {0} };
 
@@ -79,7 +83,8 @@ impl<'h, R: StartsGroupWorkers> Model for GroupWorkers<'h, R> {
 }
 
 impl<'h, R: Threads + Wait + Sync> GroupWorkers<'h, R> {
-    /// So many workers at most, one of which is the thread that calls. This handle starts threads for the others, and one more.
+    /// So many workers at most, one of which is the thread that calls. This handle starts threads
+    /// for the others, and one more.
     pub fn new(rt: &'h R, workers: usize) -> GroupWorkers<'h, R> {
         GroupWorkers { rt, workers }
     }
@@ -101,7 +106,8 @@ impl<'h, R: StartsGroupWorkers> GroupsBatches for GroupWorkers<'h, R> {
     }
 }
 
-// The groups of all batches, of which so many workers make those of each part. This thread merges them in order, watched.
+// The groups of all batches, of which so many workers make those of each part. This thread merges
+// them in order, watched.
 fn groups_beside<'t, R: Threads + Wait + Sync, L: Watches>(
     rt: &R,
     alloc: Global,
@@ -128,7 +134,7 @@ fn groups_beside<'t, R: Threads + Wait + Sync, L: Watches>(
     merged?
 }
 
-// Does nothing, but that what was lent is used behind the merging ties what became of it to it.
+// Does nothing, but that what was lent is used after the merging ties what became of it to it.
 fn take_back<T>(lent: &mut T)
     ensures { lent.new ≡ lent.old }
 {}

@@ -6,7 +6,8 @@ ghost use Rattle.arrow_schema.specs.declared.schema.Schema.{Schema};
 ghost use Rattle.row_sources.specs.declared.turn.Patience.TheVariants.{Endless};
 ghost use Rattle.fetch_stream.specs.Morsels.{MorselsAt};
 ghost use Rattle.fetch_workers.specs.inside.Coming.{ComesIn};
-ghost use Rattle.fetch_workers.specs.inside.Joined.{AnswersMorsels, GivesCounted, GivesFirst, GivesJoined, GivesPresent, Goes, given_of};
+ghost use Rattle.fetch_workers.specs.inside.Joined.{AnswersMorsels, GivesCounted, GivesFirst};
+ghost use Rattle.fetch_workers.specs.inside.Joined.{GivesJoined, GivesPresent, Goes, given_of};
 
 use crate::part::Part;
 use fetch_stream::{Morsels, Parcel, Payloads};
@@ -19,11 +20,12 @@ use std::marker::Model;
 // How many rows an answer has at most.
 const MAX_ANSWER_ROWS: usize = 67_108_864;
 
-// How many morsels may end without a row in one turn. A turn of each of them has patience for as many parts of the rows.
+// How many morsels may end without a row in one turn. A turn of each of them has patience for as
+// many parts of the rows.
 const MOST_ENDED: usize = 16;
 
-// The stream that its morsels make up: the payload of the schema, unless one has told it before, and those of the morsels as
-// they are answered, in their order. It counts the rows of all.
+// The stream that its morsels make up: the payload of the schema, unless one has told it before,
+// and those of the morsels as they are answered, in their order. It counts the rows of all.
 #[derive(Drop)]
 pub(crate) struct Joined<'x, 'a, A: Part, P: Answers<A>> {
     pub(crate) morsels: &'x Morsels<'x>,
@@ -42,9 +44,11 @@ impl<'x, 'a, A: Part, P: Answers<A>> Model for Joined<'x, 'a, A, P> {
 
     ghost Value = { StreamAt };
 
-    ghost view = { λ j. joined_stream j.morsels.now (P.given j.answers.now) j.begun (option_map A.stream j.present) j.done j.refused };
+    ghost view = { λ j. joined_stream j.morsels.now (P.given j.answers.now) j.begun
+        (option_map A.stream j.present) j.done j.refused };
 
-    ghost invariant = { λ j. P.ready j.answers.now × AnswersMorsels A.stream j.morsels.now P.right (P.count j.answers.now)
+    ghost invariant = { λ j. P.ready j.answers.now
+        × AnswersMorsels A.stream j.morsels.now P.right (P.count j.answers.now)
         × IsJoined j.morsels.now j.begun (option_map A.stream j.present) j.done j.refused };
 }
 
@@ -103,8 +107,9 @@ fn is_over(patience: Patience, ended: usize) -> bool
     }
 }
 
-// A turn to the next parcel of a morsel, where those before it had so many rows. The rows of all are counted as they are taken of
-// the scan. So an answer of too many rows is refused before the first parcel of the batch that has them.
+// A turn to the next parcel of a morsel, where those before it had so many rows. The rows of all
+// are counted as they are taken of the scan. So an answer of too many rows is refused before the
+// first parcel of the batch that has them.
 fn turn_counted<A: Part>(
     looking: &Looking,
     part: &mut A,
@@ -113,7 +118,8 @@ fn turn_counted<A: Part>(
     requires begun { (A.stream part.old).begun ≡ true }
     requires going { (A.stream part.old).refused ≡ None }
     requires few { done + (A.stream part.old).given ≤ most_answer_rows }
-    ensures { GivesCounted looking.now.patience (A.stream part.old) done result (A.stream part.new) }
+    ensures { GivesCounted looking.now.patience (A.stream part.old) done result
+        (A.stream part.new) }
 {
     match part.turn(looking.alloc, of_morsel(looking.patience)) {
         Ok(Turn::Given(parcel)) => {
@@ -128,7 +134,8 @@ fn turn_counted<A: Part>(
     }
 }
 
-// A turn to the next parcel of the present morsel, if there is one. Behind its last one none is present, and its rows are counted.
+// A turn to the next parcel of the present morsel, if there is one. After its last one none is
+// present, and its rows are counted.
 fn turn_of_present<A: Part>(
     looking: &Looking,
     present: &mut Option<A>,
@@ -136,8 +143,10 @@ fn turn_of_present<A: Part>(
 ) -> Result<Turn<Parcel>, Fault>
     requires goes { (schema : Schema) × Goes schema (option_map A.stream present.old) }
     requires few { done.old + given_of (option_map A.stream present.old) ≤ most_answer_rows }
-    ensures { (morsels : MorselsAt) (answered : ℕ) → Goes morsels.schema (option_map A.stream present.old) →
-        GivesPresent looking.now.patience morsels answered (option_map A.stream present.old) done.old result (option_map A.stream present.new) done.new }
+    ensures { (morsels : MorselsAt) (answered : ℕ) →
+        Goes morsels.schema (option_map A.stream present.old) →
+        GivesPresent looking.now.patience morsels answered (option_map A.stream present.old)
+        done.old result (option_map A.stream present.new) done.new }
 {
     let Some(part) = present else {
         return Ok(Turn::End);
@@ -159,7 +168,8 @@ fn next_answer<A, P: Answers<A>>(patience: Patience, answers: &mut P) -> NextAns
     requires ready { P.ready answers.old }
     ensures ready { P.ready answers.new }
     ensures count { P.count answers.new ≡ P.count answers.old }
-    ensures comes { ComesIn patience P.right (P.count answers.old) (P.given answers.old) result (P.given answers.new) }
+    ensures comes { ComesIn patience P.right (P.count answers.old) (P.given answers.old) result
+        (P.given answers.new) }
 {
     match patience {
         Patience::Rows(_) | Patience::Choice => answers.turn(),
@@ -170,8 +180,8 @@ fn next_answer<A, P: Answers<A>>(patience: Patience, answers: &mut P) -> NextAns
     }
 }
 
-// A turn to the next parcel of the morsels that are still to be answered, if there is one. The morsel of which it is one is
-// present then.
+// A turn to the next parcel of the morsels that are still to be answered, if there is one. The
+// morsel of which it is one is present then.
 fn turn_of_later<A: Part, P: Answers<A>>(
     looking: &Looking,
     answers: &mut P,
@@ -179,13 +189,16 @@ fn turn_of_later<A: Part, P: Answers<A>>(
     done: usize,
 ) -> Result<Turn<Parcel>, Fault>
     requires ready { P.ready answers.old }
-    requires right { (morsels : MorselsAt) × AnswersMorsels A.stream morsels P.right (P.count answers.old) }
+    requires right { (morsels : MorselsAt)
+        × AnswersMorsels A.stream morsels P.right (P.count answers.old) }
     requires none { option_map A.stream present.old ≡ None }
     requires few { done ≤ most_answer_rows }
     ensures ready { P.ready answers.new }
     ensures count { P.count answers.new ≡ P.count answers.old }
-    ensures gives { (morsels : MorselsAt) → AnswersMorsels A.stream morsels P.right (P.count answers.old) →
-        GivesJoined looking.now.patience morsels (P.given answers.old) None done result (P.given answers.new) (option_map A.stream present.new) done }
+    ensures gives { (morsels : MorselsAt) →
+        AnswersMorsels A.stream morsels P.right (P.count answers.old) →
+        GivesJoined looking.now.patience morsels (P.given answers.old) None done result
+        (P.given answers.new) (option_map A.stream present.new) done }
 {
     let mut ended = 0usize;
     loop {
@@ -214,8 +227,8 @@ fn turn_of_later<A: Part, P: Answers<A>>(
     }
 }
 
-// A turn to the parcel of the next rows: of the present morsel, or of the first one behind it that has rows. `done` rows were
-// those of the morsels before the present one.
+// A turn to the parcel of the next rows: of the present morsel, or of the first one after it that
+// has rows. `done` rows were those of the morsels before the present one.
 fn turn_of_rows<A: Part, P: Answers<A>>(
     looking: &Looking,
     answers: &mut P,
@@ -223,12 +236,17 @@ fn turn_of_rows<A: Part, P: Answers<A>>(
     done: &mut usize,
 ) -> Result<Turn<Parcel>, Fault>
     requires ready { P.ready answers.old }
-    requires right { (morsels : MorselsAt) × AnswersMorsels A.stream morsels P.right (P.count answers.old) × Goes morsels.schema (option_map A.stream present.old) }
+    requires right { (morsels : MorselsAt)
+        × AnswersMorsels A.stream morsels P.right (P.count answers.old)
+        × Goes morsels.schema (option_map A.stream present.old) }
     requires few { done.old + given_of (option_map A.stream present.old) ≤ most_answer_rows }
     ensures ready { P.ready answers.new }
     ensures count { P.count answers.new ≡ P.count answers.old }
-    ensures gives { (morsels : MorselsAt) → AnswersMorsels A.stream morsels P.right (P.count answers.old) → Goes morsels.schema (option_map A.stream present.old) →
-        GivesJoined looking.now.patience morsels (P.given answers.old) (option_map A.stream present.old) done.old result (P.given answers.new) (option_map A.stream present.new) done.new }
+    ensures gives { (morsels : MorselsAt) →
+        AnswersMorsels A.stream morsels P.right (P.count answers.old) →
+        Goes morsels.schema (option_map A.stream present.old) → GivesJoined looking.now.patience
+        morsels (P.given answers.old) (option_map A.stream present.old) done.old result
+        (P.given answers.new) (option_map A.stream present.new) done.new }
 {
     match turn_of_present(looking, present, done) {
         Ok(Turn::Given(parcel)) => Ok(Turn::Given(parcel)),

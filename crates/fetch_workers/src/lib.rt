@@ -1,4 +1,5 @@
-//! Several workers on one fetch: the morsels of a stream are made side by side, and read in order.
+//! Several workers on one fetch: the morsels of a stream, or the parts of its groups, are made side
+//! by side, and read in order.
 //!
 //! `Workers` is an executor: what is read over it is what is read over one worker.
 #![tactic(auto)]

@@ -12,11 +12,12 @@ use scan_workers::{Answers, NextAnswer, Reads, Work};
 use std::alloc::Global;
 use work_watch::{Watches, tell};
 
-// How many rows a turn of a worker looks at, where a row counts as often as filters compare in it. Where a part ends or
-// has no more to do, a turn is over too, so no more rows are told than count.
+// How many rows a turn of a worker looks at, where a row counts as often as filters compare in it.
+// Where a part ends or has no more to do, a turn is over too, so no more rows are told than count.
 const TURN_ROWS: usize = 1_048_576;
 
-// Parts of the batches as morsels, each answered by its groups. A worker feeds some of its rows ahead, turn by turn.
+// Parts of the batches as morsels, each answered by its groups. A worker feeds some of its rows
+// ahead, turn by turn.
 #[derive(Clone, Copy, Drop)]
 pub(crate) struct PartGroups<'w, 't> {
     pub(crate) work: &'w GroupWork<'t>,
@@ -61,7 +62,7 @@ impl<'w, 't> Work for PartGroups<'w, 't> {
     }
 }
 
-// Merges the groups of each part behind those of the parts before it, watched.
+// Merges the groups of each part after those of the parts before it, watched.
 pub(crate) struct Merging<'w, 't, 'l, L> {
     pub(crate) alloc: Global,
     pub(crate) work: &'w GroupWork<'t>,
@@ -75,10 +76,12 @@ impl<'w, 't, 'l, L: Watches> Reads<Result<FedPart<'t>, Fault>> for Merging<'w, '
     ghost use Rattle.fetch_workers.specs.Merging.{CanMerge};
     ghost use Rattle.scan_exec.specs.GroupWork.{GroupsOfAll, work_at};
 
-    ghost takes = { λ m right count. CanMerge (work_at m.work.now) right count × L.ready m.watch.now };
+    ghost takes = { λ m right count. CanMerge (work_at m.work.now) right count
+        × L.ready m.watch.now };
 
     ghost reads = { λ m right count out new. GroupsOfAll (work_at m.work.now) out
-        × (new.watch.ghost_name ≡ m.watch.ghost_name) × OnOk out (L.ready new.watch.now) × L.watched m.watch.now new.watch.now };
+        × (new.watch.ghost_name ≡ m.watch.ghost_name) × OnOk out (L.ready new.watch.now)
+        × L.watched m.watch.now new.watch.now };
 
     fn read<P: Answers<Result<FedPart<'t>, Fault>>>(
         &mut self,
@@ -114,8 +117,8 @@ fn merge_parts<'t, P: Answers<Result<FedPart<'t>, Fault>>, L: Watches>(
     Ok(groups)
 }
 
-// The part that is answered next, or none behind the last one. Behind each turn of its worker, who watches may end it. So many
-// rows of turns are untold.
+// The part that is answered next, or none after the last one. After each turn of its worker, who
+// watches may end it. So many rows of turns are untold.
 fn next_part<'t, P: Answers<Result<FedPart<'t>, Fault>>, L: Watches>(
     answers: &mut P,
     untold: &mut usize,
@@ -125,7 +128,8 @@ fn next_part<'t, P: Answers<Result<FedPart<'t>, Fault>>, L: Watches>(
     requires watch { L.ready watch.old }
     ensures ready { P.ready answers.new }
     ensures count { P.count answers.new ≡ P.count answers.old }
-    ensures part { IfOk result (IsNextPart P.right (P.count answers.old) (P.given answers.old) (P.given answers.new)) }
+    ensures part { IfOk result
+        (IsNextPart P.right (P.count answers.old) (P.given answers.old) (P.given answers.new)) }
     ensures watch { OnOk result (L.ready watch.new) }
     ensures watched { L.watched watch.old watch.new }
 {
@@ -147,7 +151,8 @@ fn next_part<'t, P: Answers<Result<FedPart<'t>, Fault>>, L: Watches>(
     }
 }
 
-// The groups of the part that is answered next, or none behind the last one. What its worker has not fed is fed here.
+// The groups of the part that is answered next, or none after the last one. What its worker has not
+// fed is fed here.
 fn next_groups<'t, P: Answers<Result<FedPart<'t>, Fault>>, L: Watches>(
     alloc: Global,
     work: &GroupWork<'t>,
@@ -160,7 +165,8 @@ fn next_groups<'t, P: Answers<Result<FedPart<'t>, Fault>>, L: Watches>(
     requires watch { L.ready watch.old }
     ensures ready { P.ready answers.new }
     ensures count { P.count answers.new ≡ P.count answers.old }
-    ensures groups { IfOk result (AreNextGroups (work_at work.now) (P.count answers.old) (P.given answers.old) (P.given answers.new)) }
+    ensures groups { IfOk result (AreNextGroups (work_at work.now) (P.count answers.old)
+        (P.given answers.old) (P.given answers.new)) }
     ensures watch { OnOk result (L.ready watch.new) }
     ensures watched { L.watched watch.old watch.new }
 {

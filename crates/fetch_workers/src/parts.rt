@@ -1,12 +1,13 @@
-//! Parts of batches, one behind the other.
+//! Parts of batches, one after the other.
 
 ghost use Rattle.std.specs.Prelude.{◌≡◌, ◌≤◌, ◌<◌, max, min};
 ghost use Rattle.fetch_workers.specs.Parts.{batches_before};
 
 use arrays::Batch;
 
-// Into how many parts so many batches are cut for so many workers. Each has one batch or more. The groups of a part are made anew
-// and merged by the thread that reads them. So there are no more parts than workers.
+// Into how many parts so many batches are cut for so many workers. Each has one batch or more. The
+// groups of a part are made again and merged by the thread that reads them. So there are no more
+// parts than workers.
 pub(crate) fn part_count(batches: usize, workers: usize) -> usize
     ensures { result ≡ min batches (max 1 workers) }
 {

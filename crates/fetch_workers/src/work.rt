@@ -4,8 +4,8 @@ use fetch_stream::{Ahead, Morsels};
 use scan_workers::Work;
 use std::alloc::Global;
 
-// The morsels of a stream, each of which is answered by its payloads. A worker chooses the first rows of one, and then makes some
-// payloads ahead, turn by turn.
+// The morsels of a stream, each of which is answered by its payloads. A worker chooses the first
+// rows of one, and then makes some payloads ahead, turn by turn.
 #[derive(Drop)]
 pub(crate) struct MorselWork<'s> {
     pub(crate) morsels: Morsels<'s>,

@@ -25,7 +25,8 @@ pub struct SideBySide<'s> {
     pub workers: usize,
 }
 
-/// A handle that starts the threads of a fetch: each that may start threads and wait, and that threads may share.
+/// A handle that starts the threads of a fetch: each that may start threads and wait, and that
+/// threads may share.
 pub trait StartsWorkers {
     // What is to be known of it: that threads may share it.
     ghost shared: { Self → Type 0 };
@@ -42,7 +43,8 @@ pub trait StartsWorkers {
     ) -> Option<Result<(), Fault>>
         requires shared { shared self.now }
         requires takes { S.takes reader.old }
-        ensures read { IfSome result (λ read. S.reads reader.old work.now.stream.now.stream read reader.new) }
+        ensures read { IfSome result
+            (λ read. S.reads reader.old work.now.stream.now.stream read reader.new) }
         ensures kept { result ≡ None → reader.new ≡ reader.old };
 
     /// Has the groups of a stream made by several workers. Who watches may end it.
@@ -84,18 +86,20 @@ impl<R: Threads + Wait + Sync> StartsWorkers for R {
     }
 }
 
-/// The payloads of a stream are made by the thread that reads and by workers beside it, each in a thread of its own: with that thread
-/// as many as the stream asks for at most, one for each 65,536 rows of its range and one for each morsel at most.
-/// Threads are started once for a fetch, and have ended when it has. Of groups the workers make those of each
-/// part of the batches, one for each piece at most. The list of tables and streams whose rows are begun stay with one worker; so does a stream
-/// of rows where memory is refused for the others.
+/// The payloads of a stream are made by the thread that reads and by workers next to it, each in a
+/// thread of its own: with that thread as many as the stream asks for at most, one for each 65,536
+/// rows of its range and one for each morsel at most. Threads are started once for a fetch, and
+/// have ended when it has. Of groups the workers make those of each part of the batches, one for
+/// each piece at most. The list of tables and streams whose rows are begun stay with one worker; so
+/// does a stream of rows where memory is refused for the others.
 #[derive(Drop)]
 pub struct Workers<'h, R: StartsWorkers> {
     rt: &'h R,
     least_rows: usize,
 }
 
-// That threads may share the handle is known where workers are made of it, and kept for where they read.
+// That threads may share the handle is known where workers are made of it, and kept for where they
+// read.
 impl<'h, R: StartsWorkers> Model for Workers<'h, R> {
     ghost Value = { Unit {0} };
 
@@ -110,8 +114,8 @@ impl<'h, R: Threads + Wait + Sync> Workers<'h, R> {
         Workers::reading(rt, LEAST_ROWS)
     }
 
-    /// The same, with one worker for each so many rows of the range at most, in place of 65,536: what is read is the same for
-    /// any number.
+    /// The same, with one worker for each so many rows of the range at most, in place of 65,536:
+    /// what is read is the same for any number.
     pub fn reading(rt: &'h R, least_rows: usize) -> Workers<'h, R> {
         Workers { rt, least_rows }
     }
@@ -173,7 +177,8 @@ fn read_beside<R: Threads + Wait + Sync, S: ReadsPayloads>(
     reader: &mut S,
 ) -> Option<Result<(), Fault>>
     requires { S.takes reader.old }
-    ensures read { IfSome result (λ read. S.reads reader.old work.now.stream.now.stream read reader.new) }
+    ensures read { IfSome result
+        (λ read. S.reads reader.old work.now.stream.now.stream read reader.new) }
     ensures kept { result ≡ None → reader.new ≡ reader.old }
 {
     let morsels = work.stream.morsels()?;
@@ -198,7 +203,7 @@ fn read_beside<R: Threads + Wait + Sync, S: ReadsPayloads>(
     read
 }
 
-// Does nothing, but that what was lent is used behind the reading ties what was read to it.
+// Does nothing, but that what was lent is used after the reading ties what was read to it.
 fn take_back<T>(lent: &mut T)
     ensures { lent.new ≡ lent.old }
 {}
@@ -218,7 +223,8 @@ impl<'x, 'r, S: ReadsPayloads> Reads<Ahead<'x>> for Reading<'x, 'r, S> {
     ghost use Rattle.fetch_stream.specs.Streams.{StreamAt};
     ghost use Rattle.fetch_workers.specs.inside.Joined.{AnswersMorsels};
 
-    ghost takes = { λ r right count. S.takes r.reader.now × AnswersMorsels (λ (answer : StreamAt). answer) r.morsels.now right count };
+    ghost takes = { λ r right count. S.takes r.reader.now
+        × AnswersMorsels (λ (answer : StreamAt). answer) r.morsels.now right count };
 
     ghost reads = { λ old right count out new. (new.reader.ghost_name ≡ old.reader.ghost_name)
         × S.reads old.reader.now (whole_stream old.morsels.now) out new.reader.now };

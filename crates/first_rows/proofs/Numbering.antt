@@ -117,7 +117,7 @@ step_one numbers n m a b k both e one two = by (long_text a) (long_text b) refl 
         (pair.0, is_text a s is ∙ ap Text same ∙ sym (is_text b t also))
     by _ _ is also e one two = cc
 
--- behind two values that are alike beside their long texts stand texts of both, or of none
+-- after two values that are alike next to their long texts stand texts of both, or of none
 step_both : (numbers : TextNumbers) (n m : ℕ) (a b : Value) (k l : ℕ) → AreBoth n m → blanked a ≡ blanked b → IsStep numbers n a k → IsStep numbers m b l → AreBoth k l
 step_both numbers n m a b k l both e one two = by (long_text a) (long_text b) e one two
   where
@@ -127,7 +127,7 @@ step_both numbers n m a b k l both e one two = by (long_text a) (long_text b) e 
         (λ none. absurd (behind_some numbers.pairs.keys n one.0 k one.2 none), λ none. absurd (behind_some numbers.pairs.keys m two.0 l two.2 none))
     by _ _ e one two = absurd (cc)
 
--- values whose long texts have one number, and that are the same beside them, are the same
+-- values whose long texts have one number, and that are the same next to them, are the same
 pub number_one : (numbers : TextNumbers) (n m : ℕ) (a b : List Value) (k : ℕ) → AreBoth n m → map blanked a ≡ map blanked b → IsNumber numbers n a k → IsNumber numbers m b k →
     (n ≡ m) × (a ≡ b)
 number_one numbers n m [] [] k both e one two = (sym one ∙ two, refl)

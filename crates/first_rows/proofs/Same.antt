@@ -48,7 +48,7 @@ whole_one (x ∷ xs) (y ∷ ys) e =
 same_whole : (texts : ℕ) → (texts == 0) ≡ true → (a b : List Value) → map (rest texts) a ≡ map (rest texts) b → a ≡ b
 same_whole texts none a b e = whole_one a b (sym (all_whole texts none a) ∙ e ∙ all_whole texts none b)
 
--- two keys with one number of texts, of which the same is compared beside it
+-- two keys with one number of texts, of which the same is compared next to it
 same_rest : (numbers : TextNumbers) (texts : ℕ) (a b : List Value) → map (rest texts) a ≡ map (rest texts) b → IsNumber numbers 0 a texts → IsNumber numbers 0 b texts → a ≡ b
 same_rest numbers texts a b e one two = by (texts == 0) refl
   where

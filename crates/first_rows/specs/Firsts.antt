@@ -30,4 +30,5 @@ AreNumbered are numbers keys = All (IsNumbered are numbers) keys
 
 -- the numbers that were kept of rows of a row's batch are those of their texts
 abbrev pub FitSeen : List (Bor (List ℕ)) → RowKey → SeenNumbers → Type 0
-FitSeen texts first seen = AreNumbers (text_number texts) first.batch.now first.columns.now seen.places.items
+FitSeen texts first seen =
+    AreNumbers (text_number texts) first.batch.now first.columns.now seen.places.items

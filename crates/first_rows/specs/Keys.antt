@@ -71,5 +71,6 @@ same_key_laws = record {
 }
 
 -- a hash takes the same of keys that are the same
-pub same_input : (a b : List Value) → IsTrue (same_key a b) → flat_map value_input a ≡ flat_map value_input b
+pub same_input : (a b : List Value) → IsTrue (same_key a b) →
+    flat_map value_input a ≡ flat_map value_input b
 same_input a b h = ap (flat_map value_input) (key_sound a b h)

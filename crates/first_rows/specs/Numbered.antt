@@ -1,5 +1,6 @@
 -- Inside: keys whose long texts have a number, and what is compared of them.
-use Rattle.std.specs.Prelude.{◌≡◌, ◌==◌, ◌++◌, ℕ, pos, Bool, List, [], ◌∷◌, IsTrue, map, if◌then◌else◌, Option, Some, None, Result, Ok, Err}
+use Rattle.std.specs.Prelude.{◌≡◌, ◌==◌, ◌++◌, ℕ, pos, Bool, List, [], ◌∷◌, IsTrue, map}
+use Rattle.std.specs.Prelude.{if◌then◌else◌, Option, Some, None, Result, Ok, Err}
 use Rattle.std.specs.declared.alloc.AllocError.{AllocError}
 use Rattle.std.specs.List.{flat_map, position_or_len}
 use Rattle.std.specs.Hash as fed
@@ -15,7 +16,14 @@ use Rattle.first_rows.specs.RowKeys.{key_of}
 
 -- the row of a key
 abbrev pub first_of : NumberedKey → RowKey
-first_of key = record { number = key.number; batch = key.batch; columns = key.columns; row = key.row; there = key.there; within = key.within }
+first_of key = record {
+  number = key.number;
+  batch = key.batch;
+  columns = key.columns;
+  row = key.row;
+  there = key.there;
+  within = key.within;
+}
 
 -- a value without its long text, where it is one
 abbrev pub without : Option (List ℕ) → Value → Option Value
@@ -26,11 +34,11 @@ without (Some text) value = None
 abbrev pub blanked : Value → Option Value
 blanked value = without (long_text value) value
 
--- what is compared of a value beside the number of the long texts
+-- what is compared of a value next to the number of the long texts
 abbrev pub rest : ℕ → Value → Option Value
 rest texts value = if texts == 0 then Some value else blanked value
 
--- what is compared of the values of a key beside the number of its long texts
+-- what is compared of the values of a key next to the number of its long texts
 abbrev pub rest_of : NumberedKey → List (Option Value)
 rest_of key = map (rest key.texts) (key_of (first_of key))
 
@@ -60,10 +68,13 @@ abbrev pub coded_input : NumberedKey → List (List ℕ)
 coded_input key = number_input key.texts (rest_of key)
 
 -- a hash takes the same of keys that are the same
-pub same_coded_input : (a b : NumberedKey) → IsTrue (same_parts (coded a) (coded b)) → coded_input a ≡ coded_input b
+pub same_coded_input : (a b : NumberedKey) → IsTrue (same_parts (coded a) (coded b)) →
+    coded_input a ≡ coded_input b
 same_coded_input a b h = ap input_of (parts_sound (coded a) (coded b) h)
 
--- a key has its place among others, behind all where it is new; where memory is refused they are as they were
+-- a key has its place among others, after all where it is new; where memory is refused they are as
+-- they were
 abbrev pub Puts : List NumberedKey → NumberedKey → Result ℕ AllocError → List NumberedKey → Type 0
-Puts before key (Ok place) after = (after ≡ insert_key same_coded before key) × (place ≡ position_or_len (same_coded key) before)
+Puts before key (Ok place) after =
+    (after ≡ insert_key same_coded before key) × (place ≡ position_or_len (same_coded key) before)
 Puts before key (Err _) after = after ≡ before

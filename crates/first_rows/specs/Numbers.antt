@@ -1,5 +1,6 @@
 -- Numbers of long texts, and of the long texts of a key.
-use Rattle.std.specs.Prelude.{◌≡◌, ◌+◌, ◌&&◌, ℕ, zero, suc, List, [], ◌∷◌, Option, Some, None, if◌then◌else◌, length, nat_eq, nat_lt}
+use Rattle.std.specs.Prelude.{◌≡◌, ◌+◌, ◌&&◌, ℕ, zero, suc, List, [], ◌∷◌, Option, Some, None}
+use Rattle.std.specs.Prelude.{if◌then◌else◌, length, nat_eq, nat_lt}
 use Rattle.std.specs.Borrow.{Bor}
 use Rattle.std.specs.List.{position}
 use Rattle.std.specs.Str.{bytes_eq}
@@ -26,13 +27,16 @@ text_number texts (Text text) = position (λ (other : Bor (List ℕ)). bytes_eq 
 
 -- the place of a pair of the number of texts and that of one text more
 abbrev pub pair_place : List (ℕ × ℕ) → ℕ → ℕ → Option ℕ
-pair_place pairs before text = position (λ (pair : ℕ × ℕ). nat_eq before pair.0 && nat_eq text pair.1) pairs
+pair_place pairs before text =
+    position (λ (pair : ℕ × ℕ). nat_eq before pair.0 && nat_eq text pair.1) pairs
 
 -- the number of such a pair follows its place
 abbrev pub IsPairNumber : List (ℕ × ℕ) → ℕ → ℕ → ℕ → Type 0
-IsPairNumber pairs before text number = (place : ℕ) × (pair_place pairs before text ≡ Some place) × (number ≡ place + 1)
+IsPairNumber pairs before text number =
+    (place : ℕ) × (pair_place pairs before text ≡ Some place) × (number ≡ place + 1)
 
--- the number of one text alone follows its own; that of texts and one more follows the place of their pair
+-- the number of one text alone follows its own; that of texts and one more follows the place of
+-- their pair
 abbrev pub IsBehind : List (ℕ × ℕ) → ℕ → ℕ → ℕ → Type 0
 IsBehind pairs zero text number = number ≡ text + 1
 IsBehind pairs (suc before) text number = IsPairNumber pairs (suc before) text number
@@ -40,7 +44,9 @@ IsBehind pairs (suc before) text number = IsPairNumber pairs (suc before) text n
 -- texts of a number, and one more where there is one, have a number
 abbrev pub IsWith : TextNumbers → ℕ → Option (List ℕ) → ℕ → Type 0
 IsWith numbers before None number = number ≡ before
-IsWith numbers before (Some text) number = (place : ℕ) × (text_number numbers.texts.keys (Text text) ≡ Some place) × IsBehind numbers.pairs.keys before place number
+IsWith numbers before (Some text) number =
+    (place : ℕ) × (text_number numbers.texts.keys (Text text) ≡ Some place)
+    × IsBehind numbers.pairs.keys before place number
 
 -- the long texts up to a value have a number, where those before it have this one
 abbrev pub IsStep : TextNumbers → ℕ → Value → ℕ → Type 0
@@ -49,13 +55,17 @@ IsStep numbers before value number = IsWith numbers before (long_text value) num
 -- the long texts of values have a number, where those before them have this one
 abbrev pub IsNumber : TextNumbers → ℕ → List Value → ℕ → Type 0
 IsNumber numbers before [] number = number ≡ before
-IsNumber numbers before (value ∷ values) number = (next : ℕ) × IsStep numbers before value next × IsNumber numbers next values number
+IsNumber numbers before (value ∷ values) number =
+    (next : ℕ) × IsStep numbers before value next × IsNumber numbers next values number
 
 -- what has a number keeps it
 pub record Stay (before after : TextNumbers) : Type 0 where
-  pub texts : (value : Value) (number : ℕ) → text_number before.texts.keys value ≡ Some number → text_number after.texts.keys value ≡ Some number
-  pub pairs : (earlier text place : ℕ) → pair_place before.pairs.keys earlier text ≡ Some place → pair_place after.pairs.keys earlier text ≡ Some place
+  pub texts : (value : Value) (number : ℕ) → text_number before.texts.keys value ≡ Some number →
+      text_number after.texts.keys value ≡ Some number
+  pub pairs : (earlier text place : ℕ) → pair_place before.pairs.keys earlier text ≡ Some place →
+      pair_place after.pairs.keys earlier text ≡ Some place
 
 -- the numbers that were kept of rows of a batch are those of their texts
 abbrev pub AreSeen : TextNumbers → BatchAt → List ℕ → SeenNumbers → Type 0
-AreSeen numbers batch columns seen = AreNumbers (text_number numbers.texts.keys) batch columns seen.places.items
+AreSeen numbers batch columns seen =
+    AreNumbers (text_number numbers.texts.keys) batch columns seen.places.items

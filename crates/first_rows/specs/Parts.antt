@@ -1,4 +1,5 @@
--- Inside: what is compared of the values of keys, when two are the same in it, and what a hash takes of it.
+-- Inside: what is compared of the values of keys, when two are the same in it, and what a hash
+-- takes of it.
 use Rattle.std.specs.Prelude.{◌≡◌, ◌&&◌, ℕ, Bool, true, false, List, [], ◌∷◌, Option, Some, None}
 use Rattle.std.specs.Cmp.{IsEquivalence}
 use Rattle.std.specs.Hash as fed
@@ -13,7 +14,8 @@ abbrev pub part_input : Option Value → List (List ℕ)
 part_input None = fed.u8 4
 part_input (Some value) = value_input value
 
--- whether two parts are the same: two long texts, of which their numbers are compared, or two values
+-- whether two parts are the same: two long texts, of which their numbers are compared, or two
+-- values
 abbrev pub same_part : Option Value → Option Value → Bool
 same_part None None = true
 same_part (Some a) (Some b) = same_value a b

@@ -1,4 +1,5 @@
-//! Values of a key: what is compared of them beside the number of long texts, which are the same, and what a hash takes of them.
+//! Values of a key: what is compared of them next to the number of long texts, which are the same,
+//! and what a hash takes of them.
 
 ghost use Rattle.std.specs.Prelude.{◌≡◌, option_map};
 ghost use Rattle.std.specs.List.{fold};
@@ -33,7 +34,8 @@ pub(crate) fn long_text<'t>(value: ValueRef<'t>) -> Option<&'t str>
     }
 }
 
-/// What is compared of a value beside the number of long texts: nothing of a long text that has a number.
+/// What is compared of a value next to the number of long texts: nothing of a long text that has a
+/// number.
 pub(crate) fn rest<'t>(texts: u32, value: ValueRef<'t>) -> Option<ValueRef<'t>>
     ensures { option_map value_of result ≡ rest texts (value_of value.entry) }
 {
@@ -54,7 +56,8 @@ pub(crate) fn are_same_parts(a: Option<ValueRef<'_>>, b: Option<ValueRef<'_>>) -
     }
 }
 
-/// Takes what is compared of a value into a hash. That of a long text is a byte of its own, so that a hash tells which parts are long.
+/// Takes what is compared of a value into a hash. That of a long text is a byte of its own, so that
+/// a hash tells which parts are long.
 pub(crate) fn hash_part<H: Hasher>(part: Option<ValueRef<'_>>, state: &mut H)
     ensures { state.new ≡ fold H.write state.old (part_input (option_map value_of part.entry)) }
 {
@@ -77,7 +80,8 @@ fn are_same(a: ValueRef<'_>, b: ValueRef<'_>) -> bool
     }
 }
 
-// Takes a value into a hash: first a byte that tells its kind, so that no value takes as another kind's does.
+// Takes a value into a hash: first a byte that tells its kind, so that no value takes as another
+// kind's does.
 fn hash_value<H: Hasher>(value: ValueRef<'_>, state: &mut H)
     ensures { state.new ≡ fold H.write state.old (value_input (value_of value.entry)) }
 {

@@ -17,8 +17,9 @@ use indexmap::IndexSet;
 use std::alloc::{AllocError, Global};
 use std::marker::Model;
 
-/// The first row of each key, in the order in which keys came. Where the long texts of keys have numbers, two keys are compared by
-/// these and by their other values, and no long text is looked at for a row whose long texts were seen.
+/// The first row of each key, in the order in which keys came. Where the long texts of keys have
+/// numbers, two keys are compared by these and by their other values, and no long text is looked at
+/// for a row whose long texts were seen.
 #[derive(Drop)]
 pub struct FirstRows<'t> {
     rows: IndexSet<NumberedKey<'t>, HashSeed>,
@@ -44,7 +45,7 @@ fn number<'t>(
     numbers.key(seen, first)
 }
 
-// The place of a key among these, which stands behind all others where it is new.
+// The place of a key among these, which stands after all others where it is new.
 fn put<'t>(
     rows: &mut IndexSet<NumberedKey<'t>, HashSeed>,
     key: NumberedKey<'t>,
@@ -70,7 +71,8 @@ impl<'t> Model for FirstRows<'t> {
 }
 
 impl<'t> FirstRows<'t> {
-    /// No row yet. Whether long texts of keys have numbers is told once. The hashes begin with the seed.
+    /// No row yet. Whether long texts of keys have numbers is told once. The hashes begin with the
+    /// seed.
     pub fn new(alloc: Global, seed: HashSeed, are_numbered: bool) -> FirstRows<'t>
         ensures { result.keys ≡ [] }
     {
@@ -101,14 +103,16 @@ impl<'t> FirstRows<'t> {
         self.rows.as_slice()[place].first()
     }
 
-    /// The place of a row's key, which stands behind all others where it is new.
+    /// The place of a row's key, which stands after all others where it is new.
     ///
     /// # Errors
     ///
     /// `AllocError` where memory is refused, or 32 bits do not tell the number of its long texts.
     pub fn insert(&mut self, first: RowKey<'t>) -> Result<usize, AllocError>
-        ensures inserted { OnOk result (self.new.keys ≡ insert_key same_first self.old.keys first.entry) }
-        ensures place { IfOk result (λ place. place ≡ position_or_len (same_first first.entry) self.old.keys) }
+        ensures inserted { OnOk result
+            (self.new.keys ≡ insert_key same_first self.old.keys first.entry) }
+        ensures place { IfOk result
+            (λ place. place ≡ position_or_len (same_first first.entry) self.old.keys) }
     {
         if self.are_numbered {
             let mut seen = SeenNumbers::new(*self.rows.allocator(), self.seed(), 0);
@@ -129,8 +133,10 @@ impl<'t> FirstRows<'t> {
         first: RowKey<'t>,
     ) -> Result<usize, AllocError>
         requires seen { FitSeen self.old.texts first seen.old }
-        ensures inserted { OnOk result (self.new.keys ≡ insert_key same_first self.old.keys first.entry) }
-        ensures place { IfOk result (λ place. place ≡ position_or_len (same_first first.entry) self.old.keys) }
+        ensures inserted { OnOk result
+            (self.new.keys ≡ insert_key same_first self.old.keys first.entry) }
+        ensures place { IfOk result
+            (λ place. place ≡ position_or_len (same_first first.entry) self.old.keys) }
         ensures seen { FitSeen self.new.texts first.entry seen.new }
     {
         let texts = number(self.are_numbered, &mut self.numbers, seen, &first)?;

@@ -10,14 +10,16 @@ ghost use Rattle.arrays.specs.Batch.{row_of};
 use arrays::{Batch, Cells};
 use scan_base::ValueRef;
 
-/// A row, with the number of its batch, and the columns whose values in it are its key: no value is copied.
+/// A row, with the number of its batch, and the columns whose values in it are its key: no value is
+/// copied.
 #[derive(Clone, Copy, Drop)]
 pub struct RowKey<'t> {
     pub number: usize,
     pub batch: &'t Batch,
     pub columns: &'t [usize],
     pub row: u32,
-    ghost there: { IsTrue (list_all (λ column. nat_lt column (length batch.now.columns)) columns.now) },
+    ghost there: { IsTrue
+        (list_all (λ column. nat_lt column (length batch.now.columns)) columns.now) },
     ghost within: { row < batch.now.rows },
 }
 
@@ -40,10 +42,12 @@ pub(crate) fn cell_at<'t>(
     row: u32,
     place: usize,
 ) -> ValueRef<'t>
-    requires there { IsTrue (list_all (λ column. nat_lt column (length batch.now.columns)) columns.now) }
+    requires there { IsTrue
+        (list_all (λ column. nat_lt column (length batch.now.columns)) columns.now) }
     requires within { row < batch.now.rows }
     requires place { place < length columns.now }
-    ensures { value_of result ≡ get_or (map (cell_in (row_of batch.now.columns row)) columns.now) place Null }
+    ensures { value_of result
+        ≡ get_or (map (cell_in (row_of batch.now.columns row)) columns.now) place Null }
 {
     batch.columns()[columns[place]].value_at(row as usize)
 }

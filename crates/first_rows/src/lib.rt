@@ -1,4 +1,5 @@
-//! The first row of each key, in the order in which keys came. Long texts of a key have numbers, by which keys are compared.
+//! The first row of each key, in the order in which keys came. Long texts of a key have numbers, by
+//! which keys are compared.
 #![tactic(auto)]
 
 mod cell;

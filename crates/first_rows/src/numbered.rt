@@ -10,8 +10,9 @@ use arrays::Batch;
 use scan_base::ValueRef;
 use std::hash::{Hash, Hasher};
 
-/// A first row, and the number of the long texts of its key: 0 where none has one. Then the texts themselves are compared. The two
-/// numbers of 32 bits lie side by side, so that a key takes no more than its row.
+/// A first row, and the number of the long texts of its key: 0 where none has one. Then the texts
+/// themselves are compared. The two numbers of 32 bits lie side by side, so that a key takes no
+/// more than its row.
 #[derive(Clone, Copy, Drop)]
 pub(crate) struct NumberedKey<'t> {
     pub(crate) number: usize,
@@ -19,7 +20,8 @@ pub(crate) struct NumberedKey<'t> {
     pub(crate) columns: &'t [usize],
     pub(crate) row: u32,
     pub(crate) texts: u32,
-    ghost there: { IsTrue (list_all (λ column. nat_lt column (length batch.now.columns)) columns.now) },
+    ghost there: { IsTrue
+        (list_all (λ column. nat_lt column (length batch.now.columns)) columns.now) },
     ghost within: { row < batch.now.rows },
 }
 
@@ -53,7 +55,7 @@ impl<'t> NumberedKey<'t> {
         }
     }
 
-    // What is compared of the value at a place of the key, beside the number.
+    // What is compared of the value at a place of the key, next to the number.
     fn part(&self, place: usize) -> Option<ValueRef<'t>>
         requires { place < length self.now.columns.now }
         ensures { option_map value_of result ≡ get_or (rest_of self.now) place None }

@@ -13,8 +13,9 @@ use hash_seed::HashSeed;
 use indexmap::IndexSet;
 use std::alloc::{AllocError, Global};
 
-/// Texts, the place of each is its number; and pairs of the number of earlier texts of a key, and that of one text more. The
-/// place of a pair, and 1, is the number of them all. That of one text alone is its own, and 1. No texts have the number 0.
+/// Texts, the place of each is its number; and pairs of the number of earlier texts of a key, and
+/// that of one text more. The place of a pair, and 1, is the number of them all. That of one text
+/// alone is its own, and 1. No texts have the number 0.
 #[derive(Drop)]
 pub(crate) struct TextNumbers<'t> {
     pub(crate) texts: IndexSet<&'t str, HashSeed>,
@@ -53,7 +54,8 @@ impl<'t> TextNumbers<'t> {
     // The number of a text: a new one, where it has none.
     fn text(&mut self, text: &'t str) -> Result<u32, AllocError>
         ensures stay { Stay self.old self.new }
-        ensures is { IfOk result (λ number. text_number (self.new).texts.keys (Text text.now) ≡ Some number) }
+        ensures is { IfOk result
+            (λ number. text_number (self.new).texts.keys (Text text.now) ≡ Some number) }
     {
         match self.texts.insert_full(text) {
             Ok((place, _)) => short(place),
@@ -61,7 +63,7 @@ impl<'t> TextNumbers<'t> {
         }
     }
 
-    // The number of the texts of a number and of one text behind them.
+    // The number of the texts of a number and of one text after them.
     fn with(&mut self, before: u32, text: u32) -> Result<u32, AllocError>
         ensures stay { Stay self.old self.new }
         ensures is { IfOk result (IsBehind (self.new).pairs.keys before text) }
@@ -86,7 +88,8 @@ impl<'t> TextNumbers<'t> {
         requires seen { AreSeen self.old at.now.batch.now at.now.columns.now seen.old }
         ensures stay { Stay self.old self.new }
         ensures seen { AreSeen self.new at.now.batch.now at.now.columns.now seen.new }
-        ensures is { IfOk result (λ number. text_number (self.new).texts.keys (Text text.now) ≡ Some number) }
+        ensures is { IfOk result
+            (λ number. text_number (self.new).texts.keys (Text text.now) ≡ Some number) }
     {
         if let Some(number) = seen.number(at) {
             return Ok(number);
@@ -96,7 +99,8 @@ impl<'t> TextNumbers<'t> {
         Ok(number)
     }
 
-    // The number of the long texts of the parts of a key up to one, where those before have this number.
+    // The number of the long texts of the parts of a key up to one, where those before have this
+    // number.
     fn part(
         &mut self,
         seen: &mut SeenNumbers,

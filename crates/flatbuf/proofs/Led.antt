@@ -43,7 +43,7 @@ pub absent_structs : (t : TableAt) (slot width : ℕ) → field_of t slot ≡ Ok
 unfolding structs_of
 absent_structs t slot width e = rw e refl
 
--- the count and the items of a block stand 4 and 8 bytes behind its first
+-- the count and the items of a block stand 4 and 8 bytes after its first
 items_stand : (count : ℕ) (items bytes : List ℕ) (at : ℕ) → Stands (items_part count items).bytes bytes at →
     Stands (little 4 count) bytes (at + 4) × Stands items bytes (at + 8)
 unfolding items_part

@@ -27,7 +27,7 @@ whole_table slots whole =
     let d = whole_children slots whole in
     record { rooted = omega arith; whole = omega arith }
 
--- a table takes at most so much beside the blocks that it leads to
+-- a table takes at most so much next to the blocks that it leads to
 pub short_table : TableIsShort
 unfolding vtable
 short_table slots =
@@ -108,7 +108,7 @@ whole_tables tables whole =
     let c = tables_from_is (length tables) in
     record { rooted = omega arith; whole = omega arith }
 
--- a vector of tables takes at most so much beside the tables
+-- a vector of tables takes at most so much next to the tables
 pub short_tables : TablesAreShort
 short_tables tables =
     let a = length-tables tables in

@@ -114,7 +114,7 @@ seen_target bytes at =
     (seen_then (number_at 4 bytes at) (λ offset. Ok (at + offset)) (HasNumber 4 bytes at) (λ offset target. target ≡ at + offset)
     (seen_number 4 bytes at) (λ offset h. (refl, λ y e. e)))
 
--- the items behind a count
+-- the items after a count
 pub seen_items : (width : ℕ) (bytes : List ℕ) (at : ℕ) → Seen (items_at width bytes at) (AreItems width bytes at)
 unfolding items_at
 seen_items width bytes at =

@@ -199,7 +199,7 @@ pub whole_vtable : (slots : List Given) → length (vtable slots) % 8 ≡ 0
 unfolding vtable
 whole_vtable slots = length_padded (numbers 2 ((4 + 2 * length slots) ∷ (8 + 8 * length slots) ∷ entries 8 slots))
 
--- a table begins right behind its vtable
+-- a table begins right after its vtable
 pub root_table : (slots : List Given) → (table_part slots).root ≡ length (vtable slots)
 unfolding table_part
 root_table slots = refl

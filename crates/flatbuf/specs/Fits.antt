@@ -1,9 +1,10 @@
--- What the format has room for: no buffer has 2 ^ 31 bytes, and a vtable's sizes are numbers of 2 bytes.
+-- What the format has room for: no buffer has 2 ^ 31 bytes, and a vtable's sizes are numbers of 2
+-- bytes.
 use Rattle.std.specs.Prelude.{◌≡◌, ℕ, ◌+◌, ◌*◌, ◌%◌, ◌^◌, ◌<◌, List, length}
 use Rattle.flatbuf.specs.Block.{Part, Given, table_part, tables_part}
 
--- A table and what it leads to. The table's size, 8 bytes and 8 more for each slot, is the greater of the
--- two that its vtable says.
+-- A table and what it leads to. The table's size, 8 bytes and 8 more for each slot, is the greater
+-- of the two that its vtable says.
 pub record FitsTable (slots : List Given) : Type 0 where
   pub few : 8 + 8 * length slots < 2 ^ 16
   pub small : length (table_part slots).bytes < 2 ^ 31

@@ -1,6 +1,7 @@
--- The FlatBuffers binary format in its own words: what lies where in a buffer, with no reading in it.
--- Every place is counted from the buffer's first byte.
-use Rattle.std.specs.Prelude.{◌≡◌, ◌≢◌, ◌≤◌, ◌<◌, ◌⊎◌, ℕ, ◌+◌, ◌*◌, pos, ◌-ℤ◌, ◌++◌, List, length, Option, Some, None}
+-- The FlatBuffers binary format in its own words: what lies where in a buffer, with no reading in
+-- it. Every place is counted from the buffer's first byte.
+use Rattle.std.specs.Prelude.{◌≡◌, ◌≢◌, ◌≤◌, ◌<◌, ◌⊎◌, ℕ, ◌+◌, ◌*◌, pos, ◌-ℤ◌, ◌++◌, List, length}
+use Rattle.std.specs.Prelude.{Option, Some, None}
 use Rattle.std.specs.Int.{w32, cast_signed}
 use Rattle.std.specs.List.{All}
 use Rattle.std.specs.Str.{IsUtf8}
@@ -46,14 +47,16 @@ pub record HasRoot (bytes : List ℕ) (table : TableAt) : Type 0 where
   pub same : table.bytes ≡ bytes
   pub offset : HasOffset bytes 0 table.at
 
--- a table begins with a signed number of four bytes, and its vtable lies at the table's place minus that
+-- a table begins with a signed number of four bytes, and its vtable lies at the table's place minus
+-- that
 pub record HasVtable (table : TableAt) (vtable : ℕ) : Type 0 where
   pub back : ℕ
   pub stored : HasNumber 4 table.bytes table.at back
   pub place : pos vtable ≡ pos table.at -ℤ cast_signed w32 back
 
--- A vtable begins with its own size and its table's size, and an entry for each slot follows, each a
--- number of two bytes. A slot whose entry does not lie within the vtable's size counts as an entry of 0.
+-- A vtable begins with its own size and its table's size, and an entry for each slot follows, each
+-- a number of two bytes. A slot whose entry does not lie within the vtable's size counts as an
+-- entry of 0.
 pub record HasEntry (bytes : List ℕ) (vtable slot entry : ℕ) : Type 0 where
   pub size : ℕ
   pub sized : HasNumber 2 bytes vtable size
@@ -85,7 +88,8 @@ pub record HasScalar (width : ℕ) (table : TableAt) (slot default n : ℕ) : Ty
   pub scalar : IsScalar width table.bytes default place n
 
 -- the offset at a place leads to something of which this holds
-pub record LeadsTo {A : Type 0} (holds : ℕ → A → Type 0) (bytes : List ℕ) (at : ℕ) (found : A) : Type 0 where
+pub record LeadsTo {A : Type 0} (holds : ℕ → A → Type 0) (bytes : List ℕ) (at : ℕ)
+    (found : A) : Type 0 where
   pub target : ℕ
   pub offset : HasOffset bytes at target
   pub there : holds target found
@@ -98,7 +102,8 @@ IsReached holds bytes (Some place) None = ⊥
 IsReached holds bytes (Some place) (Some found) = LeadsTo holds bytes place found
 
 -- a slot is absent and has nothing, or leads to something of which this holds
-pub record Reaches {A : Type 0} (holds : ℕ → A → Type 0) (table : TableAt) (slot : ℕ) (found : Option A) : Type 0 where
+pub record Reaches {A : Type 0} (holds : ℕ → A → Type 0) (table : TableAt) (slot : ℕ)
+    (found : Option A) : Type 0 where
   pub place : Option ℕ
   pub field : HasField table slot place
   pub reached : IsReached holds table.bytes place found
@@ -114,14 +119,14 @@ pub record IsVector (bytes : List ℕ) (at : ℕ) (vector : VectorAt) : Type 0 w
   pub counted : HasNumber 4 bytes at vector.count
   pub first : vector.first ≡ at + 4
 
--- the items behind a count of four bytes, each of this width, one after the other
+-- the items after a count of four bytes, each of this width, one after the other
 pub record AreItems (width : ℕ) (bytes : List ℕ) (at : ℕ) (items : List ℕ) : Type 0 where
   pub count : ℕ
   pub counted : HasNumber 4 bytes at count
   pub stand : Stands items bytes (at + 4)
   pub wide : length items ≡ count * width
 
--- a text: its bytes behind their count, which are UTF-8
+-- a text: its bytes after their count, which are UTF-8
 pub record IsText (bytes : List ℕ) (at : ℕ) (text : List ℕ) : Type 0 where
   pub items : AreItems 1 bytes at text
   pub utf8 : IsUtf8 text

@@ -2,17 +2,23 @@
 use Rattle.std.specs.Prelude.{◌≡◌, ◌↔◌, ℕ, List, length, Result, Ok, Err}
 use Rattle.scan_base.specs.declared.fault.Fault.{Fault}
 use Rattle.scan_base.specs.declared.fault.Fault.TheVariants.{BadFlatbuffer}
-use Rattle.flatbuf.specs.Layout.{Stands, IsBytes, HasNumber, HasOffset, TableAt, VectorAt, HasRoot, HasVtable, HasField, HasScalar, AreItems, HasTable, HasVector, HasStructs, HasText, HasElement}
-use Rattle.flatbuf.specs.Place.{number_at, bytes_at, target_of, root_of, vtable_of, field_of, scalar_of, table_of, vector_of, element_of, items_at, structs_of, text_of}
+use Rattle.flatbuf.specs.Layout.{Stands, IsBytes, HasNumber, HasOffset, TableAt, VectorAt, HasRoot}
+use Rattle.flatbuf.specs.Layout.{HasVtable, HasField, HasScalar, AreItems, HasTable, HasVector}
+use Rattle.flatbuf.specs.Layout.{HasStructs, HasText, HasElement}
+use Rattle.flatbuf.specs.Place.{number_at, bytes_at, target_of, root_of, vtable_of, field_of}
+use Rattle.flatbuf.specs.Place.{scalar_of, table_of, vector_of, element_of, items_at, structs_of}
+use Rattle.flatbuf.specs.Place.{text_of}
 
 -- what is read is the value of which this holds, and BadFlatbuffer where it holds of none
 pub record Finds {A : Type 0} (read : Result A Fault) (holds : A → Type 0) : Type 0 where
   pub value : (x : A) → (read ≡ Ok x) ↔ holds x
-  pub refusal : (fault : Fault) → (read ≡ Err fault) ↔ ((fault ≡ BadFlatbuffer) × ((x : A) → ¬ (holds x)))
+  pub refusal : (fault : Fault) →
+      (read ≡ Err fault) ↔ ((fault ≡ BadFlatbuffer) × ((x : A) → ¬ (holds x)))
 
 -- the number at a place
 abbrev pub FindsNumber : Type 0
-FindsNumber = (width : ℕ) (bytes : List ℕ) (at : ℕ) → Finds (number_at width bytes at) (HasNumber width bytes at)
+FindsNumber = (width : ℕ) (bytes : List ℕ) (at : ℕ) →
+    Finds (number_at width bytes at) (HasNumber width bytes at)
 
 -- so many bytes from a place on
 abbrev pub FindsBytes : Type 0
@@ -33,7 +39,8 @@ FindsVtable = (table : TableAt) → IsBytes table.bytes → Finds (vtable_of tab
 
 -- the field of a slot
 abbrev pub FindsField : Type 0
-FindsField = (table : TableAt) (slot : ℕ) → IsBytes table.bytes → Finds (field_of table slot) (HasField table slot)
+FindsField = (table : TableAt) (slot : ℕ) → IsBytes table.bytes →
+    Finds (field_of table slot) (HasField table slot)
 
 -- the number of a slot
 abbrev pub FindsScalar : Type 0
@@ -42,19 +49,23 @@ FindsScalar = (width : ℕ) (table : TableAt) (slot default : ℕ) → IsBytes t
 
 -- the table of a slot
 abbrev pub FindsTable : Type 0
-FindsTable = (table : TableAt) (slot : ℕ) → IsBytes table.bytes → Finds (table_of table slot) (HasTable table slot)
+FindsTable = (table : TableAt) (slot : ℕ) → IsBytes table.bytes →
+    Finds (table_of table slot) (HasTable table slot)
 
 -- the vector of tables of a slot
 abbrev pub FindsVector : Type 0
-FindsVector = (table : TableAt) (slot : ℕ) → IsBytes table.bytes → Finds (vector_of table slot) (HasVector table slot)
+FindsVector = (table : TableAt) (slot : ℕ) → IsBytes table.bytes →
+    Finds (vector_of table slot) (HasVector table slot)
 
 -- the table of an index of a vector
 abbrev pub FindsElement : Type 0
-FindsElement = (vector : VectorAt) (index : ℕ) → Finds (element_of vector index) (HasElement vector index)
+FindsElement =
+    (vector : VectorAt) (index : ℕ) → Finds (element_of vector index) (HasElement vector index)
 
--- the items behind a count
+-- the items after a count
 abbrev pub FindsItems : Type 0
-FindsItems = (width : ℕ) (bytes : List ℕ) (at : ℕ) → Finds (items_at width bytes at) (AreItems width bytes at)
+FindsItems = (width : ℕ) (bytes : List ℕ) (at : ℕ) →
+    Finds (items_at width bytes at) (AreItems width bytes at)
 
 -- the structs of a slot
 abbrev pub FindsStructs : Type 0
@@ -63,4 +74,5 @@ FindsStructs = (width : ℕ) (table : TableAt) (slot : ℕ) → IsBytes table.by
 
 -- the text of a slot
 abbrev pub FindsText : Type 0
-FindsText = (table : TableAt) (slot : ℕ) → IsBytes table.bytes → Finds (text_of table slot) (HasText table slot)
+FindsText = (table : TableAt) (slot : ℕ) → IsBytes table.bytes →
+    Finds (text_of table slot) (HasText table slot)

@@ -4,7 +4,7 @@
 //! their own place, so a block means the same wherever it stands, and nothing is patched. Of the
 //! layouts that the format allows, this is the one: a vtable stands right before its table and is
 //! shared with no other, each slot has a field of 8 bytes, and the blocks that fields lead to stand
-//! behind the table. Each block has a multiple of 8 bytes, so that what it leads to is aligned.
+//! after the table. Each block has a multiple of 8 bytes, so that what it leads to is aligned.
 
 ghost use Rattle.std.specs.Prelude.{◌≡◌, ◌≤◌, ◌<◌, ◌+◌, ◌-◌, ◌*◌, ◌%◌, ◌^◌, ◌++◌, [], ◌∷◌};
 ghost use Rattle.std.specs.Prelude.{length, map, OnOk, IfOk, Ok};
@@ -43,7 +43,7 @@ pub enum Slot<'a> {
     /// A scalar, which reads back in each width of up to 8 bytes that holds it. A negative number
     /// is given as its two's complement in the width of its slot.
     Number(u64),
-    /// An offset to a table, a vector or a text, whose bytes are copied behind the table.
+    /// An offset to a table, a vector or a text, whose bytes are copied after the table.
     Offset(&'a Block),
 }
 
@@ -56,14 +56,14 @@ fn put(out: &mut Vec<u8>, number: u64, width: usize) -> Result<(), AllocError>
     out.extend_from_slice(&number.to_le_bytes()[..width])
 }
 
-// How many zeros stand behind so many bytes.
+// How many zeros stand after so many bytes.
 fn padding_len(written: usize) -> usize
     ensures { result ≡ (8 - written % 8) % 8 }
 {
     (8 - written % 8) % 8
 }
 
-// Writes zeros up to a multiple of 8 behind so many bytes.
+// Writes zeros up to a multiple of 8 after so many bytes.
 #[tactic(auto, unfolding(crate::specs::Block::padding))]
 fn pad(out: &mut Vec<u8>, written: usize) -> Result<(), AllocError>
     ensures { OnOk result (out.new.items ≡ out.old.items ++ padding written) }

@@ -40,7 +40,7 @@ fn bytes_from(bytes: &[u8], at: usize, count: usize) -> Result<&[u8], Fault>
     Ok(&bytes[at..at + count])
 }
 
-/// The items behind the count at a place, each of this many bytes.
+/// The items after the count at a place, each of this many bytes.
 #[tactic(auto, unfolding(crate::specs::Place::items_at))]
 pub(crate) fn items(bytes: &[u8], at: usize, width: usize) -> Result<&[u8], Fault>
     requires { width < 2 ^ 16 }

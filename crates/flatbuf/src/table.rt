@@ -81,8 +81,8 @@ impl<'a> Table<'a> {
     ///
     /// # Errors
     ///
-    /// `Fault::BadFlatbuffer` if something that is read lies outside the buffer. Of the field itself nothing
-    /// is read.
+    /// `Fault::BadFlatbuffer` if something that is read lies outside the buffer. Of the field
+    /// itself nothing is read.
     #[tactic(auto, unfolding(crate::specs::Place::field_of))]
     pub fn field(&self, slot: u16) -> Result<Option<usize>, Fault>
         ensures value { Gives (λ place. place) result (field_of self.now slot) }

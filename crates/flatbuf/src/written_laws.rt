@@ -1,6 +1,6 @@
 //! What was written is read back, and how long it is. Each function here has an empty body: its
-//! contract is a law, of every block that a [`Builder`](crate::Builder) writes, wherever it stands in a
-//! buffer.
+//! contract is a law, of every block that a [`Builder`](crate::Builder) writes, wherever it stands
+//! in a buffer.
 
 ghost use Rattle.flatbuf.specs.Written.{TableReadsBack, VtableReadsBack, TableIsAligned};
 ghost use Rattle.flatbuf.specs.Written.{ChildReadsBack, TextReadsBack, StructsReadBack};
@@ -49,27 +49,27 @@ pub fn buffer_reads_back()
     ensures { BufferReadsBack }
 {}
 
-/// A table of whole blocks is whole: it has a multiple of 8 bytes. It has at most 20, and 10 more for
-/// each slot, beside those of the blocks that it leads to.
+/// A table of whole blocks is whole: it has a multiple of 8 bytes. It has at most 20, and 10 more
+/// for each slot, next to those of the blocks that it leads to.
 pub fn table_is_short()
     ensures whole { TableIsWhole }
     ensures short { TableIsShort }
 {}
 
-/// A text's block is whole, and has at most 16 bytes beside those of the text.
+/// A text's block is whole, and has at most 16 bytes next to those of the text.
 pub fn text_is_short()
     ensures whole { TextIsWhole }
     ensures short { TextIsShort }
 {}
 
-/// A block of structs is whole, and has at most 15 bytes beside those of the structs.
+/// A block of structs is whole, and has at most 15 bytes next to those of the structs.
 pub fn structs_are_short()
     ensures whole { StructsAreWhole }
     ensures short { StructsAreShort }
 {}
 
-/// A vector of whole tables is whole, and has at most 15 bytes, and 4 more for each table, beside those
-/// of the tables.
+/// A vector of whole tables is whole, and has at most 15 bytes, and 4 more for each table, next to
+/// those of the tables.
 pub fn tables_are_short()
     ensures whole { TablesAreWhole }
     ensures short { TablesAreShort }

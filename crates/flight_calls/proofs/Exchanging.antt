@@ -46,7 +46,7 @@ asks_below : (moves : Moves) (keep oldest : ℕ) (payloads : List Payload) (repl
 asks_below moves keep zero payloads reply old new keeps accepted same = asks_none moves keep (Ok (put payloads)) reply old new same
 asks_below moves keep (suc below) payloads reply old new keeps accepted asks = asks_one moves keep below payloads reply old new keeps accepted asks
 
--- behind an accepted put
+-- after an accepted put
 asks_behind : (moves : Moves) (keep newest : ℕ) (payloads : List Payload) (reply : ReplyAt) (old new : Seat) → reply.fault ≡ None → AsksItself moves (oldest_kept keep newest) old new
     → Own moves keep (Ok (put payloads)) reply old new
 asks_behind moves zero newest payloads reply old new accepted same = asks_none moves zero (Ok (put payloads)) reply old new same
@@ -54,7 +54,7 @@ asks_behind moves (suc others) newest payloads reply old new accepted asks =
     let some : suc others ≢ 0 = λ (none : suc others ≡ 0). omega (arith, none) in
     asks_below moves (suc others) (newest + 1 - suc others) payloads reply old new some accepted asks
 
--- behind a reply
+-- after a reply
 own_behind : (moves : Moves) (keep : ℕ) (asked : Result Asked Fault) (reply : ReplyAt) (after : Log) (old new : Seat) → AsksItself moves (expired_behind keep asked reply.fault after) old new → Own moves keep asked reply old new
 own_behind moves keep (Ok (put payloads)) reply after old new asks = by reply.fault refl asks
   where

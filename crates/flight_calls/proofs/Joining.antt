@@ -20,7 +20,7 @@ use Rattle.flight_calls.specs.Responds.{Responds, Answers, expired_behind}
 use Rattle.flight_calls.proofs.Keeping.{asking_grows}
 use Rattle.flight_calls.specs.Joining.{LaterCallsSee, logs_of, Replied, FetchServed, SeatsMeetJoined}
 
--- behind a reply a seat has seen all that it had seen, and the log that the reply left
+-- after a reply a seat has seen all that it had seen, and the log that the reply left
 responds_keep : (moves : Moves) (keep : ℕ) (asked : Result Asked Fault) (old new : Seat) (reply : ReplyAt) → Responds moves keep asked old reply new → Begins old.log new.log
 responds_keep moves keep asked old new reply r =
     begins_on old.log r.middle.log new.log r.reacts.goes.kept (asking_grows moves (expired_behind keep asked reply.fault r.reacts.after) r.middle new r.keeps)
@@ -58,7 +58,7 @@ later_calls_see moves options one other before between behind new reply answer c
 
 -- ---- a reply among others
 
--- a step from this log, behind which the seat saw this one
+-- a step from this log, after which the seat saw this one
 record Stepped (asked : Result Asked Fault) (reply : ReplyAt) (log last : Log) : Type 0 where
   after : Log
   step : ReplyTo asked log reply after

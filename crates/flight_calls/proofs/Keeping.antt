@@ -1,4 +1,4 @@
--- Versions that are kept behind a reply, and the expiry of the others, which the server asks of itself.
+-- Versions that are kept after a reply, and the expiry of the others, which the server asks of itself.
 use Rattle.std.proofs.Common.{◌≡◌, ◌≢◌, ◌<◌, ◌≤◌, ℕ, zero, suc, ◌+◌, ◌-◌, ◌^◌, Vec, List, [], ◌∷◌, length, Option, Some, None, Result, Ok, Err, refl, ap, subst, arith}
 use Rattle.std.specs.Global.{Global}
 use Rattle.std.specs.Prelude.{codes}
@@ -31,7 +31,7 @@ use Rattle.flight_core.proofs.Running.{begins_itself}
 
 -- ---- an answer that is written
 
--- behind it the same versions are kept: a stream is no answer to a put
+-- after it the same versions are kept: a stream is no answer to a put
 kept_so : (keep : ℕ) (asked : Result Asked Fault) (log after : Log) (answer : Answer) (reply : ReplyAt) → AnsweredBy asked log answer after → IsReplyOf answer reply
     → expired_behind keep asked (fault_in answer) after ≡ expired_behind keep asked reply.fault after
 kept_so keep asked log after (Whole whole) reply answered is = rw is refl
@@ -92,7 +92,7 @@ pub asking_grows : (moves : Moves) (below : ℕ) (old new : Seat) → AsksItself
 asking_grows moves zero old new same = rw same (begins_itself old.log)
 asking_grows moves (suc below) old new asks = asks.1.goes.kept
 
--- behind this reply none is expired
+-- after this reply none is expired
 pub all_kept : (moves : Moves) (keep : ℕ) (asked : Result Asked Fault) (old new : Seat) (answer : Answer) (r : ReactsBy moves asked old answer new)
     → expired_behind keep asked (fault_in answer) r.after ≡ 0 → RespondsBy moves keep asked old answer new
 all_kept moves keep asked old new answer r none = record { middle = new; reacts = r; keeps = rw none refl }

@@ -11,7 +11,7 @@ use Rattle.grpc_frame.proofs.Sending.{head_not_sent, both_sent, second_not_sent}
 abbrev pub joined : List (List ℕ) → List ℕ
 joined parts = flat_map (λ part. part) parts
 
--- so many parts of a message were sent, behind what stands before the parts
+-- so many parts of a message were sent, after what stands before the parts
 pub record HasSentParts (payload : List ℕ) (parts : List (List ℕ)) (count : ℕ) (a b : Option (List ℕ)) (before after : List ℕ) : Type 0 where
   pub front : List ℕ
   pub whole : front ++ joined parts ≡ spelling (Message payload)

@@ -63,7 +63,7 @@ started moves options old left e = rw e (record {
 
 -- ---- what was served
 
--- more came, behind what is left
+-- more came, after what is left
 served_then : (moves : Moves) (options : Options) (log new : Seat) (came rest more : List ℕ) (replies : List ReplyAt) → Served moves options log came rest replies new → Served moves options log (came ++ more) (rest ++ more) replies new
 served_then moves options log new came rest more replies s = record {
   calls = s.calls;
@@ -108,7 +108,7 @@ items_more replies reply = map-append answer_bytes replies (reply ∷ [])
 -- ---- a call is served
 
 module _ (moves : Moves) (options : Options) (old mid : Connection) (left : Received) (p : Progress moves options old mid left) where
-  -- what is left, once more came, is behind calls
+  -- what is left, once more came, is after calls
   behind : (more : List ℕ) → with_more left more ≡ behind_calls (left.bytes ++ more)
   behind more = ap (λ (place : Place). received (left.bytes ++ more) place) p.between
     where
@@ -162,7 +162,7 @@ module _ (moves : Moves) (options : Options) (old mid : Connection) (left : Rece
       (map answer_bytes p.replies) (answer_bytes reply ∷ []) (Advances-trans old.input mid.input new.input p.came q.0 p.consumed q.1)
       (call_replied new left' request reply q replied sent) (items_more p.replies reply) (mid.output, p.wrote, begun) counted
 
-  -- nothing is done for what came behind the calls
+  -- nothing is done for what came after the calls
   pub ends : (result : Result (Unit {0}) Fault) (new : Connection) (more : List ℕ) (last : Option Fault) (done begun : List (List ℕ)) → Advances mid.input new.input more → new.seat ≡ mid.seat
       → items_owed p.replies last ≡ done ++ begun → Wrote old.output new.output done begun → Why result old new (left.bytes ++ more) last begun → Serves moves options result old new
   ends result new more last done begun consumed log owes wrote why =

@@ -150,7 +150,7 @@ module _ (law : StreamsAnswer) where
   stream_refused r fault first stream next a b c before mid after has gives last =
       stream_ends_by r fault first stream a b c before mid after has (λ none. was_refused stream next fault none gives) last
 
-  -- what was still to be given was sent behind it, or not
+  -- what was still to be given was sent after it, or not
   pub stream_rest : (r : Result (Unit {0}) Fault) (first stream last : StreamAt) → last ≡ stream → (a b c : Option (List ℕ)) (before mid after : List ℕ) → HasSent first stream a b before mid
       → SendsRest last r b c mid after → SendsRest first r a c before after
   stream_rest r first stream last is a b c before mid after has rest database handle answer earlier means at none =
@@ -173,7 +173,7 @@ fresh stream = before_schema stream.schema stream.left
 pub first_given : (stream : StreamAt) (payload : Payload) → stream ≡ fresh stream → GivesSchema stream.schema (Ok payload) → Gives stream (Ok (Some (payload ∷ []))) (behind_schema stream.schema stream.left)
 first_given stream payload is gives = subst (λ (s : StreamAt). Gives s (Ok (Some (payload ∷ []))) (behind_schema stream.schema stream.left)) (sym is) (gives stream.left)
 
--- the stream behind it
+-- the stream after it
 pub made_behind : (stream made last : StreamAt) → stream ≡ fresh stream → made ≡ stream → last ≡ record made { begun = true } → last ≡ behind_schema stream.schema stream.left
 made_behind stream made last is same goes = goes ∙ ap (λ (s : StreamAt). record s { begun = true }) (same ∙ is)
 

@@ -54,7 +54,7 @@ passed_more from left new records found p leads not_end = record {
   no_end = All-append (λ r. r ≢ End) records (found ∷ []) p.no_end (All-cons (λ r. r ≢ End) found [] not_end (All-nil (λ r. r ≢ End)));
 }
 
--- the place behind an End
+-- the place after an End
 behind_end : (place next : Place) → place_after place End ≡ Some next → next ≡ BetweenCalls
 behind_end BetweenCalls next e = absurd cc
 behind_end InsideCall next e = cc
@@ -68,7 +68,7 @@ passed_end from left new records p leads = record {
   behind = behind_end left.place new.place leads.moves;
 }
 
--- others behind them
+-- others after them
 passed_both : (from left rest : Received) (records others : List Record) → Passed from records left → Passed left others rest → Passed from (records ++ others) rest
 passed_both from left rest records others p q = record {
   whole = p.whole ∙ ap (λ (b : List ℕ). flat_map spelling records ++ b) q.whole
@@ -83,7 +83,7 @@ passed_both from left rest records others p q = record {
 sound_at : (from left left' : Received) (records : List Record) → left' ≡ left → Passed from records left → IsSound left → IsSoundAt from left'
 sound_at from left left' records same p sound = subst (λ (l : Received). IsSoundAt from l) (sym same) (records, p, sound)
 
--- how it ends behind them
+-- how it ends after them
 pub passed_ends : (from left : Received) (records : List Record) (ending : Ending) → Passed from records left → Ends left ending → EndsIn from ending
 passed_ends from left records ending p ends = record {
   records = records;
@@ -92,7 +92,7 @@ passed_ends from left records ending p ends = record {
   no_end = p.no_end;
 }
 
--- more has to come behind them
+-- more has to come after them
 pub passed_cut : (from left : Received) (records : List Record) → Passed from records left → IsCut left → EndsInside from
 passed_cut from left records p is_cut = by left.bytes refl
   where
@@ -183,7 +183,7 @@ module _ (a b c : Tape) (old mid new : Received) (messages : List Payload) (p : 
 
 -- ---- a call
 
--- records that end so behind others
+-- records that end so after others
 ends_after : (from left : Received) (records : List Record) (ending : Ending) → Passed from records left → EndsIn left ending → EndsIn from ending
 ends_after from left records ending p q = record {
   records = records ++ q.records;

@@ -148,7 +148,7 @@ pub nothing_not_sent : (a b c : Option (List ℕ)) (before mid after : List ℕ)
 nothing_not_sent a b c before mid after payloads status sent failed =
     rw (status_last payloads status) (second_not_sent a b c before mid after (messages_bytes payloads) (spelling status) sent (head_not_sent b c mid after [] (spelling status) failed))
 
--- the rest of an answer behind these payloads
+-- the rest of an answer after these payloads
 rest_behind : (payloads more : List Payload) (status : Record) → answer_bytes (payloads ++ more) status ≡ messages_bytes payloads ++ answer_bytes more status
 rest_behind payloads more status =
     ap (λ (l : List Record). flat_map spelling (l ++ status ∷ [])) (map-append Message payloads more)

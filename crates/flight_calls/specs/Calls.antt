@@ -1,5 +1,6 @@
 -- Calls, and what they ask.
-use Rattle.std.specs.Prelude.{ℕ, List, [], ◌∷◌, ◌++◌, map, Option, Some, None, Result, Ok, Err, codes, if◌then◌else◌}
+use Rattle.std.specs.Prelude.{ℕ, List, [], ◌∷◌, ◌++◌, map, Option, Some, None, Result, Ok, Err}
+use Rattle.std.specs.Prelude.{codes, if◌then◌else◌}
 use Rattle.std.specs.Str.{bytes_eq}
 use Rattle.scan_base.specs.declared.fault.Fault.{Fault}
 use Rattle.scan_base.specs.declared.fault.Fault.TheVariants.{UnknownMethod, BadProto}
@@ -33,7 +34,8 @@ unfoldable pub method_at : List ℕ → Option Method
 method_at path =
     if bytes_eq path (service ++ codes "DoPut") then Some method.DoPut
     else (if bytes_eq path (service ++ codes "DoGet") then Some (method.Single single.DoGet)
-    else (if bytes_eq path (service ++ codes "GetFlightInfo") then Some (method.Single single.GetFlightInfo)
+    else (if bytes_eq path (service ++ codes "GetFlightInfo")
+    then Some (method.Single single.GetFlightInfo)
     else (if bytes_eq path (service ++ codes "GetSchema") then Some (method.Single single.GetSchema)
     else (if bytes_eq path (service ++ codes "DoAction") then Some (method.Single single.DoAction)
     else None))))
@@ -46,7 +48,8 @@ info_asked _ payload parts = info payload parts
 -- what the one message of a call asks, where the server is set so; an action asks for an expiry
 abbrev pub asked_with : Options → Single → Payload → Asked
 asked_with options single.DoGet ticket = fetch ticket options.workers
-asked_with options single.GetFlightInfo payload = info_asked (wants.wanted_in payload) payload options.parts
+asked_with options single.GetFlightInfo payload =
+    info_asked (wants.wanted_in payload) payload options.parts
 asked_with options single.GetSchema payload = schema payload
 asked_with options single.DoAction action = expire action
 
@@ -58,4 +61,5 @@ asked_of options (method.Single one) _ = Err BadProto
 
 -- what a call asks, or the fault of its path or of the number of its messages
 abbrev pub asked_by : Options → Call → Result Asked Fault
-asked_by options call = wanted (method_at call.path) UnknownMethod >>= λ found. asked_of options found call.messages
+asked_by options call =
+    wanted (method_at call.path) UnknownMethod >>= λ found. asked_of options found call.messages

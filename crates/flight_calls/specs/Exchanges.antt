@@ -1,4 +1,5 @@
--- Exchanges: what a server was asked, with its replies. Calls ask it, and behind a call it may ask an expiry of itself.
+-- Exchanges: what a server was asked, with its replies. Calls ask it, and after a call it may ask
+-- an expiry of itself.
 use Rattle.std.specs.Prelude.{◌≡◌, ◌≢◌, ◌⊎◌, ℕ, List, [], ◌∷◌, ◌++◌, None, Result, Ok, Err}
 use Rattle.scan_base.specs.declared.fault.Fault.{Fault}
 use Rattle.flight_proto.specs.Expiry.{expiry_bytes}
@@ -23,8 +24,10 @@ exchanges_of options (call ∷ calls) (reply ∷ replies) =
     exchange (asked_by options call) reply ∷ exchanges_of options calls replies
 exchanges_of options _ _ = []
 
--- an expiry that a server asks of itself, behind a put that it accepted and where it does not keep all versions
-pub record IsExpiry (keep : ℕ) (asked : Result Asked Fault) (reply : ReplyAt) (own : List Exchange) : Type 0 where
+-- an expiry that a server asks of itself, after a put that it accepted and where it does not keep
+-- all versions
+pub record IsExpiry (keep : ℕ) (asked : Result Asked Fault) (reply : ReplyAt)
+    (own : List Exchange) : Type 0 where
   pub keeps : keep ≢ 0
   pub payloads : List Payload
   pub puts : asked ≡ Ok (put payloads)
@@ -33,14 +36,16 @@ pub record IsExpiry (keep : ℕ) (asked : Result Asked Fault) (reply : ReplyAt) 
   pub untold : ReplyAt
   pub alone : own ≡ exchange (Ok (expire (expiry_bytes version))) untold ∷ []
 
--- what a server asks of itself behind a reply: nothing, or one expiry
+-- what a server asks of itself after a reply: nothing, or one expiry
 abbrev pub IsOwn : ℕ → Result Asked Fault → ReplyAt → List Exchange → Type 0
 IsOwn keep asked reply own = (own ≡ []) ⊎ IsExpiry keep asked reply own
 
--- the exchanges of calls and their replies, in order, each with what the server asks of itself behind it
+-- the exchanges of calls and their replies, in order, each with what the server asks of itself
+-- after it
 abbrev pub WithOwn : Options → List Call → List ReplyAt → List Exchange → Type 0
 WithOwn options [] [] all = all ≡ []
-WithOwn options (call ∷ calls) (reply ∷ replies) all = (own : List Exchange) × (rest : List Exchange)
+WithOwn options (call ∷ calls) (reply ∷ replies) all =
+    (own : List Exchange) × (rest : List Exchange)
     × IsOwn options.keep (asked_by options call) reply own × WithOwn options calls replies rest
     × (all ≡ exchange (asked_by options call) reply ∷ (own ++ rest))
 WithOwn options _ _ all = ⊥

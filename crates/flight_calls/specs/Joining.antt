@@ -22,26 +22,31 @@ use Rattle.flight_core.specs.Reacts.{StartsAt}
 use Rattle.flight_calls.specs.Responds.{Responds, Answers}
 use Rattle.flight_calls.specs.Owed.{Connection, Serves}
 
--- What a call leaves is where every later call of the connection starts, but for a put or an expiry that was read, which goes by
--- the log that it meets. So an info or a schema sees each put that was accepted before it, and a fetch finds its version.
+-- What a call leaves is where every later call of the connection starts, but for a put or an expiry
+-- that was read, which goes by the log that it meets. So an info or a schema sees each put that was
+-- accepted before it, and a fetch finds its version.
 abbrev pub LaterCallsSee : Moves → Type 0
-LaterCallsSee moves = (options : Options) (one other : Result Asked Fault) (before between behind new : Seat)
+LaterCallsSee moves =
+    (options : Options) (one other : Result Asked Fault) (before between behind new : Seat)
     (reply answer : ReplyAt) (calls : List Call) (replies : List ReplyAt)
-    → (earlier : Responds moves options.keep one before reply between) → Answers moves options between calls replies behind
-    → (later : Responds moves options.keep other behind answer new) → StartsAt other earlier.reacts.after later.reacts.log
+    → (earlier : Responds moves options.keep one before reply between)
+    → Answers moves options between calls replies behind
+    → (later : Responds moves options.keep other behind answer new)
+    → StartsAt other earlier.reacts.after later.reacts.log
 
 -- ---- several connections
 
 -- the logs from which the replies were steps, in order
-abbrev pub logs_of : (moves : Moves) (options : Options) (old new : Seat) (calls : List Call) (replies : List ReplyAt)
-    → Answers moves options old calls replies new → List Log
+abbrev pub logs_of : (moves : Moves) (options : Options) (old new : Seat) (calls : List Call)
+    (replies : List ReplyAt) → Answers moves options old calls replies new → List Log
 logs_of moves options old new (call ∷ calls) (reply ∷ replies) answers =
     answers.1.reacts.log ∷ logs_of moves options answers.0 new calls replies answers.2
 logs_of moves options old new _ _ answers = []
 
--- A connection gave this reply to what was asked of it, by a step from this log. Then or later its seat learnt what was
--- told: the log that it has then seen begins with it.
-pub record Replied (moves : Moves) (told : Log) (asked : Asked) (reply : ReplyAt) (log : Log) : Type 0 where
+-- A connection gave this reply to what was asked of it, by a step from this log. Then or later its
+-- seat learnt what was told: the log that it has then seen begins with it.
+pub record Replied (moves : Moves) (told : Log) (asked : Asked) (reply : ReplyAt)
+    (log : Log) : Type 0 where
   pub options : Options
   pub result : Result (Unit {0}) Fault
   pub old : Connection
@@ -52,12 +57,14 @@ pub record Replied (moves : Moves) (told : Log) (asked : Asked) (reply : ReplyAt
   pub called : slice_get serves.calls place ≡ Some call
   pub asks : asked_by options call ≡ Ok asked
   pub replied : slice_get serves.replies place ≡ Some reply
-  pub at : slice_get (logs_of moves options old.seat new.seat serves.calls serves.replies serves.answers) place ≡ Some log
+  pub at : slice_get (logs_of moves options old.seat new.seat serves.calls serves.replies
+      serves.answers) place ≡ Some log
   pub seen : Log
   pub kept : Begins new.seat.log seen
   pub learnt : Begins told seen
 
--- a connection answered a fetch of this handle to its end, by whatever ticket and workers, and said these rows
+-- a connection answered a fetch of this handle to its end, by whatever ticket and workers, and said
+-- these rows
 pub record FetchServed (moves : Moves) (told : Log) (handle : HandleAt) (rows : Rows) : Type 0 where
   pub log : Log
   pub ticket : Payload
@@ -69,7 +76,8 @@ pub record FetchServed (moves : Moves) (told : Log) (handle : HandleAt) (rows : 
   pub says : PayloadsSay payloads schema rows
 
 -- a connection answered an info for what was wanted, at this log, by these handles
-pub record InfoServed (moves : Moves) (told log : Log) (wanted : Wanted) (handles : List HandleAt) : Type 0 where
+pub record InfoServed (moves : Moves) (told log : Log) (wanted : Wanted)
+    (handles : List HandleAt) : Type 0 where
   pub payload : Payload
   pub parts : ℕ
   pub said : Payload
@@ -81,12 +89,14 @@ pub record InfoServed (moves : Moves) (told log : Log) (wanted : Wanted) (handle
   pub read : info_of said ≡ Ok given
   pub gives : handles_in given ≡ Ok handles
 
--- The headline for running threads: if every endpoint of an info was fetched to its end, over any connections whose seats
--- all learnt of one log that is no shorter than the info's, before or after, the streams joined are the rows that were
--- wanted, on the tables as they stood when the info was given.
+-- The headline for running threads: if every endpoint of an info was fetched to its end, over any
+-- connections whose seats all learnt of one log that is no shorter than the info's, before or
+-- after, the streams joined are the rows that were wanted, on the tables as they stood when the
+-- info was given.
 abbrev pub SeatsMeetJoined : Moves → Type 0
-SeatsMeetJoined moves = (told log : Log) (wanted : Wanted) (handles : List HandleAt) (streams : List Rows) (answer : Table)
-    → InfoServed moves told log wanted handles → puts_in log ≤ puts_in told
+SeatsMeetJoined moves =
+    (told log : Log) (wanted : Wanted) (handles : List HandleAt) (streams : List Rows)
+    (answer : Table) → InfoServed moves told log wanted handles → puts_in log ≤ puts_in told
     → meant.Answers (database_of log) wanted answer
     → Pairwise (FetchServed moves told) handles streams
     → flat_map (λ rows. rows) streams ≡ answer.rows

@@ -1,5 +1,6 @@
 -- Laws of what became of a connection.
-use Rattle.std.specs.Prelude.{◌≡◌, ◌+◌, ℕ, List, [], ◌∷◌, ◌++◌, map, Option, Some, None, Result, Ok, Err}
+use Rattle.std.specs.Prelude.{◌≡◌, ◌+◌, ℕ, List, [], ◌∷◌, ◌++◌, map, Option, Some, None, Result, Ok}
+use Rattle.std.specs.Prelude.{Err}
 use Rattle.std.specs.List.{flat_map}
 use Rattle.scan_base.specs.declared.fault.Fault.{Fault}
 use Rattle.scan_base.specs.declared.fault.Fault.TheVariants.{Transport}
@@ -17,28 +18,34 @@ use Rattle.flight_calls.specs.Calls.{Call}
 use Rattle.flight_calls.specs.Exchanges.{Exchange, exchanges_of, WithOwn, asked_in, replies_in}
 use Rattle.flight_core.specs.Seats.{Seat, Moves, alone}
 use Rattle.flight_calls.specs.Responds.{Answers}
-use Rattle.flight_calls.specs.Owed.{Connection, Serves, EndsInside, behind_calls, answer_bytes, calls_bytes, items_owed, Wrote, Fails}
+use Rattle.flight_calls.specs.Owed.{Connection, Serves, EndsInside, behind_calls, answer_bytes}
+use Rattle.flight_calls.specs.Owed.{calls_bytes, items_owed, Wrote, Fails}
 
--- A read failed: each of these answers was written whole, and behind the calls stand no more than a beginning of one.
-pub record ReadFailed (result : Result (Unit {0}) Fault) (old new : Connection) (rest : List ℕ) (answers : List (List ℕ)) : Type 0 where
+-- A read failed: each of these answers was written whole, and after the calls stand no more than a
+-- beginning of one.
+pub record ReadFailed (result : Result (Unit {0}) Fault) (old new : Connection) (rest : List ℕ)
+    (answers : List (List ℕ)) : Type 0 where
   pub transport : result ≡ Err Transport
   pub inside : EndsInside (behind_calls rest)
   pub wrote : Wrote old.output new.output answers []
   pub counted : Fails 1 0 old new
 
--- Where a read failed, nothing else is said than that: each whole call that came before it is answered.
+-- Where a read failed, nothing else is said than that: each whole call that came before it is
+-- answered.
 abbrev pub FailedReadsAnswerAll : Moves → Type 0
 FailedReadsAnswerAll moves =
-    (options : Options) (result : Result (Unit {0}) Fault) (old new : Connection) (serves : Serves moves options result old new)
-    → new.failed_reads ≡ old.failed_reads + 1 → ReadFailed result old new serves.rest (map answer_bytes serves.replies)
+    (options : Options) (result : Result (Unit {0}) Fault) (old new : Connection)
+    (serves : Serves moves options result old new) → new.failed_reads ≡ old.failed_reads + 1
+    → ReadFailed result old new serves.rest (map answer_bytes serves.replies)
 
 -- nothing was read from a connection yet, and nothing was written to it
 abbrev pub IsNew : Connection → Type 0
 IsNew connection = (connection.input.given ≡ []) × (connection.output ≡ Some [])
 
--- All bytes that reads gave are those of these calls, and then this rest. All bytes that it holds are a beginning of what is owed
--- for them, and the whole of it where the server ended well.
-pub record IsWhole (result : Result (Unit {0}) Fault) (new : Connection) (calls : List Call) (rest : List ℕ) (owed : List (List ℕ)) : Type 0 where
+-- All bytes that reads gave are those of these calls, and then this rest. All bytes that it holds
+-- are a beginning of what is owed for them, and the whole of it where the server ended well.
+pub record IsWhole (result : Result (Unit {0}) Fault) (new : Connection) (calls : List Call)
+    (rest : List ℕ) (owed : List (List ℕ)) : Type 0 where
   pub read : new.input.given ≡ calls_bytes calls ++ rest
   pub written : List ℕ
   pub holds : new.output ≡ Some written
@@ -46,11 +53,12 @@ pub record IsWhole (result : Result (Unit {0}) Fault) (new : Connection) (calls 
   pub begins : flat_map (λ item. item) owed ≡ written ++ more
   pub all : result ≡ Ok tt → more ≡ []
 
--- So it is of each connection that was new: nothing is written beside what its calls are owed.
+-- So it is of each connection that was new: nothing is written next to what its calls are owed.
 abbrev pub NewConnectionsAreWhole : Moves → Type 0
 NewConnectionsAreWhole moves =
-    (options : Options) (result : Result (Unit {0}) Fault) (old new : Connection) (serves : Serves moves options result old new)
-    → IsNew old → IsWhole result new serves.calls serves.rest (items_owed serves.replies serves.last)
+    (options : Options) (result : Result (Unit {0}) Fault) (old new : Connection)
+    (serves : Serves moves options result old new) → IsNew old
+    → IsWhole result new serves.calls serves.rest (items_owed serves.replies serves.last)
 
 -- the entry of the put that a reply accepts, if it accepts one
 abbrev pub accepted_by : Option Fault → Result Put Fault → Log
@@ -78,31 +86,37 @@ entries_of (Err fault) reply = []
 abbrev pub entries_in : List Exchange → Log
 entries_in all = flat_map (λ one. entries_of one.asked one.reply) all
 
--- A connection makes the accepted puts and the marks of its whole calls, in order, and no other entry but the marks of the
--- expiries that the server asks of itself.
+-- A connection makes the accepted puts and the marks of its whole calls, in order, and no other
+-- entry but the marks of the expiries that the server asks of itself.
 abbrev pub PutsAreMade : Moves → Type 0
-PutsAreMade moves = (options : Options) (old new : Seat) (calls : List Call) (replies : List ReplyAt)
-    → Answers moves options old calls replies new
+PutsAreMade moves = (options : Options) (old new : Seat) (calls : List Call)
+    (replies : List ReplyAt) → Answers moves options old calls replies new
     → (all : List Exchange) × WithOwn options calls replies all
     × (log_in new.made ≡ log_in old.made ++ entries_in all)
 
--- The answers of a connection that shares its log with none are a run of the core, on what its calls ask and on the expiries that
--- the server asks of itself: a call that is refused before it comes to the core changes nothing.
+-- The answers of a connection that shares its log with none are a run of the core, on what its
+-- calls ask and on the expiries that the server asks of itself: a call that is refused before it
+-- comes to the core changes nothing.
 abbrev pub AnswersAreARun : Type 0
 AnswersAreARun = (options : Options) (old new : Seat) (calls : List Call) (replies : List ReplyAt)
     → Answers alone options old calls replies new
-    → (all : List Exchange) × WithOwn options calls replies all × Run old.log (asked_in all) (replies_in all) new.log
+    → (all : List Exchange) × WithOwn options calls replies all
+    × Run old.log (asked_in all) (replies_in all) new.log
 
--- So the headline holds of each such connection whose log was empty, from the bytes that came, which are those of the calls and
--- of a rest, to the bytes that were written, which are those of the replies: if every endpoint of an info was fetched to
--- its end, the streams joined are the rows that were wanted, on the tables as they stood when the info was given.
+-- So the headline holds of each such connection whose log was empty, from the bytes that came,
+-- which are those of the calls and of a rest, to the bytes that were written, which are those of
+-- the replies: if every endpoint of an info was fetched to its end, the streams joined are the rows
+-- that were wanted, on the tables as they stood when the info was given.
 abbrev pub ServedMeetsHeadline : Type 0
 ServedMeetsHeadline =
-    (options : Options) (result : Result (Unit {0}) Fault) (old new : Connection) (serves : Serves alone options result old new)
-    → old.seat.log ≡ []
-    → (all : List Exchange) × WithOwn options serves.calls serves.replies all × Headline (asked_in all) (replies_in all)
+    (options : Options) (result : Result (Unit {0}) Fault) (old new : Connection)
+    (serves : Serves alone options result old new) → old.seat.log ≡ []
+    → (all : List Exchange) × WithOwn options serves.calls serves.replies all
+    × Headline (asked_in all) (replies_in all)
 
--- Where all versions are kept a server asks nothing of itself: the exchanges are those of its calls.
+-- Where all versions are kept a server asks nothing of itself: the exchanges are those of its
+-- calls.
 abbrev pub AllKeptAsksNothing : Type 0
-AllKeptAsksNothing = (options : Options) (calls : List Call) (replies : List ReplyAt) (all : List Exchange)
-    → options.keep ≡ 0 → WithOwn options calls replies all → all ≡ exchanges_of options calls replies
+AllKeptAsksNothing = (options : Options) (calls : List Call) (replies : List ReplyAt)
+    (all : List Exchange) → options.keep ≡ 0 → WithOwn options calls replies all
+    → all ≡ exchanges_of options calls replies

@@ -14,14 +14,16 @@ use Rattle.flight_core.specs.Reacts.{Asks, Looks}
 use Rattle.flight_core.specs.Machine.{StepOn}
 use Rattle.flight_calls.specs.Calls.{Call, method_at, asked_with, asked_by}
 
--- the call with more messages behind its own
+-- the call with more messages after its own
 abbrev pub with_messages : Call → List Payload → Call
 with_messages call more = record { path = call.path; messages = call.messages ++ more }
 
--- a message is answered by this fault, however the server is set and whatever the log is, without a look or an ask
+-- a message is answered by this fault, however the server is set and whatever the log is, without a
+-- look or an ask
 abbrev pub IsRefused : Single → Payload → Fault → Type 0
 IsRefused one message fault =
-    ((options : Options) (log : Log) → StepOn log (asked_with options one message) (refusal fault) log)
+    ((options : Options) (log : Log) →
+    StepOn log (asked_with options one message) (refusal fault) log)
     × ((options : Options) → Looks (Ok (asked_with options one message)) → ⊥)
     × ((options : Options) (log : Log) → Asks (Ok (asked_with options one message)) log → ⊥)
 
@@ -33,13 +35,17 @@ pub record HasRefused (call : Call) (fault : Fault) : Type 0 where
   pub alone : call.messages ≡ message ∷ []
   pub refused : IsRefused one message fault
 
--- A request holds what a call asks as far as it came: a put's reader has read its messages; of another method there is no
--- message or one, which is not held where its fault is known; and any other is answered by its fault whatever comes.
+-- A request holds what a call asks as far as it came: a put's reader has read its messages; of
+-- another method there is no message or one, which is not held where its fault is known; and any
+-- other is answered by its fault whatever comes.
 abbrev pub Holds : Request → Call → Type 0
-Holds (request.Put reader) call = (method_at call.path ≡ Some method.DoPut) × HasRead call.messages reader
-Holds (request.Awaits one) call = (method_at call.path ≡ Some (method.Single one)) × (call.messages ≡ [])
+Holds (request.Put reader) call =
+    (method_at call.path ≡ Some method.DoPut) × HasRead call.messages reader
+Holds (request.Awaits one) call =
+    (method_at call.path ≡ Some (method.Single one)) × (call.messages ≡ [])
 Holds (request.Asks one message) call =
     (method_at call.path ≡ Some (method.Single one)) × (call.messages ≡ message ∷ [])
 Holds (request.Settled fault) call = HasRefused call fault
 Holds (request.Refused fault) call =
-    (options : Options) (more : List Payload) → asked_by options (with_messages call more) ≡ Err fault
+    (options : Options) (more : List Payload) →
+    asked_by options (with_messages call more) ≡ Err fault

@@ -36,14 +36,17 @@ use work_watch::Watches;
 // How many rows are looked at before it is looked whether the client is still there.
 const LOOKED_ROWS: usize = 1_048_576;
 
-/// Writes an answer: each payload in a Message, of which a large part is not copied, and then the Status. Where it is
-/// small it is one write. The payloads of a parcel of a stream are sent before the next one is made, and of them no more than an
-/// outbox gathers waits for the next write. Where the second parcel may come late (`Opening::takes_long`), the first is written at once.
-/// Where 1,048,576 rows were looked at without one that is given, what waits is written, and the other end is looked at.
+/// Writes an answer: each payload in a Message, of which a large part is not copied, and then the
+/// Status. Where it is small it is one write. The payloads of a parcel of a stream are sent before
+/// the next one is made, and of them no more than an outbox gathers waits for the next write. Where
+/// the second parcel may come late (`Opening::takes_long`), the first is written at once. Where
+/// 1,048,576 rows were looked at without one that is given, what waits is written, and the other
+/// end is looked at.
 ///
 /// # Errors
 ///
-/// `Fault::Transport` where a write failed. It is counted, and a beginning of the answer is written.
+/// `Fault::Transport` where a write failed. It is counted, and a beginning of the answer is
+/// written.
 pub fn write_answer<W: Output, X: Executor>(
     setting: &Setting<'_, X>,
     writer: &mut W,
@@ -53,7 +56,8 @@ pub fn write_answer<W: Output, X: Executor>(
     requires failures { CanFail (W.failures writer.old) }
     requires empty { outbox.old ≡ [] }
     requires short { FitsMessages answer }
-    ensures bytes { (asked : Result Asked FaultAt) (log new : Log) → AnsweredBy asked log answer new →
+    ensures bytes { (asked : Result Asked FaultAt) (log new : Log) →
+        AnsweredBy asked log answer new →
         WritesReply (λ reply. ReplyTo asked log reply new × IsReplyOf answer reply) result
         (W.contents writer.old) (W.contents writer.new) }
     ensures empty { outbox.new ≡ [] }
@@ -73,7 +77,8 @@ fn send_answer<W: Output, X: Executor>(
 ) -> Result<(), Fault>
     requires failures { CanFail (W.failures writer.old) }
     requires short { FitsMessages answer }
-    ensures bytes { (asked : Result Asked FaultAt) (log new : Log) → AnsweredBy asked log answer new →
+    ensures bytes { (asked : Result Asked FaultAt) (log new : Log) →
+        AnsweredBy asked log answer new →
         SendsReply (λ reply. ReplyTo asked log reply new × IsReplyOf answer reply) result
         (W.contents writer.old) (W.contents writer.new) outbox.old outbox.new }
     ensures empty { OnErr result (outbox.new ≡ []) }
@@ -103,7 +108,7 @@ fn send_reply<W: Output>(writer: &mut W, outbox: &mut Outbox, reply: &Reply) -> 
     outbox.send_status(writer, reply.fault)
 }
 
-// Sends the floor behind an expiry.
+// Sends the floor after an expiry.
 fn send_floor<W: Output>(writer: &mut W, outbox: &mut Outbox, floor: u64) -> Result<(), Fault>
     requires failures { CanFail (W.failures writer.old) }
     ensures bytes { Sends result (W.contents writer.old) (W.contents writer.new)
@@ -170,7 +175,8 @@ fn send_given<W: Output>(
     Ok(())
 }
 
-// Sends the answer to a fetch: the payload of its schema, and behind it those of its stream, which is made then.
+// Sends the answer to a fetch: the payload of its schema, and after it those of its stream, which
+// is made then.
 fn send_fetch<W: Output, X: Executor>(
     setting: &Setting<'_, X>,
     writer: &mut W,
@@ -198,8 +204,8 @@ fn send_fetch<W: Output, X: Executor>(
     }
 }
 
-// Makes the stream of a fetch, with what it needs before its first row, or none where memory is refused. What was sent before is
-// written where that takes long, and the other end is looked at.
+// Makes the stream of a fetch, with what it needs before its first row, or none where memory is
+// refused. What was sent before is written where that takes long, and the other end is looked at.
 fn make_stream<W: Output, X: Executor>(
     setting: &Setting<'_, X>,
     writer: &mut W,
@@ -208,7 +214,8 @@ fn make_stream<W: Output, X: Executor>(
 ) -> Result<Option<FetchStream>, Fault>
     requires failures { CanFail (W.failures writer.old) }
     ensures stream { IfOk result (λ made. IfSome made (λ stream. stream.stream ≡ opening)) }
-    ensures bytes { Sends result (W.contents writer.old) (W.contents writer.new) outbox.old outbox.new [] }
+    ensures bytes { Sends result (W.contents writer.old)
+        (W.contents writer.new) outbox.old outbox.new [] }
     ensures counted { CountsFailure result (W.failures writer.old) (W.failures writer.new) }
     ensures kind { FailsByTransport result }
 {
@@ -251,7 +258,8 @@ fn made_stream<X: Executor, L: Watches>(
     setting.executor.ready(setting.alloc, stream, watch)
 }
 
-// Where what was sent is written while a stream is made, how many rows were looked at since then, and why the other end is gone.
+// Where what was sent is written while a stream is made, how many rows were looked at since then,
+// and why the other end is gone.
 struct Watching<'w, 'o, W> {
     writer: &'w mut W,
     outbox: &'o mut Outbox,
@@ -259,7 +267,7 @@ struct Watching<'w, 'o, W> {
     failed: Option<Fault>,
 }
 
-// Behind so many rows what was sent is written, and the other end is looked at.
+// After so many rows what was sent is written, and the other end is looked at.
 impl<'w, 'o, W: Output> Watches for Watching<'w, 'o, W> {
     ghost use Rattle.std.specs.Prelude.{◌≡◌, None, refl};
     ghost use Rattle.std.proofs.Common.{◌∙◌};
@@ -269,7 +277,8 @@ impl<'w, 'o, W: Output> Watches for Watching<'w, 'o, W> {
     ghost ready = { λ w. (w.failed ≡ None) × CanFail (W.failures w.writer.now) };
 
     ghost watched = { λ old new.
-        (new.writer.ghost_name ≡ old.writer.ghost_name) × (new.outbox.ghost_name ≡ old.outbox.ghost_name)
+        (new.writer.ghost_name ≡ old.writer.ghost_name)
+        × (new.outbox.ghost_name ≡ old.outbox.ghost_name)
         × IsWatched old.failed new.failed (W.contents old.writer.now) (W.contents new.writer.now)
         old.outbox.now new.outbox.now (W.failures old.writer.now) (W.failures new.writer.now) };
 
@@ -290,13 +299,20 @@ impl<'w, 'o, W: Output> Watches for Watching<'w, 'o, W> {
         }
     }
 
-    ghost unasked = { λ one. (refl, refl, still_watched one.failed (W.contents one.writer.now) one.outbox.now (W.failures one.writer.now)) };
+    ghost unasked = { λ one. (
+      refl,
+      refl,
+      still_watched one.failed (W.contents one.writer.now) one.outbox.now
+          (W.failures one.writer.now),
+    ) };
 
     ghost again = { λ one next last first then. (
       then.0 ∙ first.0,
       then.1 ∙ first.1,
-      watched_again one.failed next.failed last.failed (W.contents one.writer.now) (W.contents next.writer.now) (W.contents last.writer.now)
-          one.outbox.now next.outbox.now last.outbox.now (W.failures one.writer.now) (W.failures next.writer.now) (W.failures last.writer.now) first.2 then.2,
+      watched_again one.failed next.failed last.failed (W.contents one.writer.now)
+          (W.contents next.writer.now) (W.contents last.writer.now)
+          one.outbox.now next.outbox.now last.outbox.now (W.failures one.writer.now)
+          (W.failures next.writer.now) (W.failures last.writer.now) first.2 then.2,
     ) };
 
     ghost untold = { λ _. tt };
@@ -304,8 +320,8 @@ impl<'w, 'o, W: Output> Watches for Watching<'w, 'o, W> {
     ghost told_again = { λ _ _ _ _ _ _ _. tt };
 }
 
-// Sends the payload of a schema. Where the next one may come late, it is written at once. The other end is not looked at: it may
-// have ended what it sends, and still wait for its answer.
+// Sends the payload of a schema. Where the next one may come late, it is written at once. The other
+// end is not looked at: it may have ended what it sends, and still wait for its answer.
 fn send_first<W: Output>(
     writer: &mut W,
     outbox: &mut Outbox,
@@ -358,26 +374,26 @@ fn send_rest<W: Output, X: Executor>(
     sent
 }
 
-// Does nothing, but that what was lent is used behind the sending ties what was sent to it.
+// Does nothing, but that what was lent is used after the sending ties what was sent to it.
 fn take_back<T>(lent: &mut T)
     ensures { lent.new ≡ lent.old }
 {}
 
-// Where payloads are sent, and whether a parcel may come late behind another one.
+// Where payloads are sent, and whether a parcel may come late after another one.
 struct Sending<'w, 'o, W> {
     writer: &'w mut W,
     outbox: &'o mut Outbox,
     slow: bool,
 }
 
-// Where memory comes from, and whether a parcel may come late behind another one.
+// Where memory comes from, and whether a parcel may come late after another one.
 #[derive(Clone, Copy, Drop)]
 struct Pace {
     alloc: Global,
     slow: bool,
 }
 
-// Each payload is sent before the next one is asked for, and behind the last one the Status.
+// Each payload is sent before the next one is asked for, and after the last one the Status.
 impl<'w, 'o, W: Output> ReadsPayloads for Sending<'w, 'o, W> {
     ghost use Rattle.std.specs.Prelude.{◌≡◌, ◌<◌};
     ghost use Rattle.flight_calls.specs.Sends.{SendsStream};
@@ -385,7 +401,8 @@ impl<'w, 'o, W: Output> ReadsPayloads for Sending<'w, 'o, W> {
     ghost takes = { λ s. CanFail (W.failures s.writer.now) };
 
     ghost reads = { λ old stream result new.
-        (new.writer.ghost_name ≡ old.writer.ghost_name) × (new.outbox.ghost_name ≡ old.outbox.ghost_name)
+        (new.writer.ghost_name ≡ old.writer.ghost_name)
+        × (new.outbox.ghost_name ≡ old.outbox.ghost_name)
         × SendsStream stream result (W.contents old.writer.now) (W.contents new.writer.now)
         old.outbox.now new.outbox.now (W.failures old.writer.now) (W.failures new.writer.now) };
 
@@ -395,8 +412,9 @@ impl<'w, 'o, W: Output> ReadsPayloads for Sending<'w, 'o, W> {
     }
 }
 
-// Sends the payloads that are given, and then the Status. Where they may come late, each parcel is written at once. Where a stream is refused, a beginning is sent, and the fault: F20
-// or F21. Where a turn gives nothing yet, what was sent before is written, and the other end is looked at.
+// Sends the payloads that are given, and then the Status. Where they may come late, each parcel is
+// written at once. Where a stream is refused, a beginning is sent, and the fault: F20 or F21. Where
+// a turn gives nothing yet, what was sent before is written, and the other end is looked at.
 fn send_stream<W: Output, P: Payloads>(
     pace: Pace,
     writer: &mut W,
@@ -425,7 +443,8 @@ fn send_stream<W: Output, P: Payloads>(
     }
 }
 
-// How long a turn looks for rows, where it may be asked so many times whether the other end is still there.
+// How long a turn looks for rows, where it may be asked so many times whether the other end is
+// still there.
 fn patience_of(looks: u64) -> Patience
     ensures { looks ≡ 0 → result ≡ Endless }
 {
@@ -439,7 +458,8 @@ fn patience_of(looks: u64) -> Patience
 ///
 /// # Errors
 ///
-/// `Fault::Transport` where the write failed. It is counted, and a beginning of the Status is written.
+/// `Fault::Transport` where the write failed. It is counted, and a beginning of the Status is
+/// written.
 pub fn write_last_status<W: Output>(
     writer: &mut W,
     outbox: &mut Outbox,
@@ -447,7 +467,8 @@ pub fn write_last_status<W: Output>(
 ) -> Result<(), Fault>
     requires failures { CanFail (W.failures writer.old) }
     requires empty { outbox.old ≡ [] }
-    ensures bytes { Writes result (W.contents writer.old) (W.contents writer.new) (last_status fault) }
+    ensures bytes { Writes result (W.contents writer.old) (W.contents writer.new)
+        (last_status fault) }
     ensures counted { CountsFailure result (W.failures writer.old) (W.failures writer.new) }
     ensures kind { FailsByTransport result }
 {

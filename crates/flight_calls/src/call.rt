@@ -15,7 +15,7 @@ use grpc_frame::{Inbox, Input, Record};
 use scan_base::Fault;
 use std::alloc::Global;
 
-/// What comes of an input behind whole calls.
+/// What comes of an input after whole calls.
 #[derive(Drop)]
 pub enum Arrival {
     /// One more call, and what it asks.
@@ -30,8 +30,9 @@ pub enum Arrival {
 ///
 /// # Errors
 ///
-/// `Fault::BadFrame` and `Fault::MessageTooLarge` where a record of the call is faulty, `Fault::Transport`
-/// where a read failed, and `Fault::OutOfMemory` where memory is refused. Nothing more can be read then.
+/// `Fault::BadFrame` and `Fault::MessageTooLarge` where a record of the call is faulty,
+/// `Fault::Transport` where a read failed, and `Fault::OutOfMemory` where memory is refused.
+/// Nothing more can be read then.
 pub fn read_call<R: Input>(
     alloc: Global,
     inbox: &mut Inbox,

@@ -14,7 +14,8 @@ use scan_base::Fault;
 use std::alloc::Global;
 use table_versions::Put;
 
-/// Answers a put whose payloads were read, or its first fault. After an accepted one the versions that are not kept are expired.
+/// Answers a put whose payloads were read, or its first fault. After an accepted one the versions
+/// that are not kept are expired.
 pub fn answer_put<B: Backend>(
     alloc: Global,
     backend: &mut B,
@@ -23,7 +24,8 @@ pub fn answer_put<B: Backend>(
 ) -> Answer
     ensures reply { (payloads : List Payload)
         → GivesBehind (put_glance payloads) put_of read (put_said payloads)
-        → RespondsBy B.moves keep (Ok (put payloads)) (B.seat backend.old) result (B.seat backend.new) }
+        → RespondsBy B.moves keep (Ok (put payloads)) (B.seat backend.old) result
+        (B.seat backend.new) }
     ensures short { FitsMessages result }
 {
     match step(alloc, backend, Operation::Put(read)) {
@@ -35,10 +37,11 @@ pub fn answer_put<B: Backend>(
     }
 }
 
-// Expires what is older than so many versions up to the newest, and nothing where all are kept. An expiry that is refused is
-// left to the next put: nobody asked for it.
+// Expires what is older than so many versions up to the newest, and nothing where all are kept. An
+// expiry that is refused is left to the next put: nobody asked for it.
 fn keep_newest<B: Backend>(alloc: Global, backend: &mut B, keep: u64, newest: u64)
-    ensures { AsksItself B.moves (oldest_kept keep newest) (B.seat backend.old) (B.seat backend.new) }
+    ensures { AsksItself B.moves (oldest_kept keep newest) (B.seat backend.old)
+        (B.seat backend.new) }
 {
     if keep == 0 || newest < keep {
         return;

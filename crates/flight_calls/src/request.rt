@@ -46,7 +46,8 @@ pub enum Request {
     Awaits(Single),
     /// Another method with its one message.
     Asks(Single, Bytes),
-    /// Another method behind its one message, which is not held: if no other comes, it is answered by this fault.
+    /// Another method after its one message, which is not held: if no other comes, it is answered
+    /// by this fault.
     Settled(Fault),
     /// A call that is answered by this fault, whatever comes.
     Refused(Fault),
@@ -127,8 +128,8 @@ impl Request {
         }
     }
 
-    /// Takes the next message. Of a put it is read, and of another method a second one is F4. Behind a fault it is
-    /// not looked at.
+    /// Takes the next message. Of a put it is read, and of another method a second one is F4. After
+    /// a fault it is not looked at.
     pub fn push(&mut self, alloc: Global, message: Bytes)
         ensures { (path : List ℕ) (messages : List Payload)
             → Holds self.old (record { path = path; messages = messages })
@@ -143,11 +144,13 @@ impl Request {
         }
     }
 
-    /// What answers the call, once its End came: that of a step of the core over the backend. F4 where
-    /// another method than DoPut has no message. Behind an accepted put the versions that are not kept are expired.
+    /// What answers the call, once its End came: that of a step of the core over the backend. F4
+    /// where another method than DoPut has no message. After an accepted put the versions that are
+    /// not kept are expired.
     pub fn answer<B: Backend>(self, alloc: Global, backend: &mut B, options: Options) -> Answer
         ensures reply { (call : Call) → Holds self call
-            → RespondsBy B.moves options.keep (asked_by options call) (B.seat backend.old) result (B.seat backend.new) }
+            → RespondsBy B.moves options.keep (asked_by options call) (B.seat backend.old) result
+            (B.seat backend.new) }
         ensures short { FitsMessages result }
     {
         match self {

@@ -15,20 +15,23 @@ use grpc_frame::{Inbox, Input, Outbox, Output};
 use hash_seed::HashSeed;
 use scan_base::Fault;
 
-/// Serves a connection over a backend: answers its calls one after another, up to the end of its input.
+/// Serves a connection over a backend: answers its calls one after another, up to the end of its
+/// input.
 ///
-/// An answer is begun once the call's End has come, and is written before the next call is looked at. Of a fetch each
-/// payload is sent before the next one is made. A fault of a call is its answer, and the connection goes on.
+/// An answer is begun once the call's End has come, and is written before the next call is looked
+/// at. Of a fetch each payload is sent before the next one is made. A fault of a call is its
+/// answer, and the connection goes on.
 ///
 /// # Errors
 ///
 /// - `Fault::BadFrame` (F1) and `Fault::MessageTooLarge` (F2) where a record is faulty, and
-///   `Fault::OutOfMemory` (F21) where memory is refused while a piece of input is taken in. The fault's Status
-///   is written.
-/// - `Fault::Transport` (F22) where a read or a write failed, and where the input ended inside a call.
+///   `Fault::OutOfMemory` (F21) where memory is refused while a piece of input is taken in. The
+///   fault's Status is written.
+/// - `Fault::Transport` (F22) where a read or a write failed, and where the input ended inside a
+///   call.
 ///
-/// Nothing is done for a call whose End has not come. Where only the writing of an answer failed, its call was
-/// done: a put that was accepted stands.
+/// Nothing is done for a call whose End has not come. Where only the writing of an answer failed,
+/// its call was done: a put that was accepted stands.
 pub fn serve<R: Input, W: Output, B: Backend, X: Executor>(
     setting: &Setting<'_, X>,
     reader: &mut R,
@@ -60,7 +63,8 @@ pub fn serve<R: Input, W: Output, B: Backend, X: Executor>(
     }
 }
 
-/// Serves a connection on a catalog of its own, which is empty at first. Hashes of its values begin with the seed.
+/// Serves a connection on a catalog of its own, which is empty at first. Hashes of its values begin
+/// with the seed.
 ///
 /// # Errors
 ///

@@ -58,7 +58,7 @@ came_more payloads payload old news e came =
 pub schema_first : (payload : Payload) (news : News) → payload_news None payload ≡ Ok news → (known : Known) × (news.state ≡ Some known) × (news.batch ≡ None)
 schema_first payload news e = let said = carried_by None payload news e in first (message_in said.0) news said.2
 
--- and those behind it keep that schema
+-- and those after it keep that schema
 pub schema_kept : (known : Known) (payload : Payload) (news : News) → payload_news (Some known) payload ≡ Ok news → (after : Known) × (news.state ≡ Some after) × (after.schema ≡ known.schema)
 schema_kept known payload news e =
     let said = carried_by (Some known) payload news e in
@@ -77,7 +77,7 @@ glance_stops state payload fault e = by (data_of payload) refl e
     by (Ok carried) is e = glances_come_first state (message_in carried) fault e
     by (Err one) is e = let same : one ≡ fault = cc in ap (λ (x : Fault). Err x) same
 
--- what was read is not refused at a glance, whatever is answered behind that
+-- what was read is not refused at a glance, whatever is answered after that
 pub glance_passed : {A X : Type 0} (read : Result A Fault) (x : A) (result : Result X Fault) (glance : Result (Unit {0}) Fault) → read ≡ Ok x → RefusesFirst read glance → RefusesFirst result glance
 glance_passed read x result (Ok done) is first = tt
 glance_passed read x result (Err fault) is first = absurd cc

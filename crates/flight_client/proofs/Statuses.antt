@@ -21,11 +21,11 @@ pub sql_text : (position : ℕ) → text_of (BadSql position) ≡ codes "F13 Bad
 unfolding digits
 sql_text position = refl
 
--- the number behind the first byte of a text: one digit and a space, or two digits
+-- the number after the first byte of a text: one digit and a space, or two digits
 abbrev number_in : List ℕ → ℕ
 number_in text = cond (get_or text 2 0 == 32) (get_or text 1 0 - 48) ((get_or text 1 0 - 48) * 10 + (get_or text 2 0 - 48))
 
--- the number behind the words of F13
+-- the number after the words of F13
 abbrev place_in : List ℕ → ℕ
 place_in text = digits_value 10 (drop 19 text)
 

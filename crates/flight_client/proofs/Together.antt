@@ -75,7 +75,7 @@ list_all-push test (y ∷ ys) x = by (test y) (list_all-push test ys x)
 pub dropped : {X : Type 0} (xs : List X) (i : ℕ) (x : X) → i < length xs → x ≡ get_or xs i x → drop i xs ≡ x ∷ drop (i + 1) xs
 dropped {X = X} xs i x low is = rw (add-one, drop-cons xs i x low) (ap (λ (y : X). y ∷ drop (suc i) xs) (sym is))
 
--- what is read of the others behind the first: the schemas so far, and then the rest
+-- what is read of the others after the first: the schemas so far, and then the rest
 abbrev pub IsRead : List StreamAt → List StreamAt → Schema → Truth → Type 0
 IsRead others rest first same =
     (done : List Schema) × (each schema_said others ≡ behind done (each schema_said rest)) × (same ≡ list_all (has_columns first) done)

@@ -26,7 +26,7 @@ use Rattle.flight_client.proofs.Together.{has_columns, knows}
 
 -- ---- a stream
 
--- a batch has the columns of the schema behind a further message, too
+-- a batch has the columns of the schema after a further message, too
 stays_typed : (old : State) (sent : Sent) (news : News) → news_of old sent ≡ Ok news → (batch : BatchAt) → HasColumns (Some batch) old → HasColumns (Some batch) news.state
 stays_typed None sent news e batch has = absurd has
 stays_typed (Some known) sent news e batch has =
@@ -88,7 +88,7 @@ pub fit_head : (rows : Option Table) (stream : StreamAt) (rest : List StreamAt) 
 fit_head None stream rest fit = tt
 fit_head (Some table) stream rest fit = All-head (HasSchema table.schema) stream rest fit
 
--- and those behind it
+-- and those after it
 pub fit_tail : (rows : Option Table) (stream : StreamAt) (rest : List StreamAt) (table : Table) → gathered_with rows stream ≡ Ok table → FitRows rows (stream ∷ rest) → FitRows (Some table) rest
 fit_tail (Some before) stream rest table e fit =
     let is : record before { rows = before.rows ++ stream.rows } ≡ table = cc in
@@ -113,7 +113,7 @@ rows_begun (Some known) found schema batches value valid is typed =
 pub rows_first : (state : State) (known : Known) (batches : List BatchAt) → state ≡ Some known → AreTyped state batches → HaveColumns known.schema batches
 rows_first state known batches is typed = subst (λ (s : State). AreTyped s batches) is typed
 
--- and behind them those of a further one
+-- and after them those of a further one
 pub rows_more : (schema : Schema) (stream : StreamAt) (state : State) (batches more : List BatchAt) → state ≡ stream.state → HasSchema schema stream → HaveColumns schema batches → AreTyped state more
     → HaveColumns schema (batches ++ more)
 rows_more schema stream state batches more is has typed others =

@@ -30,7 +30,7 @@ column_a = record { fields = record { name = codes "a"; nullable = true; data_ty
 abbrev texts_a : Schema
 texts_a = record { fields = record { name = codes "a"; nullable = true; data_type = Utf8 } ∷ [] }
 
--- behind a schema
+-- after a schema
 abbrev behind : Schema → State
 behind schema = Some (record { schema = schema; dictionaries = [] })
 

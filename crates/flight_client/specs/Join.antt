@@ -1,5 +1,6 @@
 -- Streams joined.
-use Rattle.std.specs.Prelude.{◌≡◌, ◌≢◌, List, [], ◌∷◌, map, All, Some, Result, Ok, Err, if◌then◌else◌}
+use Rattle.std.specs.Prelude.{◌≡◌, ◌≢◌, List, [], ◌∷◌, map, All, Some, Result, Ok, Err}
+use Rattle.std.specs.Prelude.{if◌then◌else◌}
 use Rattle.std.specs.List.{flat_map, list_all}
 use Rattle.scan_base.specs.declared.fault.Fault.{Fault}
 use Rattle.scan_base.specs.declared.fault.Fault.TheVariants.{BadBatch, SchemaMismatch}
@@ -15,13 +16,14 @@ use Rattle.flight_client.specs.Stream.{StreamAt, Came, schema_said}
 abbrev pub one_schema : List Schema → Result Schema Fault
 one_schema [] = Err BadBatch
 one_schema (first ∷ others) =
-    if list_all (λ other. same_fields first.fields other.fields) others then Ok first else Err SchemaMismatch
+    if list_all (λ other. same_fields first.fields other.fields) others then Ok first
+    else Err SchemaMismatch
 
 -- the one schema of streams; the first fault of a stream comes before two schemas that differ
 abbrev pub schema_of_all : List StreamAt → Result Schema Fault
 schema_of_all streams = each schema_said streams >>= one_schema
 
--- the rows of streams, one stream's behind another's, behind their one schema
+-- the rows of streams, one stream's after another's, after their one schema
 abbrev pub joined : List StreamAt → Result Table Fault
 joined streams = schema_of_all streams >>= λ schema.
     Ok (record { schema = schema; rows = flat_map (λ stream. stream.rows) streams })
@@ -34,18 +36,19 @@ pub record Answer : Type 0 where
   pub stream : StreamAt
   pub rows : Rows
 
--- the payloads came, and say these rows behind a schema, and then came status 0
+-- the payloads came, and say these rows after a schema, and then came status 0
 pub record SaysRows (schema : Schema) (answer : Answer) : Type 0 where
   pub came : Came answer.payloads answer.stream
   pub said : PayloadsSay answer.payloads schema answer.rows
   pub ended : answer.stream.end ≡ Some (Ok tt)
 
--- the streams of one or more answers, which all say rows behind one schema
+-- the streams of one or more answers, which all say rows after one schema
 pub record AreOf (schema : Schema) (answers : List Answer) (streams : List StreamAt) : Type 0 where
   pub streams_are : streams ≡ map (λ answer. answer.stream) answers
   pub some : answers ≢ []
   pub say : All (SaysRows schema) answers
 
--- all their rows, one answer's behind another's
+-- all their rows, one answer's after another's
 abbrev pub rows_together : Schema → List Answer → Table
-rows_together schema answers = record { schema = schema; rows = flat_map (λ answer. answer.rows) answers }
+rows_together schema answers =
+    record { schema = schema; rows = flat_map (λ answer. answer.rows) answers }

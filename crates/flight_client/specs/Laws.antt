@@ -10,12 +10,14 @@ use Rattle.flight_client.specs.Stream.{StreamAt, Came, schema_said}
 -- a code and a text tell the fault, and so a status stands for one thing
 abbrev pub StatusesTellFaults : Type 0
 StatusesTellFaults =
-    ((one other : Fault) (code : ℕ) (text : List ℕ) → HasStatus one code text → HasStatus other code text → one ≡ other)
+    ((one other : Fault) (code : ℕ) (text : List ℕ) → HasStatus one code text →
+    HasStatus other code text → one ≡ other)
     × ((code : ℕ) (text : List ℕ) (one other : Result (Unit {0}) Fault) →
     StatusSays code text one → StatusSays code text other → one ≡ other)
 
--- a stream to which payloads came, and then status 0, has just the schema that they say, and just the rows
+-- a stream to which payloads came, and then status 0, has just the schema that they say, and just
+-- the rows
 abbrev pub StreamsHoldWhatIsSaid : Type 0
-StreamsHoldWhatIsSaid = (payloads : List Payload) (stream : StreamAt) (schema : Schema) (rows : Rows) →
-    Came payloads stream → stream.end ≡ Some (Ok tt) →
+StreamsHoldWhatIsSaid = (payloads : List Payload) (stream : StreamAt) (schema : Schema)
+    (rows : Rows) → Came payloads stream → stream.end ≡ Some (Ok tt) →
     PayloadsSay payloads schema rows ↔ ((schema_said stream ≡ Ok schema) × (stream.rows ≡ rows))

@@ -10,8 +10,10 @@ pub record HasStatus (fault : Fault) (code : ℕ) (text : List ℕ) : Type 0 whe
   pub text_is : text_of fault ≡ text
   pub fits : IfSome (position_of fault) (λ position. position < 2 ^ 32)
 
--- Code 0 stands for no fault, and any other for the fault with this code and this text, or for F1 where none has both.
+-- Code 0 stands for no fault, and any other for the fault with this code and this text, or for F1
+-- where none has both.
 abbrev pub StatusSays : ℕ → List ℕ → Result (Unit {0}) Fault → Type 0
 StatusSays code text (Ok done) = code ≡ 0
 StatusSays code text (Err fault) = (code ≢ 0)
-    × (HasStatus fault code text ⊎ ((fault ≡ BadFrame) × ((other : Fault) → ¬ HasStatus other code text)))
+    × (HasStatus fault code text
+    ⊎ ((fault ≡ BadFrame) × ((other : Fault) → ¬ HasStatus other code text)))

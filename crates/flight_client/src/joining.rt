@@ -32,7 +32,8 @@ fn schema_of_all(streams: &[Stream]) -> Result<&Schema, Fault>
     Ok(schema)
 }
 
-// The rows of streams, one stream's behind another's, behind the schema of the first, whose columns all have.
+// The rows of streams, one stream's after another's, after the schema of the first, whose columns
+// all have.
 fn gather(streams: Vec<Stream>) -> Result<Rows, Fault>
     requires { FitRows None streams.items }
     ensures { GivesUnlessMemory (λ rows. rows) result (gathered None streams.items) }
@@ -44,13 +45,13 @@ fn gather(streams: Vec<Stream>) -> Result<Rows, Fault>
     rows.ok_or(Fault::BadBatch)
 }
 
-/// The rows that streams say, one stream's behind another's in the order in which they stand, behind their one
-/// schema. The batches are moved: no row is copied.
+/// The rows that streams say, one stream's after another's in the order in which they stand, after
+/// their one schema. The batches are moved: no row is copied.
 ///
 /// # Errors
 ///
-/// - The first fault of a stream in their order: that of its status, F8 (`Fault::BadBatch`) where status 0 came without
-///   a schema, or F22 (`Fault::Transport`) where no status came.
+/// - The first fault of a stream in their order: that of its status, F8 (`Fault::BadBatch`) where
+///   status 0 came without a schema, or F22 (`Fault::Transport`) where no status came.
 /// - F11 (`Fault::SchemaMismatch`) where the schemas of two streams differ.
 /// - F8 where there is no stream.
 /// - F21 (`Fault::OutOfMemory`) where memory is refused, and none of the others is due.

@@ -1,4 +1,5 @@
-//! What holds of all statuses, and of all streams. Each function here has an empty body: its contract is a law.
+//! What holds of all statuses, and of all streams. Each function here has an empty body: its
+//! contract is a law.
 
 ghost use Rattle.flight_client.specs.Laws.{StatusesTellFaults, StreamsHoldWhatIsSaid};
 

@@ -15,7 +15,8 @@ use arrow_schema::Schema;
 use scan_base::Fault;
 use std::marker::Model;
 
-/// The rows of an answer: a schema, and batches one behind another. A contract sees the table that they make.
+/// The rows of an answer: a schema, and batches one after another. A contract sees the table that
+/// they make.
 #[derive(Drop)]
 pub struct Rows {
     schema: Schema,
@@ -45,7 +46,8 @@ impl Rows {
         &self.schema
     }
 
-    /// The batches: the rows of each, in order, are all rows. Each has a column for each column of the schema, of its type.
+    /// The batches: the rows of each, in order, are all rows. Each has a column for each column of
+    /// the schema, of its type.
     pub fn batches(&self) -> &[Batch]
         ensures rows { flat_map rows_of result.now ≡ self.now.rows }
         ensures typed { All (λ batch. AreOfTypes self.now.schema.fields batch.columns) result.now }
@@ -53,8 +55,8 @@ impl Rows {
         self.batches.as_slice()
     }
 
-    // The rows of streams before this one, and behind them its own. The first stream gives the schema. The batches
-    // are moved.
+    // The rows of streams before this one, and after them its own. The first stream gives the
+    // schema. The batches are moved.
     pub(crate) fn with(rows: Option<Rows>, stream: Stream) -> Result<Rows, Fault>
         requires { FitsRows rows stream }
         ensures { GivesUnlessMemory (λ rows. rows) result (gathered_with rows stream) }

@@ -41,7 +41,8 @@ fn fault_numbered(number: u8, position: u32) -> Fault
 
 // The position that a fault's text ends with.
 fn position_in(text: &str) -> Option<u32>
-    ensures { (position : ℕ) → position < 2 ^ 32 → text_of (BadSql position) ≡ text.now → result ≡ Some position }
+    ensures { (position : ℕ) → position < 2 ^ 32 → text_of (BadSql position) ≡ text.now →
+        result ≡ Some position }
 {
     let digits = text.strip_prefix("F13 BadSql at byte ")?;
     digits.parse::<u32>().ok()

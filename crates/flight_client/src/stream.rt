@@ -3,7 +3,8 @@
 ghost use Rattle.std.specs.Prelude.{◌≡◌, ◌∷◌, ◌++◌, [], List, OnOk, OnErr};
 ghost use Rattle.scan_base.specs.Reading.{Gives, GivesUnlessMemory, RefusesFirst};
 ghost use Rattle.flight_info.specs.Payloads.{Payload};
-ghost use Rattle.flight_client.specs.Stream.{begun, after_payload, glance_of, Came, Ends, schema_said};
+ghost use Rattle.flight_client.specs.Stream.{begun, after_payload, glance_of, Came, Ends};
+ghost use Rattle.flight_client.specs.Stream.{schema_said};
 
 use crate::status::status_end;
 use crate::stream_reader::StreamReader;
@@ -14,8 +15,8 @@ use scan_base::Fault;
 use std::alloc::Global;
 use std::marker::Model;
 
-/// A stream of an answer: the payloads of a fetch as they come, and then its status. It holds the batches
-/// that they say, whose values are cuts of the payloads: none is copied.
+/// A stream of an answer: the payloads of a fetch as they come, and then its status. It holds the
+/// batches that they say, whose values are cuts of the payloads: none is copied.
 #[derive(Drop)]
 pub struct Stream {
     pub(crate) reader: StreamReader,
@@ -59,11 +60,13 @@ impl Stream {
     ///
     /// The stream is as before then.
     /// - F4 (`Fault::BadProto`) where the payload is no FlightData.
-    /// - Those of `ipc_batch::Reader::message` (F6, F7, F8, F12) for its message, also where its header is empty.
-    /// - F21 (`Fault::OutOfMemory`) where memory is refused, and never for a payload that is no FlightData, nor for
-    ///   what `Reader::message` looks at first.
+    /// - Those of `ipc_batch::Reader::message` (F6, F7, F8, F12) for its message, also where its
+    ///   header is empty.
+    /// - F21 (`Fault::OutOfMemory`) where memory is refused, and never for a payload that is no
+    ///   FlightData, nor for what `Reader::message` looks at first.
     pub fn message(&mut self, alloc: Global, payload: &Bytes) -> Result<(), Fault>
-        ensures exact { GivesUnlessMemory (λ _. self.new) result (after_payload self.old payload.now) }
+        ensures exact { GivesUnlessMemory (λ _. self.new) result
+            (after_payload self.old payload.now) }
         ensures first { RefusesFirst result (glance_of self.old payload.now) }
         ensures came { OnOk result ((payloads : List Payload) → Came payloads self.old
             → Came (payloads ++ payload.now ∷ []) self.new) }
@@ -75,8 +78,9 @@ impl Stream {
         Ok(())
     }
 
-    /// The status came, of this code and this text. A code other than 0 stands for the fault with that code and
-    /// that text, or for F1 (`Fault::BadFrame`) where no fault has both. It takes no memory.
+    /// The status came, of this code and this text. A code other than 0 stands for the fault with
+    /// that code and that text, or for F1 (`Fault::BadFrame`) where no fault has both. It takes no
+    /// memory.
     pub fn end(&mut self, code: u8, text: &str)
         ensures { Ends self.old code text.now self.new }
     {

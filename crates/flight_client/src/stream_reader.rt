@@ -1,4 +1,4 @@
-//! The payloads of a stream, read one behind the other.
+//! The payloads of a stream, read one after the other.
 
 ghost use Rattle.std.specs.Prelude.{◌≡◌, None, IfOk, IfSome, option_map};
 ghost use Rattle.arrow_schema.specs.Schema.{IsSchema};
@@ -15,8 +15,8 @@ use scan_base::Fault;
 use std::alloc::Global;
 use std::marker::Model;
 
-/// Reads the payloads of a stream, and hands out their batches. It holds the schema and the dictionaries, and no row. A
-/// contract sees what the payloads so far leave behind.
+/// Reads the payloads of a stream, and hands out their batches. It holds the schema and the
+/// dictionaries, and no row. A contract sees what the payloads so far leave after.
 #[derive(Drop)]
 pub struct StreamReader {
     reader: Reader,
@@ -42,7 +42,8 @@ impl StreamReader {
 
     /// The schema that the payloads say, once it came.
     pub fn schema(&self) -> Option<&Schema>
-        ensures value { option_map (λ schema. schema.now) result ≡ option_map (λ known. known.schema) self.now }
+        ensures value { option_map (λ schema. schema.now) result
+            ≡ option_map (λ known. known.schema) self.now }
         ensures valid { IfSome result (λ schema. IsSchema schema.now) }
     {
         self.reader.schema()
@@ -56,16 +57,17 @@ impl StreamReader {
         self.reader.into_schema()
     }
 
-    /// Reads the next payload, a FlightData that carries a message: its batch, or nothing where it says a schema or a
-    /// dictionary. The batch's values are cuts of the payload.
+    /// Reads the next payload, a FlightData that carries a message: its batch, or nothing where it
+    /// says a schema or a dictionary. The batch's values are cuts of the payload.
     ///
     /// # Errors
     ///
     /// The reader is as before then.
     /// - F4 (`Fault::BadProto`) where the payload is no FlightData.
-    /// - Those of `ipc_batch::Reader::message` (F6, F7, F8, F12) for its message, also where its header is empty.
-    /// - F21 (`Fault::OutOfMemory`) where memory is refused, and never for a payload that is no FlightData, nor for
-    ///   what `Reader::message` looks at first.
+    /// - Those of `ipc_batch::Reader::message` (F6, F7, F8, F12) for its message, also where its
+    ///   header is empty.
+    /// - F21 (`Fault::OutOfMemory`) where memory is refused, and never for a payload that is no
+    ///   FlightData, nor for what `Reader::message` looks at first.
     #[tactic(auto, unfolding(crate::specs::Stream::payload_news, crate::specs::Stream::payload_glance))]
     pub fn message(&mut self, alloc: Global, payload: &Bytes) -> Result<Option<Batch>, Fault>
         ensures exact { Answers result self.old (payload_news self.old payload.now) self.new }

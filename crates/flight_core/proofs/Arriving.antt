@@ -94,7 +94,7 @@ put_said-is (first ∷ payloads) = by (ingest_of first)
 
 -- ---- refusals
 
--- behind a glance that is not refused
+-- after a glance that is not refused
 pub behind : {X Y : Type 0} (glance : Result X Fault) (read : Result Y Fault) (fault : Fault) → ((cause : Fault) → glance ≡ Err cause → ⊥)
     → (fault ≢ OutOfMemory → read ≡ Err fault) → RefusedFor glance read fault
 behind (Ok seen) read fault good is = is
@@ -275,7 +275,7 @@ read_whole view result payloads begun reader is gives has = by payloads result g
     by (first ∷ rest) (Err fault) gives has =
         behind (first_glance first) (put_said (first ∷ rest)) fault (command_read first rest begun has) (λ other. same (first ∷ rest) has ∙ gives)
 
--- nothing more comes behind a fault
+-- nothing more comes after a fault
 pub read_refused : (payloads : List Payload) (fault : Fault) (reader : Result (Option BegunAt) Fault) → reader ≡ Err fault → HasRead payloads reader
     → RefusedFor (put_glance payloads) (put_said payloads) fault
 read_refused [] fault reader is has = absurd cc

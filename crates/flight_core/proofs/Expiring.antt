@@ -33,7 +33,7 @@ number_read action version said = rw said refl
 pub number_unread : (action : Payload) (fault : Fault) → expiry_of action ≡ Err fault → IsOk (expiry_of action) → ⊥
 number_unread action fault unread ok = let no = rw unread at ok in cc
 
--- the mark was added, and the answer is the floor behind it
+-- the mark was added, and the answer is the floor after it
 pub expired_reply : (log new : Log) (action : Payload) (version floor : ℕ) (answers : List Payload) → expiry_of action ≡ Ok version
     → IsExpired (Ok floor) log version new → answers ≡ floor_bytes floor ∷ [] → ExpireStep log action answers None new
 expired_reply log new action version floor answers said is whole =

@@ -27,7 +27,7 @@ pub log_in-placed : (place : ℕ) (log : Log) → log_in (placed place log) ≡ 
 log_in-placed place [] = refl
 log_in-placed place (entry ∷ log) = ap (λ all. entry ∷ all) (log_in-placed (place + 1) log)
 
--- what is added behind what was made
+-- what is added after what was made
 pub log_in-more : (made new : List Placed) (place : ℕ) (more : Log) → new ≡ made ++ placed place more → log_in new ≡ log_in made ++ more
 log_in-more made new place more is =
     ap log_in is ∙ (log_in-append made (placed place more) ∙ ap (λ (l : Log). log_in made ++ l) (log_in-placed place more))

@@ -26,7 +26,7 @@ use Rattle.flight_core.specs.Puts.{Told, news_in_payload, told_by, put_made, put
 abbrev messages_in : List DataSaid → List Sent
 messages_in all = map message_in (filter carries_message all)
 
--- what a FlightData says, after those that left this behind
+-- what a FlightData says, after those that left this after
 abbrev news_carried : State → DataSaid → Result News Fault
 news_carried state carried =
     if length carried.data_header == 0 then Ok (record { state = state; batch = None })

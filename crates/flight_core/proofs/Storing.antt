@@ -11,9 +11,9 @@ use Rattle.ipc_batch.specs.Said.{News, Sent, Tells, HasColumns, news_of}
 use Rattle.ipc_batch.proofs.Messages.{Keeps, keeps}
 use Rattle.flight_core.specs.Stored.{MayBeStored, batches_in}
 
--- ---- batches behind a schema
+-- ---- batches after a schema
 
--- those that stood behind a schema stand behind the same one
+-- those that stood after a schema stand after the same one
 kept_columns : (known : Known) (news : News) (batch : BatchAt) → Keeps known news → HasColumns (Some batch) (Some known) → HasColumns (Some batch) news.state
 kept_columns known news batch stays columns = rw (stays.state, stays.schema) columns
 
@@ -30,7 +30,7 @@ unfolding MayBeStored
 one_more state None batches columns before = rw (append-nil batches) before
 one_more state (Some batch) batches columns before = All-push (λ (b : BatchAt). HasColumns (Some b) state) batches batch before columns
 
--- what a message leaves behind may be stored, with its batch behind the others
+-- what a message leaves after may be stored, with its batch after the others
 pub read_storable : (result : Result (Option BatchAt) Fault) (old : State) (sent : Sent) (new : State) → Tells result old sent new → IfOk result (λ batch. HasColumns batch new)
     → (batches : List BatchAt) → MayBeStored old batches → IfOk result (λ batch. MayBeStored new (batches ++ batches_in batch))
 read_storable (Ok batch) old sent new e columns batches before = one_more new batch batches columns (still_stored old sent batch new e batches before)

@@ -68,7 +68,7 @@ slice_get-drop zero i xs = let e : 0 + i ≡ i = omega arith in rw e refl
 slice_get-drop (suc k) i [] = refl
 slice_get-drop (suc k) i (x ∷ xs) = let e : suc k + i ≡ suc (k + i) = omega arith in rw e (slice_get-drop k i xs)
 
--- an accepted put comes behind fewer than there may be
+-- an accepted put comes after fewer than there may be
 few_before : (log : Log) (put : Put) (new : Database) → after (logs.database_of log) (puts_in log) put ≡ Ok new → puts_in log < most_commits
 few_before log put new accepts =
     let old = logs.database_of log in

@@ -13,8 +13,8 @@ use Rattle.flight_core.specs.Machine.{ReplyTo, OpensIn}
 use Rattle.flight_core.specs.Reacts.{Goes, HasAsked, HasLooked, MayAsk}
 use Rattle.flight_core.specs.Seats.{Seat, Moves}
 
--- what answers: a reply; or that to an accepted put, whose version is the newest then; or the floor after an expiry; or the
--- stream of a fetch, which leaves the log
+-- what answers: a reply; or that to an accepted put, whose version is the newest then; or the floor
+-- after an expiry; or the stream of a fetch, which leaves the log
 abbrev pub AnsweredBy : Result Asked Fault → Log → Answer → Log → Type 0
 AnsweredBy asked log (Whole reply) new = ReplyTo asked log reply new
 AnsweredBy asked log (Accepted payloads version) new =
@@ -43,9 +43,10 @@ IsReplyOf (Accepted payloads version) reply = reply ≡ whole payloads.items
 IsReplyOf (Floor floor) reply = reply ≡ whole (floor_bytes floor ∷ [])
 IsReplyOf (Stream stream) reply = Unit {0}
 
--- What answers what is asked over a backend, before it is written. It was looked for and asked for, unless memory was refused
--- before it was begun.
-pub record ReactsBy (moves : Moves) (asked : Result Asked Fault) (old : Seat) (answer : Answer) (new : Seat) : Type 0 where
+-- What answers what is asked over a backend, before it is written. It was looked for and asked for,
+-- unless memory was refused before it was begun.
+pub record ReactsBy (moves : Moves) (asked : Result Asked Fault) (old : Seat) (answer : Answer)
+    (new : Seat) : Type 0 where
   pub log : Log
   pub after : Log
   pub answered : AnsweredBy asked log answer after

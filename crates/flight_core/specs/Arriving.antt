@@ -8,7 +8,8 @@ use Rattle.ipc_batch.specs.Said.{rows_in}
 use Rattle.table_versions.specs.Database.{Put}
 use Rattle.flight_core.specs.Refusals.{GivesBehind}
 use Rattle.flight_info.specs.Payloads.{Payload}
-use Rattle.flight_core.specs.Puts.{Told, news_in_payload, message_glance, told_by, first_glance, put_made}
+use Rattle.flight_core.specs.Puts.{Told, news_in_payload, message_glance, told_by, first_glance}
+use Rattle.flight_core.specs.Puts.{put_made}
 
 -- a put that was begun: its command, and what its payloads tell
 pub record BegunAt : Type 0 where
@@ -23,8 +24,8 @@ said_so_far (first ∷ payloads) = do
   told ← told_by None (first ∷ payloads)
   Ok (Some (record { ingest = ingest; told = told }))
 
--- a reader to which these payloads came holds what they say so far, or behind a glance at the first of them that memory
--- was refused
+-- a reader to which these payloads came holds what they say so far, or after a glance at the first
+-- of them that memory was refused
 abbrev pub HasRead : List Payload → Result (Option BegunAt) Fault → Type 0
 HasRead [] reader = reader ≡ Ok None
 HasRead (first ∷ payloads) reader =
@@ -42,14 +43,17 @@ begun_by first = do
 abbrev pub after_payload : BegunAt → Payload → Result (Option BegunAt) Fault
 after_payload begun payload = do
   news ← news_in_payload begun.told.state payload
-  Ok (Some (record begun { told = record { state = news.state; rows = begun.told.rows ++ rows_in news.batch } }))
+  Ok (Some (record begun {
+    told = record { state = news.state; rows = begun.told.rows ++ rows_in news.batch };
+  }))
 
 -- what is said after one payload more: of the first one its command comes before its message
 abbrev pub said_next : Option BegunAt → Payload → Result (Option BegunAt) Fault
 said_next None first = begun_by first >>= λ begun. after_payload begun first
 said_next (Some begun) payload = after_payload begun payload
 
--- what is refused of one payload more before anything grows or is cut: of the first one its command comes before its message
+-- what is refused of one payload more before anything grows or is cut: of the first one its command
+-- comes before its message
 abbrev pub glance_next : Option BegunAt → Payload → Result (Unit {0}) Fault
 glance_next None first = first_glance first
 glance_next (Some begun) payload = message_glance begun.told.state payload

@@ -2,8 +2,8 @@
 use Rattle.std.specs.Prelude.{ℕ, List}
 use Rattle.flight_info.specs.Payloads.{Payload}
 
--- what is asked: a put; an info of a query or of the list of tables, in so many parts; a schema; a fetch by so many
--- workers; or an expiry of old versions
+-- what is asked: a put; an info of a query or of the list of tables, in so many parts; a schema; a
+-- fetch by so many workers; or an expiry of old versions
 pub data Asked : Type 0 where
   put : (payloads : List Payload) → Asked
   info : (payload : Payload) (parts : ℕ) → Asked

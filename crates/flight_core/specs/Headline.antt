@@ -23,8 +23,10 @@ Pairwise P _ _ = ⊥
 
 -- ---- a run
 
--- a fetch of this handle, by whatever ticket and workers, was answered to its end, and said these rows
-pub record Fetched (asked : List Asked) (replies : List ReplyAt) (handle : HandleAt) (rows : Rows) : Type 0 where
+-- a fetch of this handle, by whatever ticket and workers, was answered to its end, and said these
+-- rows
+pub record Fetched (asked : List Asked) (replies : List ReplyAt) (handle : HandleAt)
+    (rows : Rows) : Type 0 where
   pub place : ℕ
   pub ticket : Payload
   pub workers : ℕ
@@ -36,23 +38,27 @@ pub record Fetched (asked : List Asked) (replies : List ReplyAt) (handle : Handl
   pub says : PayloadsSay payloads schema rows
 
 -- an info was answered for what was wanted, at this log, by these handles
-pub record Informed (asked : List Asked) (replies : List ReplyAt) (log : Log) (wanted : Wanted) (handles : List HandleAt) : Type 0 where
+pub record Informed (asked : List Asked) (replies : List ReplyAt) (log : Log) (wanted : Wanted)
+    (handles : List HandleAt) : Type 0 where
   pub place : ℕ
   pub payload : Payload
   pub parts : ℕ
   pub said : Payload
   pub told : InfoSaid
-  pub event : (slice_get asked place ≡ Some (info payload parts)) ⊎ (slice_get asked place ≡ Some (tables payload parts))
+  pub event : (slice_get asked place ≡ Some (info payload parts))
+      ⊎ (slice_get asked place ≡ Some (tables payload parts))
   pub reply : slice_get replies place ≡ Some (whole (said ∷ []))
   pub before : Run [] (take place asked) (take place replies) log
   pub wants : wanted_in payload ≡ Ok wanted
   pub read : info_of said ≡ Ok told
   pub gives : handles_in told ≡ Ok handles
 
--- If each handle of an info was fetched to its end, before or after whatever puts, the rows said, joined in the order of
--- the endpoints, are the rows that were wanted, at the log as it stood when the info was given.
+-- If each handle of an info was fetched to its end, before or after whatever puts, the rows said,
+-- joined in the order of the endpoints, are the rows that were wanted, at the log as it stood when
+-- the info was given.
 abbrev pub Headline : List Asked → List ReplyAt → Type 0
-Headline asked replies = (log : Log) (wanted : Wanted) (handles : List HandleAt) (streams : List Rows) (answer : Table)
+Headline asked replies =
+    (log : Log) (wanted : Wanted) (handles : List HandleAt) (streams : List Rows) (answer : Table)
     → Informed asked replies log wanted handles → Answers (database_of log) wanted answer
     → Pairwise (Fetched asked replies) handles streams
     → flat_map (λ rows. rows) streams ≡ answer.rows
@@ -81,10 +87,11 @@ pub record FetchedAt (told : Log) (handle : HandleAt) (rows : Rows) : Type 0 whe
   pub is_handle : handle_asked ticket ≡ Ok handle
   pub says : PayloadsSay payloads schema rows
 
--- The same where the info and each fetch have a seat of their own, all of which learnt of one log that is no shorter than
--- the info's, before or after they were answered.
+-- The same where the info and each fetch have a seat of their own, all of which learnt of one log
+-- that is no shorter than the info's, before or after they were answered.
 abbrev pub Joined : Type 0
-Joined = (told log : Log) (payload : Payload) (parts : ℕ) (wanted : Wanted) (given : InfoSaid) (handles : List HandleAt) (streams : List Rows) (answer : Table)
+Joined = (told log : Log) (payload : Payload) (parts : ℕ) (wanted : Wanted) (given : InfoSaid)
+    (handles : List HandleAt) (streams : List Rows) (answer : Table)
     → RightInfo (database_of log) (puts_in log) payload parts wanted given
     → Saw told log → puts_in log ≤ puts_in told
     → handles_in given ≡ Ok handles → Answers (database_of log) wanted answer

@@ -1,5 +1,6 @@
 -- What holds of all runs, and of the payloads of answers and of puts.
-use Rattle.std.specs.Prelude.{◌≡◌, ◌↔◌, ℕ, ◌+◌, ◌==◌, Bool, not, List, [], ◌∷◌, ◌++◌, length, map, filter, take, drop, Some, Ok, slice_get}
+use Rattle.std.specs.Prelude.{◌≡◌, ◌↔◌, ℕ, ◌+◌, ◌==◌, Bool, not, List, [], ◌∷◌, ◌++◌, length, map}
+use Rattle.std.specs.Prelude.{filter, take, drop, Some, Ok, slice_get}
 use Rattle.scan_base.specs.declared.fault.Fault.{Fault}
 use Rattle.arrow_schema.specs.declared.schema.Schema.{Schema}
 use Rattle.scan_base.specs.Lists.{each}
@@ -18,12 +19,12 @@ use Rattle.flight_core.specs.Machine.{Run}
 abbrev pub without : {X : Type 0} → ℕ → List X → List X
 without place xs = take place xs ++ drop (place + 1) xs
 
--- What was refused, and so a refused put, changes nothing: without it the rest is answered by the other replies, and
--- the log is the same.
+-- What was refused, and so a refused put, changes nothing: without it the rest is answered by the
+-- other replies, and the log is the same.
 abbrev pub RefusedLeaveNothing : List Asked → List ReplyAt → Log → Type 0
 RefusedLeaveNothing asked replies log = (place : ℕ) (one : Asked) (reply : ReplyAt) (fault : Fault)
-    → slice_get asked place ≡ Some one → slice_get replies place ≡ Some reply → reply.fault ≡ Some fault
-    → Run [] (without place asked) (without place replies) log
+    → slice_get asked place ≡ Some one → slice_get replies place ≡ Some reply
+    → reply.fault ≡ Some fault → Run [] (without place asked) (without place replies) log
 
 -- this holds of each run
 abbrev pub RefusalsLeaveNothing : Type 0
@@ -33,7 +34,8 @@ RefusalsLeaveNothing = (asked : List Asked) (replies : List ReplyAt) (log : Log)
 -- the payloads of an answer say at most one schema and one list of rows
 abbrev pub AnswersSayOneThing : Type 0
 AnswersSayOneThing = (payloads : List Payload) (one other : Schema) (rows others : Rows) →
-    PayloadsSay payloads one rows → PayloadsSay payloads other others → (one ≡ other) × (rows ≡ others)
+    PayloadsSay payloads one rows → PayloadsSay payloads other others →
+    (one ≡ other) × (rows ≡ others)
 
 -- whether a FlightData carries a message: in a put, one with an empty header is skipped
 abbrev pub carries_message : DataSaid → Bool
@@ -45,8 +47,8 @@ PutSays payloads schema rows =
     (all : List DataSaid) × (each data_of payloads ≡ Ok all)
     × Says (map message_in (filter carries_message all)) schema rows
 
--- payloads say a put: the command in the first of them names its table and its options, and all of them say its
--- schema and its rows
+-- payloads say a put: the command in the first of them names its table and its options, and all of
+-- them say its schema and its rows
 pub record SayPut (payloads : List Payload) (put : Put) : Type 0 where
   pub first : Payload
   pub others : List Payload
@@ -58,4 +60,5 @@ pub record SayPut (payloads : List Payload) (put : Put) : Type 0 where
 
 -- the put that is read of payloads is the one that they say
 abbrev pub PutsAreSaid : Type 0
-PutsAreSaid = (payloads : List Payload) (put : Put) → (put_said payloads ≡ Ok put) ↔ SayPut payloads put
+PutsAreSaid =
+    (payloads : List Payload) (put : Put) → (put_said payloads ≡ Ok put) ↔ SayPut payloads put

@@ -1,5 +1,6 @@
 -- The core as a machine: what is asked is answered by one step on a log.
-use Rattle.std.specs.Prelude.{◌≡◌, ◌⊎◌, ◌≤◌, ℕ, pos, nat_le, List, [], ◌∷◌, ◌++◌, length, Option, Some, None, Result, Ok, Err, IsOk, IfErr}
+use Rattle.std.specs.Prelude.{◌≡◌, ◌⊎◌, ◌≤◌, ℕ, pos, nat_le, List, [], ◌∷◌, ◌++◌, length, Option}
+use Rattle.std.specs.Prelude.{Some, None, Result, Ok, Err, IsOk, IfErr}
 use Rattle.scan_base.specs.declared.fault.Fault.{Fault}
 use Rattle.scan_base.specs.declared.fault.Fault.TheVariants.{OutOfMemory, VersionUnknown}
 use Rattle.scan_base.specs.Reading.{◌>>=◌, demand}
@@ -16,15 +17,16 @@ use Rattle.flight_core.specs.Shown.{handle_shown}
 use Rattle.fetch_stream.specs.Fetches.{version_of, FetchAt}
 use Rattle.fetch_stream.specs.Streams.{StreamAt, Opens}
 use Rattle.endpoint_split.specs.Handle.{HandleAt}
-use Rattle.flight_info.specs.Infos.{handle_asked, rows_wanted, tables_wanted, schema_wanted, InfoAt, SchemaAt}
+use Rattle.flight_info.specs.Infos.{handle_asked, rows_wanted, tables_wanted, schema_wanted, InfoAt}
+use Rattle.flight_info.specs.Infos.{SchemaAt}
 
 -- the database after the put that payloads say, at a log, or the first fault
 abbrev pub database_put : Log → List Payload → Result Database Fault
 database_put log payloads = put_said payloads >>= λ put. after (database_of log) (puts_in log) put
 
--- A put: an accepted one stands at the end of the log, and is answered by how many rows it put. A refused one
--- changes nothing and has no payload: a glance at its first payload is refused for its own fault, and what stands behind
--- it for the first fault, or because memory was refused.
+-- A put: an accepted one stands at the end of the log, and is answered by how many rows it put. A
+-- refused one changes nothing and has no payload: a glance at its first payload is refused for its
+-- own fault, and what stands after it for the first fault, or because memory was refused.
 abbrev pub PutStep : Log → List Payload → List Payload → Option Fault → Log → Type 0
 PutStep log payloads answers None new = (put : Put) × (put_said payloads ≡ Ok put)
     × IsOk (after (database_of log) (puts_in log) put) × (new ≡ log ++ added put ∷ [])
@@ -32,34 +34,41 @@ PutStep log payloads answers None new = (put : Put) × (put_said payloads ≡ Ok
 PutStep log payloads answers (Some fault) new = (new ≡ log) × (answers ≡ [])
     × RefusedFor (put_glance payloads) (database_put log payloads) fault
 
--- the number below which an action expires the versions of a log, where the log reaches it, or the first fault
+-- the number below which an action expires the versions of a log, where the log reaches it, or the
+-- first fault
 abbrev pub expiry_due : Log → Payload → Result ℕ Fault
 expiry_due log action = do
   version ← expiry_of action
   _ ← demand (nat_le version (puts_in log)) VersionUnknown
   Ok version
 
--- An expiry: its mark stands at the end of the log, and it is answered by the floor behind it. A refused one changes nothing
--- and has no payload: it is refused for its first fault, or where it has none because memory was refused.
+-- An expiry: its mark stands at the end of the log, and it is answered by the floor after it. A
+-- refused one changes nothing and has no payload: it is refused for its first fault, or where it
+-- has none because memory was refused.
 abbrev pub ExpireStep : Log → Payload → List Payload → Option Fault → Log → Type 0
-ExpireStep log action answers None new = (version : ℕ) × (expiry_of action ≡ Ok version) × (version ≤ puts_in log)
+ExpireStep log action answers None new =
+    (version : ℕ) × (expiry_of action ≡ Ok version) × (version ≤ puts_in log)
     × (new ≡ log ++ expired version ∷ []) × (answers ≡ floor_bytes (floor_of new) ∷ [])
 ExpireStep log action answers (Some fault) new = (new ≡ log) × (answers ≡ [])
     × RefusedBy (expiry_due log action) fault
 
--- the answer to what a fetch shows: the fault that is seen there, or the answer at the handle's version
+-- the answer to what a fetch shows: the fault that is seen there, or the answer at the handle's
+-- version
 abbrev pub FetchBy : Log → Result HandleAt Fault → List Payload → Option Fault → Type 0
 FetchBy log (Err cause) payloads fault = (payloads ≡ []) × (fault ≡ Some cause)
-FetchBy log (Ok handle) payloads fault = FetchAt (version log (version_of handle)) handle payloads fault
+FetchBy log (Ok handle) payloads fault =
+    FetchAt (version log (version_of handle)) handle payloads fault
 
 -- memory was refused for a look at the version of a ticket that reads: nothing more is known of it
 abbrev pub LacksLook : Payload → List Payload → Option Fault → Type 0
-LacksLook ticket payloads fault = IsOk (handle_asked ticket) × (payloads ≡ []) × (fault ≡ Some OutOfMemory)
+LacksLook ticket payloads fault =
+    IsOk (handle_asked ticket) × (payloads ≡ []) × (fault ≡ Some OutOfMemory)
 
 -- the answer to a fetch at a log
 abbrev pub FetchIn : Log → Payload → List Payload → Option Fault → Type 0
 FetchIn log ticket payloads fault =
-    FetchBy log (handle_shown (floor_of log) (puts_in log) ticket) payloads fault ⊎ LacksLook ticket payloads fault
+    FetchBy log (handle_shown (floor_of log) (puts_in log) ticket) payloads fault
+    ⊎ LacksLook ticket payloads fault
 
 -- the stream of what a fetch shows, or the fault that is seen there
 abbrev pub OpensBy : Log → Result HandleAt Fault → Result StreamAt Fault → Type 0
@@ -75,22 +84,28 @@ OpensIn log ticket result = OpensBy log (handle_shown (floor_of log) (puts_in lo
 abbrev pub StepOn : Log → Asked → ReplyAt → Log → Type 0
 StepOn log (put payloads) reply new = PutStep log payloads reply.payloads reply.fault new
 StepOn log (info payload parts) reply new = (new ≡ log)
-    × InfoAt (database_of log) (puts_in log) payload parts (rows_wanted payload) reply.payloads reply.fault
+    × InfoAt (database_of log) (puts_in log) payload parts
+    (rows_wanted payload) reply.payloads reply.fault
 StepOn log (tables payload parts) reply new = (new ≡ log)
-    × InfoAt (database_of log) (puts_in log) payload parts (tables_wanted payload) reply.payloads reply.fault
+    × InfoAt (database_of log) (puts_in log) payload parts
+    (tables_wanted payload) reply.payloads reply.fault
 StepOn log (schema payload) reply new = (new ≡ log)
     × SchemaAt (database_of log) (schema_wanted payload) reply.payloads reply.fault
-StepOn log (fetch ticket workers) reply new = (new ≡ log) × FetchIn log ticket reply.payloads reply.fault
+StepOn log (fetch ticket workers) reply new =
+    (new ≡ log) × FetchIn log ticket reply.payloads reply.fault
 StepOn log (expire action) reply new = ExpireStep log action reply.payloads reply.fault new
 
--- a step of the core on what is asked; or the fault for which it never came to the core, and the log stays
+-- a step of the core on what is asked; or the fault for which it never came to the core, and the
+-- log stays
 abbrev pub ReplyTo : Result Asked Fault → Log → ReplyAt → Log → Type 0
 ReplyTo (Ok asked) log reply new = StepOn log asked reply new
 ReplyTo (Err fault) log reply new = (new ≡ log) × (reply ≡ refusal fault)
 
--- A fetch is refused for the fault that it shows before any memory is taken, and never for want of memory in its place.
+-- A fetch is refused for the fault that it shows before any memory is taken, and never for want of
+-- memory in its place.
 abbrev pub FetchShown : Log → Payload → Option Fault → Type 0
-FetchShown log ticket fault = IfErr (handle_shown (floor_of log) (puts_in log) ticket) (λ cause. fault ≡ Some cause)
+FetchShown log ticket fault =
+    IfErr (handle_shown (floor_of log) (puts_in log) ticket) (λ cause. fault ≡ Some cause)
 
 -- the same of what is asked, where it is a fetch
 abbrev pub AsShown : Log → Asked → Option Fault → Type 0

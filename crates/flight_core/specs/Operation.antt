@@ -9,7 +9,8 @@ use Rattle.flight_core.specs.Refusals.{GivesBehind}
 
 -- an operation is what is asked: of a put its payloads were read
 abbrev pub StandsFor : Operation → Asked → Type 0
-StandsFor (operation.Put read) (put payloads) = GivesBehind (put_glance payloads) put_of read (put_said payloads)
+StandsFor (operation.Put read) (put payloads) =
+    GivesBehind (put_glance payloads) put_of read (put_said payloads)
 StandsFor (operation.Put read) asked = ⊥
 StandsFor (operation.Info payload parts) asked = asked ≡ info payload.now parts
 StandsFor (operation.Tables payload parts) asked = asked ≡ tables payload.now parts

@@ -1,6 +1,7 @@
--- The put that payloads say, or the first fault: payload by payload, and of the first one its command before
--- its message.
-use Rattle.std.specs.Prelude.{◌==◌, List, [], ◌∷◌, ◌++◌, length, None, Result, Ok, Err, if◌then◌else◌}
+-- The put that payloads say, or the first fault: payload by payload, and of the first one its
+-- command before its message.
+use Rattle.std.specs.Prelude.{◌==◌, List, [], ◌∷◌, ◌++◌, length, None, Result, Ok, Err}
+use Rattle.std.specs.Prelude.{if◌then◌else◌}
 use Rattle.scan_base.specs.declared.fault.Fault.{Fault}
 use Rattle.scan_base.specs.declared.fault.Fault.TheVariants.{UnknownCommand, BadBatch}
 use Rattle.scan_base.specs.Reading.{◌>>=◌, wanted}
@@ -12,23 +13,26 @@ use Rattle.ipc_batch.specs.Said.{News, Rows, news_of, glance_of, rows_in}
 use Rattle.table_versions.specs.Database.{Put}
 use Rattle.flight_info.specs.Payloads.{Payload, message_in}
 
--- what payloads leave behind: the schema, once it came, with its dictionaries, and the rows of their batches
+-- what payloads leave after: the schema, once it came, with its dictionaries, and the rows of their
+-- batches
 pub record Told : Type 0 where
   pub state : State
   pub rows : Rows
 
--- what a payload says, after those that left this behind: a FlightData with an empty header is skipped
+-- what a payload says, after those that left this after: a FlightData with an empty header is
+-- skipped
 unfoldable pub news_in_payload : State → Payload → Result News Fault
 news_in_payload state payload = data_of payload >>= λ carried.
     if length carried.data_header == 0 then Ok (record { state = state; batch = None })
     else news_of state (message_in carried)
 
--- What is refused of a payload's message, after those that left this behind, before anything grows or is cut.
+-- What is refused of a payload's message, after those that left this after, before anything grows
+-- or is cut.
 unfoldable pub message_glance : State → Payload → Result (Unit {0}) Fault
 message_glance state payload = data_of payload >>= λ carried.
     if length carried.data_header == 0 then Ok tt else glance_of state (message_in carried)
 
--- what payloads tell, after those that left this behind
+-- what payloads tell, after those that left this after
 abbrev pub told_by : State → List Payload → Result Told Fault
 told_by state [] = Ok (record { state = state; rows = [] })
 told_by state (payload ∷ payloads) = do

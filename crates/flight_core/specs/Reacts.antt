@@ -1,5 +1,6 @@
 -- What a step does over a backend.
-use Rattle.std.specs.Prelude.{◌≡◌, ◌≢◌, ◌⊎◌, ◌<◌, ◌≤◌, ◌+◌, List, ◌++◌, length, IsOk, Some, Result, Ok, Err}
+use Rattle.std.specs.Prelude.{◌≡◌, ◌≢◌, ◌⊎◌, ◌<◌, ◌≤◌, ◌+◌, List, ◌++◌, length, IsOk, Some, Result}
+use Rattle.std.specs.Prelude.{Ok, Err}
 use Rattle.scan_base.specs.declared.fault.Fault.{Fault}
 use Rattle.scan_base.specs.declared.fault.Fault.TheVariants.{OutOfMemory}
 use Rattle.flight_proto.specs.Expiry.{expiry_of}
@@ -14,8 +15,8 @@ use Rattle.flight_core.specs.Machine.{ReplyTo}
 use Rattle.flight_core.specs.Placed.{Placed, placed}
 use Rattle.flight_core.specs.Seats.{Seat, Moves, AsksNone}
 
--- a put or an expiry that was read may go by another log than the seat's; all else by one that begins with what the seat had
--- seen
+-- a put or an expiry that was read may go by another log than the seat's; all else by one that
+-- begins with what the seat had seen
 abbrev pub StartsAt : Result Asked Fault → Log → Log → Type 0
 StartsAt (Ok (put payloads)) seen log = IsOk (put_said payloads) ⊎ Begins seen log
 StartsAt (Ok (expire action)) seen log = IsOk (expiry_of action) ⊎ Begins seen log
@@ -31,21 +32,23 @@ Looks (Ok (fetch ticket workers)) = IsOk (handle_asked ticket)
 Looks (Ok (expire action)) = ⊥
 Looks (Err fault) = ⊥
 
--- what a step adds to a log, if it adds anything, is made by the seat, at the places behind it
+-- what a step adds to a log, if it adds anything, is made by the seat, at the places after it
 abbrev pub AddsTo : List Placed → Log → Log → List Placed → Type 0
 AddsTo made log after new =
     (more : Log) × (after ≡ log ++ more) × (new ≡ made ++ placed (length log) more)
 
--- A step from one log to another on what is asked, as the seat sees it: then it has seen the second log, and all that it
--- had seen.
-pub record Goes (moves : Moves) (asked : Result Asked Fault) (old : Seat) (log after : Log) (new : Seat) : Type 0 where
+-- A step from one log to another on what is asked, as the seat sees it: then it has seen the second
+-- log, and all that it had seen.
+pub record Goes (moves : Moves) (asked : Result Asked Fault) (old : Seat) (log after : Log)
+    (new : Seat) : Type 0 where
   pub moved : moves old log after new
   pub starts : StartsAt asked old.log log
   pub learnt : Begins after new.log
   pub kept : Begins old.log new.log
   pub made : AddsTo old.made log after new.made
 
--- where what is asked looks, the looks have risen, and the log is the one that the seat has then seen
+-- where what is asked looks, the looks have risen, and the log is the one that the seat has then
+-- seen
 abbrev pub HasLooked : Result Asked Fault → Seat → Log → Seat → Type 0
 HasLooked asked old log new = Looks asked → (old.looks < new.looks) × (log ≡ new.log)
 
@@ -54,7 +57,8 @@ abbrev pub IsBeyond : Result HandleAt Fault → Log → Type 0
 IsBeyond (Ok handle) log = puts_in log < version_of handle
 IsBeyond (Err fault) log = ⊥
 
--- what asks what others have done: a put and an expiry that were read, and a fetch of a version that the log does not reach
+-- what asks what others have done: a put and an expiry that were read, and a fetch of a version
+-- that the log does not reach
 abbrev pub Asks : Result Asked Fault → Log → Type 0
 Asks (Ok (put payloads)) log = IsOk (put_said payloads)
 Asks (Ok (info payload parts)) log = ⊥
@@ -73,9 +77,10 @@ pub record MayAsk (asked : Result Asked Fault) (old new : Seat) : Type 0 where
   pub still : (Asks asked old.log → ⊥) → AsksNone old new
   pub once : new.asks ≤ old.asks + 1
 
--- The reply is a step from one log to another, and was looked for unless memory was refused. So a put that is refused, and a version
--- that is not there (F18), were asked for. Nothing else asks.
-pub record Reacts (moves : Moves) (asked : Result Asked Fault) (old : Seat) (reply : ReplyAt) (new : Seat) : Type 0 where
+-- The reply is a step from one log to another, and was looked for unless memory was refused. So a
+-- put that is refused, and a version that is not there (F18), were asked for. Nothing else asks.
+pub record Reacts (moves : Moves) (asked : Result Asked Fault) (old : Seat) (reply : ReplyAt)
+    (new : Seat) : Type 0 where
   pub log : Log
   pub after : Log
   pub step : ReplyTo asked log reply after

@@ -1,5 +1,6 @@
 -- A seat: what contracts see of a backend, and what its calls do to it.
-use Rattle.std.specs.Prelude.{◌≡◌, ◌≢◌, ◌⊎◌, ℕ, ◌+◌, List, ◌∷◌, ◌++◌, [], length, IsOk, Result, Ok, Err}
+use Rattle.std.specs.Prelude.{◌≡◌, ◌≢◌, ◌⊎◌, ℕ, ◌+◌, List, ◌∷◌, ◌++◌, [], length, IsOk, Result, Ok}
+use Rattle.std.specs.Prelude.{Err}
 use Rattle.scan_base.specs.declared.fault.Fault.{Fault}
 use Rattle.scan_base.specs.declared.fault.Fault.TheVariants.{OutOfMemory}
 use Rattle.scan_base.specs.Reading.{RefusesFirst}
@@ -32,9 +33,11 @@ Moves = Seat → Log → Log → Seat → Type 0
 abbrev pub alone : Moves
 alone old log after new = (log ≡ old.log) × (after ≡ new.log)
 
--- a seat has seen no less than before, and made no entry: a step that leaves the log that it has then seen
+-- a seat has seen no less than before, and made no entry: a step that leaves the log that it has
+-- then seen
 abbrev pub Learns : Moves → Seat → Seat → Type 0
-Learns moves old new = Begins old.log new.log × (new.made ≡ old.made) × moves old new.log new.log new
+Learns moves old new =
+    Begins old.log new.log × (new.made ≡ old.made) × moves old new.log new.log new
 
 -- one ask
 abbrev pub AsksOnce : Seat → Seat → Type 0
@@ -53,7 +56,7 @@ abbrev pub MayLook : Seat → Seat → Type 0
 MayLook old new = (new.looks ≡ old.looks) ⊎ LooksOnce old new
 
 -- A put at a log: the entry of an accepted one is its last, and the last of those that the seat
--- made, at the place behind that log, and its number is how many puts there are then. A refused one
+-- made, at the place after that log, and its number is how many puts there are then. A refused one
 -- changes nothing, and its fault is due, or memory was refused.
 abbrev pub PutsAt : Result ℕ Fault → Seat → Log → Put → Log → Seat → Type 0
 PutsAt (Ok number) old log put next new = IsOk (after (database_of log) (puts_in log) put)
@@ -62,9 +65,11 @@ PutsAt (Ok number) old log put next new = IsOk (after (database_of log) (puts_in
 PutsAt (Err fault) old log put next new = (next ≡ log) × (new.made ≡ old.made)
     × (fault ≢ OutOfMemory → after (database_of log) (puts_in log) put ≡ Err fault)
 
--- A put at the log that it meets, which is refused by its first fault if it has one. The seat asks for that log, also where the put
--- is refused. Behind it the seat has seen that log with the put, and all that it had seen.
-pub record Puts (moves : Moves) (result : Result ℕ Fault) (old : Seat) (put : Put) (new : Seat) : Type 0 where
+-- A put at the log that it meets, which is refused by its first fault if it has one. The seat asks
+-- for that log, also where the put is refused. After it the seat has seen that log with the put,
+-- and all that it had seen.
+pub record Puts (moves : Moves) (result : Result ℕ Fault) (old : Seat) (put : Put)
+    (new : Seat) : Type 0 where
   pub log : Log
   pub next : Log
   pub at : PutsAt result old log put next new
@@ -76,14 +81,15 @@ pub record Puts (moves : Moves) (result : Result ℕ Fault) (old : Seat) (put : 
   pub asks : AsksOnce old new
 
 -- the mark of an expiry that was done at a log is the last entry that the seat made, at the place
--- behind that log, and a refused one is none of them
+-- after that log, and a refused one is none of them
 abbrev pub MarksAt : Result ℕ Fault → Seat → Log → ℕ → Seat → Type 0
 MarksAt (Ok floor) old log version new = new.made ≡ old.made ++ (length log, expired version) ∷ []
 MarksAt (Err fault) old log version new = new.made ≡ old.made
 
--- An expiry of the versions below a number, at the log that it meets, for which the seat asks. Behind it the seat has seen that log with the mark, and
--- all that it had seen.
-pub record Expires (moves : Moves) (result : Result ℕ Fault) (old : Seat) (version : ℕ) (new : Seat) : Type 0 where
+-- An expiry of the versions below a number, at the log that it meets, for which the seat asks.
+-- After it the seat has seen that log with the mark, and all that it had seen.
+pub record Expires (moves : Moves) (result : Result ℕ Fault) (old : Seat) (version : ℕ)
+    (new : Seat) : Type 0 where
   pub log : Log
   pub next : Log
   pub at : IsExpired result log version next

@@ -9,6 +9,6 @@ abbrev pub batches_in : Option BatchAt → List BatchAt
 batches_in None = []
 batches_in (Some batch) = batch ∷ []
 
--- the batches stand behind a schema, and have a column for each of its fields, of its type
+-- the batches stand after a schema, and have a column for each of its fields, of its type
 unfoldable pub MayBeStored : State → List BatchAt → Type 0
 MayBeStored state batches = All (λ batch. HasColumns (Some batch) state) batches

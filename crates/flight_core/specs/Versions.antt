@@ -5,7 +5,8 @@ use Rattle.table_versions.specs.Database.{Database, Put, after, accepted}
 use Rattle.version_log.specs.Log.{Log, puts_of, puts_in, floor_of}
 use Rattle.table_versions.specs.Stored.{VersionAt, tables_of}
 
--- the database after each of these puts, and how many were accepted up to it, where n were before them
+-- the database after each of these puts, and how many were accepted up to it, where n were before
+-- them
 abbrev pub versions_from : Database → ℕ → List Put → List (ℕ × Database)
 versions_from database n [] = []
 versions_from database n (put ∷ puts) =
@@ -20,7 +21,8 @@ versions_of puts = (0, []) ∷ versions_from [] 0 puts
 abbrev pub numbered : VersionAt → ℕ × Database
 numbered version = (version.number, tables_of version.catalog)
 
--- the versions of a log from its floor on, which the log reaches, and which are no more than there may be
+-- the versions of a log from its floor on, which the log reaches, and which are no more than there
+-- may be
 pub record AreKept (from : ℕ) (kept : List (ℕ × Database)) (log : Log) : Type 0 where
   pub floor : from ≡ floor_of log
   pub versions : kept ≡ drop (floor_of log) (versions_of (puts_of log))

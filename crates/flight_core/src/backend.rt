@@ -12,11 +12,13 @@ use table_versions::{Put, Snapshot};
 /// The versions of the catalog as one connection sees them.
 pub trait Backend {
     ghost use Rattle.std.specs.Prelude.{◌≡◌, ◌≤◌, ◌<◌, ◌⊎◌, Bool, true, Err, IfOk, IfErr};
-    ghost use Rattle.scan_base.specs.declared.fault.Fault.TheVariants.{OutOfMemory, VersionExpired, VersionUnknown};
+    ghost use Rattle.scan_base.specs.declared.fault.Fault.TheVariants.{OutOfMemory, VersionExpired};
+    ghost use Rattle.scan_base.specs.declared.fault.Fault.TheVariants.{VersionUnknown};
     ghost use Rattle.table_versions.specs.Database as database;
     ghost use Rattle.table_versions.specs.Stored.{put_of, tables_of};
     ghost use Rattle.version_log.specs.Log.{Log, puts_in, floor_of, database_of, version};
-    ghost use Rattle.flight_core.specs.Seats.{Seat, AsksNone, AsksOnce, Expires, Learns, LooksOnce, MayLook, Puts};
+    ghost use Rattle.flight_core.specs.Seats.{Seat, AsksNone, AsksOnce, Expires, Learns, LooksOnce};
+    ghost use Rattle.flight_core.specs.Seats.{MayLook, Puts};
 
     // The log that it has seen, its looks, the entries that it made, with their places, and its
     // asks.
@@ -35,18 +37,19 @@ pub trait Backend {
     ///
     /// # Errors
     ///
-    /// The first fault for which the put is refused, and F21 (`Fault::OutOfMemory`) only for a put that none of them refuses.
-    /// Nothing has changed then.
+    /// The first fault for which the put is refused, and F21 (`Fault::OutOfMemory`) only for a put
+    /// that none of them refuses. Nothing has changed then.
     fn put(&mut self, alloc: Global, put: Put) -> Result<u64, Fault>
         ensures puts { Puts moves result (seat self.old) (put_of put) (seat self.new) }
         ensures typed { IfOk result (λ _. accepts (put_of put)) };
 
-    /// Marks the versions below a number as expired, gives the floor behind the mark, and learns of it. It is no look.
+    /// Marks the versions below a number as expired, gives the floor after the mark, and learns of
+    /// it. It is no look.
     ///
     /// # Errors
     ///
-    /// F18 (`Fault::VersionUnknown`) where the log that it meets has fewer puts, and F21 (`Fault::OutOfMemory`) only where it has as
-    /// many. Nothing has changed then.
+    /// F18 (`Fault::VersionUnknown`) where the log that it meets has fewer puts, and F21
+    /// (`Fault::OutOfMemory`) only where it has as many. Nothing has changed then.
     fn expire(&mut self, alloc: Global, version: u64) -> Result<u64, Fault>
         ensures { Expires moves result (seat self.old) version (seat self.new) };
 
@@ -61,14 +64,16 @@ pub trait Backend {
         ensures ok { IfOk result (λ snapshot. LooksOnce (seat self.old) (seat self.new)
             × (snapshot.number ≡ puts_in (seat self.new).log)
             × (tables_of snapshot.catalog ≡ database_of (seat self.new).log)) }
-        ensures err { IfErr result (λ fault. (fault ≡ OutOfMemory) × MayLook (seat self.old) (seat self.new)) };
+        ensures err { IfErr result
+            (λ fault. (fault ≡ OutOfMemory) × MayLook (seat self.old) (seat self.new)) };
 
     /// The version of a number: the one after so many puts. It is one look.
     ///
     /// # Errors
     ///
-    /// F18 (`Fault::VersionUnknown`) where the log that is then seen has fewer puts, F19 (`Fault::VersionExpired`) where the number
-    /// is below its floor, and F21 (`Fault::OutOfMemory`) where memory is refused.
+    /// F18 (`Fault::VersionUnknown`) where the log that is then seen has fewer puts, F19
+    /// (`Fault::VersionExpired`) where the number is below its floor, and F21
+    /// (`Fault::OutOfMemory`) where memory is refused.
     fn at(&mut self, number: u64) -> Result<Snapshot, Fault>
         ensures learns { Learns moves (seat self.old) (seat self.new) }
         ensures asks { AsksNone (seat self.old) (seat self.new) }
@@ -76,15 +81,18 @@ pub trait Backend {
             × (number ≤ puts_in (seat self.new).log) × (snapshot.number ≡ number)
             × (tables_of snapshot.catalog ≡ version (seat self.new).log number)) }
         ensures kept { IfOk result (λ _. floor_of (seat self.new).log ≤ number) }
-        ensures known { result ≡ Err OutOfMemory → knows ≡ true → LooksOnce (seat self.old) (seat self.new)
+        ensures known { result ≡ Err OutOfMemory → knows ≡ true →
+            LooksOnce (seat self.old) (seat self.new)
             × (number ≤ puts_in (seat self.new).log) × (floor_of (seat self.new).log ≤ number) }
-        ensures err { IfErr result (λ fault. ((fault ≡ OutOfMemory) × MayLook (seat self.old) (seat self.new))
+        ensures err { IfErr result
+            (λ fault. ((fault ≡ OutOfMemory) × MayLook (seat self.old) (seat self.new))
             ⊎ (((fault ≡ VersionUnknown) × LooksOnce (seat self.old) (seat self.new)
             × (puts_in (seat self.new).log < number))
             ⊎ ((fault ≡ VersionExpired) × LooksOnce (seat self.old) (seat self.new)
             × (number ≤ puts_in (seat self.new).log) × (number < floor_of (seat self.new).log)))) };
 
-    /// Whether it knows without memory which versions are there. Then `at` is refused memory only for one that is.
+    /// Whether it knows without memory which versions are there. Then `at` is refused memory only
+    /// for one that is.
     fn knows() -> bool
         ensures { result ≡ knows };
 
@@ -97,8 +105,9 @@ pub trait Backend {
     // A seat that stays where it is has moved.
     ghost stays: { (s : Seat) → moves s s.log s.log s };
 
-    // A step behind what changed nothing.
-    ghost follows: { (old middle new : Seat) (log after : Log) → moves old middle.log middle.log middle
+    // A step after what changed nothing.
+    ghost follows: { (old middle new : Seat) (log after : Log)
+        → moves old middle.log middle.log middle
         → moves middle log after new → moves old log after new };
 }
 

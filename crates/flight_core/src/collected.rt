@@ -1,8 +1,10 @@
 //! Answers that are collected whole.
 
-ghost use Rattle.std.specs.Prelude.{◌≡◌, ◌≢◌, ◌++◌, [], false, length, take, None, Some, Result, IfOk, IfErr, OnErr, OnOk};
+ghost use Rattle.std.specs.Prelude.{◌≡◌, ◌≢◌, ◌++◌, [], false, length, take, None, Some, Result};
+ghost use Rattle.std.specs.Prelude.{IfOk, IfErr, OnErr, OnOk};
 ghost use Rattle.scan_base.specs.declared.fault.Fault.{Fault as FaultAt};
-ghost use Rattle.scan_base.specs.declared.fault.Fault.TheVariants.{BadTicket, OutOfMemory, ResultTooLarge};
+ghost use Rattle.scan_base.specs.declared.fault.Fault.TheVariants.{BadTicket, OutOfMemory};
+ghost use Rattle.scan_base.specs.declared.fault.Fault.TheVariants.{ResultTooLarge};
 ghost use Rattle.endpoint_split.specs.Handle.{HandleAt};
 ghost use Rattle.endpoint_split.specs.Seen.{handle_seen};
 ghost use Rattle.table_versions.specs.Database.{Database};
@@ -121,16 +123,18 @@ fn collect_stream<X: Executor>(alloc: Global, executor: &X, opening: Opening) ->
     }
 }
 
-/// The answer to a handle at a version of the catalog: what a [`FetchStream`] of it gives, whose payloads are made as
-/// `execution` says. Each payload is a FlightData, and has at most 16,777,216 bytes.
+/// The answer to a handle at a version of the catalog: what a [`FetchStream`] of it gives, whose
+/// payloads are made as `execution` says. Each payload is a FlightData, and has at most 16,777,216
+/// bytes.
 ///
 /// # Errors
 ///
-/// The reply's fault: F20 (`Fault::ResultTooLarge`) where the answer has more than 67,108,864 rows, after a beginning of
-/// it; else no payload, and F17 (`Fault::BadTicket`) where the query does not parse or is not bound at this version, where
-/// the range is not within the rows of its first place, and where the query makes groups and the range is not all of them,
-/// so never for the list of tables; F21 (`Fault::OutOfMemory`) where memory is refused, but neither for a query of more than
-/// 16,384 bytes nor for a range that ends before it begins.
+/// The reply's fault: F20 (`Fault::ResultTooLarge`) where the answer has more than 67,108,864 rows,
+/// after a beginning of it; else no payload, and F17 (`Fault::BadTicket`) where the query does not
+/// parse or is not bound at this version, where the range is not within the rows of its first
+/// place, and where the query makes groups and the range is not all of them, so never for the list
+/// of tables; F21 (`Fault::OutOfMemory`) where memory is refused, but neither for a query of more
+/// than 16,384 bytes nor for a range that ends before it begins.
 pub fn answer_fetch<X: Executor>(
     alloc: Global,
     snapshot: &Snapshot,
@@ -156,8 +160,8 @@ pub fn answer_fetch<X: Executor>(
 /// F21 (`Fault::OutOfMemory`) where memory is refused for the payload of a floor, and no other.
 pub fn collect<X: Executor>(alloc: Global, executor: &X, answer: Answer) -> Result<Reply, Fault>
     requires short { FitsMessages answer }
-    ensures reply { IfOk result (λ reply. (asked : Result Asked FaultAt) (log new : Log) → AnsweredBy asked log answer new
-        → ReplyTo asked log reply new × IsReplyOf answer reply) }
+    ensures reply { IfOk result (λ reply. (asked : Result Asked FaultAt) (log new : Log)
+        → AnsweredBy asked log answer new → ReplyTo asked log reply new × IsReplyOf answer reply) }
     ensures fits { IfOk result (λ reply. FitMessages reply.payloads) }
     ensures err { IfErr result (λ fault. fault ≡ OutOfMemory) }
 {

@@ -1,4 +1,5 @@
-//! What holds of all payloads, and of all runs. Each function here has an empty body: its contract is a law.
+//! What holds of all payloads, and of all runs. Each function here has an empty body: its contract
+//! is a law.
 
 ghost use Rattle.fetch_stream.specs.Fetches.{HandlesMeanOne};
 ghost use Rattle.flight_core.specs.Headline.{Joined, RunsMeetHeadline};
@@ -14,8 +15,8 @@ pub fn answers_say_one_thing()
     messages_say_one_thing();
 }
 
-/// A put is read of payloads exactly where they say it: the command in the first of them names its table and its
-/// options, and all of them say its schema and its rows.
+/// A put is read of payloads exactly where they say it: the command in the first of them names its
+/// table and its options, and all of them say its schema and its rows.
 pub fn puts_are_said()
     ensures { PutsAreSaid }
 {}
@@ -30,8 +31,8 @@ pub fn handles_mean_one()
     ensures { HandlesMeanOne }
 {}
 
-/// For running threads: the streams of an info's handles, fetched at any seats that learnt of one log that is no
-/// shorter than the info's, are the rows that were wanted, at the info's log.
+/// For running threads: the streams of an info's handles, fetched at any seats that learnt of one
+/// log that is no shorter than the info's, are the rows that were wanted, at the info's log.
 pub fn joined()
     ensures { Joined }
 {}

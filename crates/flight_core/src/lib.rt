@@ -1,7 +1,7 @@
 //! The core: what is asked is answered by one step, over a log of accepted puts.
 //!
-//! `specs/Machine.antt` says what a step and a run are, `specs/Reacts.antt` what a step is over a backend, and
-//! `specs/Puts.antt` what a put's payloads say.
+//! `specs/Machine.antt` says what a step and a run are, `specs/Reacts.antt` what a step is over a
+//! backend, and `specs/Puts.antt` what a put's payloads say.
 #![tactic(auto)]
 
 pub mod answer;

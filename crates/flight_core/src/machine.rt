@@ -53,12 +53,13 @@ fn operation_of(alloc: Global, event: &Event) -> Operation<'_>
     }
 }
 
-/// The reply to one event, by a [`step`] over a backend, with all its payloads. Each has at most 16,777,216 bytes. Those of a fetch
-/// are made by the executor.
+/// The reply to one event, by a [`step`] over a backend, with all its payloads. Each has at most
+/// 16,777,216 bytes. Those of a fetch are made by the executor.
 ///
 /// # Errors
 ///
-/// F21 (`Fault::OutOfMemory`) where memory is refused for the payload of a floor, and no other. The step was made then.
+/// F21 (`Fault::OutOfMemory`) where memory is refused for the payload of a floor, and no other. The
+/// step was made then.
 pub fn reply_to<B: Backend, X: Executor>(
     alloc: Global,
     executor: &X,
@@ -76,24 +77,29 @@ pub fn reply_to<B: Backend, X: Executor>(
     collect(alloc, executor, answer)
 }
 
-/// The replies to a list of events, from the empty log on: one for each. The log that they leave holds accepted puts
-/// alone, and every version of it has tables alone. What is refused changes nothing. If every endpoint of an info was
-/// fetched to its end, the rows that the fetches say, joined in the order of the endpoints, are those that the query
-/// means on the tables as they stood when the info was given. They are these whatever the seed is, with which hashes of
-/// values begin, and whoever makes the payloads of a fetch.
+/// The replies to a list of events, from the empty log on: one for each. The log that they leave
+/// holds accepted puts alone, and every version of it has tables alone. What is refused changes
+/// nothing. If every endpoint of an info was fetched to its end, the rows that the fetches say,
+/// joined in the order of the endpoints, are those that the query means on the tables as they stood
+/// when the info was given. They are these whatever the seed is, with which hashes of values begin,
+/// and whoever makes the payloads of a fetch.
 ///
 /// # Errors
 ///
-/// F21 (`Fault::OutOfMemory`) where memory is refused for the list itself or for the payload of a floor, and no other.
+/// F21 (`Fault::OutOfMemory`) where memory is refused for the list itself or for the payload of a
+/// floor, and no other.
 pub fn run<X: Executor>(
     alloc: Global,
     executor: &X,
     seed: HashSeed,
     events: &[Event],
 ) -> Result<Vec<Reply>, Fault>
-    // Each event got one reply, and the log that they leave holds accepted puts alone. What was refused left nothing.
-    ensures ok { IfOk result (λ replies. (log : Log) × Run [] (map asked_in events.now) replies.items log
-        × IsLog log × HasDatabases (puts_of log) × RefusedLeaveNothing (map asked_in events.now) replies.items log) }
+    // Each event got one reply, and the log that they leave holds accepted puts alone. What was
+    // refused left nothing.
+    ensures ok { IfOk result
+        (λ replies. (log : Log) × Run [] (map asked_in events.now) replies.items log
+        × IsLog log × HasDatabases (puts_of log)
+        × RefusedLeaveNothing (map asked_in events.now) replies.items log) }
 
     // Streams of all endpoints of an info, joined, are the rows that were wanted.
     ensures headline { IfOk result (λ replies. Headline (map asked_in events.now) replies.items) }

@@ -10,11 +10,13 @@ pub enum Operation<'a> {
     Put(Result<Put, Fault>),
     /// GetFlightInfo of a query: a FlightDescriptor, and in how many parts its rows may be fetched.
     Info { payload: &'a [u8], parts: u32 },
-    /// GetFlightInfo of the list of tables: a FlightDescriptor. The list is fetched whole, whatever the parts.
+    /// GetFlightInfo of the list of tables: a FlightDescriptor. The list is fetched whole, whatever
+    /// the parts.
     Tables { payload: &'a [u8], parts: u32 },
     /// GetSchema: a FlightDescriptor.
     Schema { payload: &'a [u8] },
-    /// DoGet: a Ticket, and how many workers may scan for its answer, which is the same for any number.
+    /// DoGet: a Ticket, and how many workers may scan for its answer, which is the same for any
+    /// number.
     Fetch { ticket: &'a [u8], workers: usize },
     /// DoAction: an Action that asks for an expiry of old versions.
     Expire { action: &'a [u8] },

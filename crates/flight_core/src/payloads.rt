@@ -12,7 +12,8 @@ use flight_proto::{put_floor, put_rows_put};
 use std::alloc::{AllocError, Global};
 use table_versions::MAX_ROWS;
 
-/// The payloads that answer an accepted put of so many rows, or of as many as a table may have where they are more.
+/// The payloads that answer an accepted put of so many rows, or of as many as a table may have
+/// where they are more.
 ///
 /// # Errors
 ///

@@ -1,9 +1,11 @@
 //! All versions in a list, without threads.
 
-ghost use Rattle.std.specs.Prelude.{◌≡◌, ◌≢◌, ◌⊎◌, ◌≤◌, ◌<◌, ◌++◌, ◌∷◌, [], IfOk, IfErr, IsOk, Ok, Err};
+ghost use Rattle.std.specs.Prelude.{◌≡◌, ◌≢◌, ◌⊎◌, ◌≤◌, ◌<◌, ◌++◌, ◌∷◌, [], IfOk, IfErr, IsOk, Ok};
+ghost use Rattle.std.specs.Prelude.{Err};
 ghost use Rattle.scan_base.specs.Reading.{RefusesFirst};
 ghost use Rattle.flight_core.specs.Versions.{numbered};
-ghost use Rattle.scan_base.specs.declared.fault.Fault.TheVariants.{OutOfMemory, VersionExpired, VersionUnknown};
+ghost use Rattle.scan_base.specs.declared.fault.Fault.TheVariants.{OutOfMemory, VersionExpired};
+ghost use Rattle.scan_base.specs.declared.fault.Fault.TheVariants.{VersionUnknown};
 ghost use Rattle.version_log.specs.Expiry.{IsExpired};
 ghost use Rattle.version_log.specs.Log.{added, puts_in, floor_of, database_of, version};
 ghost use Rattle.table_versions.specs.Database.{after};
@@ -105,15 +107,17 @@ impl Plain {
     ///
     /// # Errors
     ///
-    /// F18 (`Fault::VersionUnknown`) where fewer puts were accepted, F19 (`Fault::VersionExpired`) where the number is below the
-    /// floor, and no other.
+    /// F18 (`Fault::VersionUnknown`) where fewer puts were accepted, F19 (`Fault::VersionExpired`)
+    /// where the number is below the floor, and no other.
     pub fn at(&self, number: u64) -> Result<&Snapshot, Fault>
         ensures within { IfOk result (λ _. number ≤ puts_in self.now) }
         ensures kept { IfOk result (λ _. floor_of self.now ≤ number) }
         ensures number { IfOk result (λ snapshot. snapshot.now.number ≡ number) }
-        ensures tables { IfOk result (λ snapshot. tables_of snapshot.now.catalog ≡ version self.now number) }
-        ensures err { IfErr result (λ fault. ((fault ≡ VersionUnknown) × (puts_in self.now < number))
-            ⊎ ((fault ≡ VersionExpired) × (number ≤ puts_in self.now) × (number < floor_of self.now))) }
+        ensures tables { IfOk result
+            (λ snapshot. tables_of snapshot.now.catalog ≡ version self.now number) }
+        ensures err { IfErr result
+            (λ fault. ((fault ≡ VersionUnknown) × (puts_in self.now < number)) ⊎ ((fault
+            ≡ VersionExpired) × (number ≤ puts_in self.now) × (number < floor_of self.now))) }
     {
         if number > self.newest() {
             return Err(Fault::VersionUnknown);
@@ -128,15 +132,17 @@ impl Plain {
     ///
     /// # Errors
     ///
-    /// Those of [`apply`], and F21 (`Fault::OutOfMemory`) only for a put that none of them refuses. Nothing has changed
-    /// then.
+    /// Those of [`apply`], and F21 (`Fault::OutOfMemory`) only for a put that none of them refuses.
+    /// Nothing has changed then.
     pub fn put(&mut self, alloc: Global, put: Put) -> Result<(), Fault>
         ensures ok { result ≡ Ok tt → (self.new ≡ self.old ++ added (put_of put) ∷ [])
             × IsOk (after (database_of self.old) (puts_in self.old) (put_of put)) }
         ensures typed { IfOk result (λ _. IsPut (put_of put)) }
         ensures err { IfErr result (λ fault. (self.new ≡ self.old)
-            × (fault ≢ OutOfMemory → after (database_of self.old) (puts_in self.old) (put_of put) ≡ Err fault)) }
-        ensures first { RefusesFirst result (after (database_of self.old) (puts_in self.old) (put_of put)) }
+            × (fault ≢ OutOfMemory →
+            after (database_of self.old) (puts_in self.old) (put_of put) ≡ Err fault)) }
+        ensures first { RefusesFirst result
+            (after (database_of self.old) (puts_in self.old) (put_of put)) }
     {
         let entry = Entry::put(snapshot::Snapshot::of(&put));
         let catalog = apply(alloc, self.current(), put)?;
@@ -148,12 +154,13 @@ impl Plain {
         Ok(())
     }
 
-    /// Marks the versions below a number as expired, drops them, and gives the floor: the greatest number that was so marked.
+    /// Marks the versions below a number as expired, drops them, and gives the floor: the greatest
+    /// number that was so marked.
     ///
     /// # Errors
     ///
-    /// F18 (`Fault::VersionUnknown`) where fewer puts were accepted, and F21 (`Fault::OutOfMemory`) only where as many were. Nothing
-    /// has changed then.
+    /// F18 (`Fault::VersionUnknown`) where fewer puts were accepted, and F21 (`Fault::OutOfMemory`)
+    /// only where as many were. Nothing has changed then.
     pub fn expire(&mut self, version: u64) -> Result<u64, Fault>
         ensures { IsExpired result self.old version self.new }
     {

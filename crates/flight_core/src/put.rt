@@ -1,16 +1,19 @@
 //! Reading the payloads of a put.
 
-ghost use Rattle.std.specs.Prelude.{◌≡◌, ◌++◌, ◌∷◌, [], Ok, Err, None, Some, IfOk, IfErr, OnErr, List, Option};
+ghost use Rattle.std.specs.Prelude.{◌≡◌, ◌++◌, ◌∷◌, [], Ok, Err, None, Some, IfOk, IfErr, OnErr};
+ghost use Rattle.std.specs.Prelude.{List, Option};
 ghost use Rattle.scan_base.specs.declared.fault.Fault.{Fault};
 ghost use Rattle.scan_base.specs.Reading.{Gives, GivesUnlessMemory, RefusesFirst};
 ghost use Rattle.flight_proto.specs.Ingest.{ingest_of};
 ghost use Rattle.arrays.specs.Batch.{BatchAt};
 ghost use Rattle.table_versions.specs.Stored.{put_of};
 ghost use Rattle.flight_info.specs.Payloads.{Payload};
-ghost use Rattle.flight_core.specs.Puts.{news_in_payload, message_glance, first_glance, put_glance, put_said};
+ghost use Rattle.flight_core.specs.Puts.{news_in_payload, message_glance, first_glance, put_glance};
+ghost use Rattle.flight_core.specs.Puts.{put_said};
 ghost use Rattle.flight_core.specs.Refusals.{GivesBehind};
 ghost use Rattle.flight_core.specs.Stored.{MayBeStored, batches_in};
-ghost use Rattle.flight_core.specs.Arriving.{BegunAt, begun_by, after_payload, glance_next, said_next, whole_put, put_from, HasRead};
+ghost use Rattle.flight_core.specs.Arriving.{BegunAt, begun_by, after_payload, glance_next};
+ghost use Rattle.flight_core.specs.Arriving.{said_next, whole_put, put_from, HasRead};
 
 use arrays::Batch;
 use batch_stats::MeasuredBatch;
@@ -111,8 +114,8 @@ impl Begun {
 
     // Reads the next payload.
     fn push(&mut self, alloc: Global, payload: &Bytes) -> Result<(), Fault>
-        ensures { GivesBehind (message_glance self.old.told.state payload.now) (λ _. Some self.new) result
-            (after_payload self.old payload.now) }
+        ensures { GivesBehind (message_glance self.old.told.state payload.now)
+            (λ _. Some self.new) result (after_payload self.old payload.now) }
     {
         if let Some(batch) = read_payload(alloc, &mut self.reader, payload)? {
             self.batches.push(MeasuredBatch::new(alloc, batch)?)?;
@@ -154,9 +157,9 @@ fn whole_put(begun: Option<Begun>) -> Result<Put, Fault>
     ))
 }
 
-/// Reads the payloads of a put one after another. Of those that came it holds no more than the put needs: the
-/// columns of their batches, which are cuts of them, and the statistics of each column. Behind the first fault it holds
-/// nothing.
+/// Reads the payloads of a put one after another. Of those that came it holds no more than the put
+/// needs: the columns of their batches, which are cuts of them, and the statistics of each column.
+/// After the first fault it holds nothing.
 ///
 /// A contract sees what the payloads say so far, or the first fault.
 #[derive(Drop)]
@@ -182,8 +185,8 @@ impl PutReader {
         PutReader { begun: Ok(None) }
     }
 
-    /// Reads the next payload. Its fault is kept, and what comes behind it is not looked at. What a glance at it
-    /// refuses is never told as want of memory.
+    /// Reads the next payload. Its fault is kept, and what comes after it is not looked at. What a
+    /// glance at it refuses is never told as want of memory.
     pub fn push(&mut self, alloc: Global, payload: &Bytes)
         ensures read { (payloads : List Payload) → HasRead payloads self.old
             → HasRead (payloads ++ payload.now ∷ []) self.new }
@@ -203,7 +206,8 @@ impl PutReader {
     ///
     /// # Errors
     ///
-    /// The first fault, as in [`read_put`]: F21 (`Fault::OutOfMemory`) only where it was refused before.
+    /// The first fault, as in [`read_put`]: F21 (`Fault::OutOfMemory`) only where it was refused
+    /// before.
     pub fn into_put(self) -> Result<Put, Fault>
         ensures read { (payloads : List Payload) → HasRead payloads self
             → GivesBehind (put_glance payloads) put_of result (put_said payloads) }
@@ -216,17 +220,18 @@ impl PutReader {
     }
 }
 
-/// The put that the payloads of a call say, each a FlightData. Its columns are cuts of the payloads: no value
-/// is copied.
+/// The put that the payloads of a call say, each a FlightData. Its columns are cuts of the
+/// payloads: no value is copied.
 ///
 /// # Errors
 ///
-/// The first fault in the order of the payloads, and of the first payload its command before its message:
-/// - F5 (`Fault::UnknownCommand`) where there is no payload, and the faults of `flight_proto::read_ingest`
-///   (F4, F5, F12, F16) for the command.
+/// The first fault in the order of the payloads, and of the first payload its command before its
+/// message:
+/// - F5 (`Fault::UnknownCommand`) where there is no payload, and the faults of
+///   `flight_proto::read_ingest` (F4, F5, F12, F16) for the command.
 /// - F4 (`Fault::BadProto`) for a payload that is no FlightData.
-/// - The faults of `ipc_batch::Reader::message` (F6, F7, F8, F12) for a message. A payload with an empty
-///   header has none.
+/// - The faults of `ipc_batch::Reader::message` (F6, F7, F8, F12) for a message. A payload with an
+///   empty header has none.
 /// - F8 (`Fault::BadBatch`) where no schema came.
 /// - F21 (`Fault::OutOfMemory`) where memory is refused, and neither for the command nor for what
 ///   `ipc_batch::Reader::message` looks at first in the message of the first payload.

@@ -1,7 +1,9 @@
 //! One step for each operation, over a backend.
 
-ghost use Rattle.std.specs.Prelude.{◌≡◌, ◌≢◌, ◌≤◌, ◌<◌, ◌+◌, ◌⊎◌, true, All, List, None, Ok, Err, IfOk, IfErr, IsOk};
-ghost use Rattle.scan_base.specs.declared.fault.Fault.TheVariants.{OutOfMemory, VersionExpired, VersionUnknown};
+ghost use Rattle.std.specs.Prelude.{◌≡◌, ◌≢◌, ◌≤◌, ◌<◌, ◌+◌, ◌⊎◌, true, All, List, None, Ok, Err};
+ghost use Rattle.std.specs.Prelude.{IfOk, IfErr, IsOk};
+ghost use Rattle.scan_base.specs.declared.fault.Fault.TheVariants.{OutOfMemory, VersionExpired};
+ghost use Rattle.scan_base.specs.declared.fault.Fault.TheVariants.{VersionUnknown};
 ghost use Rattle.endpoint_split.specs.Seen.{handle_seen};
 ghost use Rattle.table_versions.specs.Stored.{put_of, tables_of};
 ghost use Rattle.flight_info.specs.Infos.{handle_asked, rows_wanted, tables_wanted, schema_wanted};
@@ -31,14 +33,16 @@ use sql_text::MOST_BYTES;
 use std::alloc::Global;
 use table_versions::{Put, Snapshot};
 
-/// Answers an operation by one step over a backend. A put that is accepted stands at the end of the log that it met, and so does
-/// the mark of an expiry; any other operation changes nothing. Infos and schemas ask nobody what others have done, and a fetch
-/// asks once, where its version is none that the seat had seen.
+/// Answers an operation by one step over a backend. A put that is accepted stands at the end of the
+/// log that it met, and so does the mark of an expiry; any other operation changes nothing. Infos
+/// and schemas ask nobody what others have done, and a fetch asks once, where its version is none
+/// that the seat had seen.
 ///
-/// A refusal's fault is that of the put's payloads, or one of those of `Backend::put`; of `answer_info`, `answer_tables` or
-/// `answer_schema`, at the newest version; of `read_ticket`, `Backend::at` and `Opening::new`, in that order; or of
-/// `read_expiry` and `Backend::expire`. What a fetch shows before any memory is taken is never answered by want of it, where the
-/// backend knows its versions without memory.
+/// A refusal's fault is that of the put's payloads, or one of those of `Backend::put`; of
+/// `answer_info`, `answer_tables` or `answer_schema`, at the newest version; of `read_ticket`,
+/// `Backend::at` and `Opening::new`, in that order; or of `read_expiry` and `Backend::expire`. What
+/// a fetch shows before any memory is taken is never answered by want of it, where the backend
+/// knows its versions without memory.
 pub fn step<B: Backend>(alloc: Global, backend: &mut B, operation: Operation<'_>) -> Answer
     // The answer is one that what is asked may get over the backend.
     ensures step { (asked : Asked) → StandsFor operation.entry asked
@@ -49,7 +53,8 @@ pub fn step<B: Backend>(alloc: Global, backend: &mut B, operation: Operation<'_>
         → AsShown (B.seat backend.new).log asked (fault_in result) }
 
     // An accepted put is answered with the number of its version.
-    ensures accepted { (payloads : List Payload) → StandsFor operation.entry (put payloads) → HasVersion result }
+    ensures accepted { (payloads : List Payload) → StandsFor operation.entry (put payloads) →
+        HasVersion result }
 
     // The puts of the seat stay such as are accepted, and each payload fits a Message.
     ensures puts { All B.accepts (puts_of (log_in (B.seat backend.old).made))
@@ -66,7 +71,8 @@ pub fn step<B: Backend>(alloc: Global, backend: &mut B, operation: Operation<'_>
     }
 }
 
-// Answers a put whose payloads were read, or its first fault. The growths of its answer come before the put.
+// Answers a put whose payloads were read, or its first fault. The growths of its answer come before
+// the put.
 fn step_put<B: Backend>(alloc: Global, backend: &mut B, read: Result<Put, Fault>) -> Answer
     ensures step { (payloads : List Payload)
         → GivesBehind (put_glance payloads) put_of read (put_said payloads)
@@ -91,7 +97,8 @@ fn step_put<B: Backend>(alloc: Global, backend: &mut B, read: Result<Put, Fault>
 
 // Answers a GetFlightInfo of a query at the newest version.
 fn step_info<B: Backend>(alloc: Global, backend: &mut B, payload: &[u8], parts: u32) -> Answer
-    ensures step { ReactsBy B.moves (Ok (info payload.now parts)) (B.seat backend.old) result (B.seat backend.new) }
+    ensures step { ReactsBy B.moves (Ok (info payload.now parts)) (B.seat backend.old) result
+        (B.seat backend.new) }
     ensures made { (B.seat backend.new).made ≡ (B.seat backend.old).made }
     ensures fits { FitsMessages result }
 {
@@ -103,7 +110,8 @@ fn step_info<B: Backend>(alloc: Global, backend: &mut B, payload: &[u8], parts: 
 
 // Answers a GetFlightInfo of the list of tables at the newest version.
 fn step_tables<B: Backend>(alloc: Global, backend: &mut B, payload: &[u8], parts: u32) -> Answer
-    ensures step { ReactsBy B.moves (Ok (tables payload.now parts)) (B.seat backend.old) result (B.seat backend.new) }
+    ensures step { ReactsBy B.moves (Ok (tables payload.now parts)) (B.seat backend.old) result
+        (B.seat backend.new) }
     ensures made { (B.seat backend.new).made ≡ (B.seat backend.old).made }
     ensures fits { FitsMessages result }
 {
@@ -115,7 +123,8 @@ fn step_tables<B: Backend>(alloc: Global, backend: &mut B, payload: &[u8], parts
 
 // Answers a GetSchema at the newest version.
 fn step_schema<B: Backend>(alloc: Global, backend: &mut B, payload: &[u8]) -> Answer
-    ensures step { ReactsBy B.moves (Ok (schema payload.now)) (B.seat backend.old) result (B.seat backend.new) }
+    ensures step { ReactsBy B.moves (Ok (schema payload.now)) (B.seat backend.old) result
+        (B.seat backend.new) }
     ensures made { (B.seat backend.new).made ≡ (B.seat backend.old).made }
     ensures fits { FitsMessages result }
 {
@@ -125,7 +134,8 @@ fn step_schema<B: Backend>(alloc: Global, backend: &mut B, payload: &[u8]) -> An
     }
 }
 
-// Why an info is refused where memory was refused for a look: for what is known without it, or for that.
+// Why an info is refused where memory was refused for a look: for what is known without it, or for
+// that.
 fn unread_info(payload: &[u8]) -> Fault
     ensures { RefusedBy (rows_wanted payload.now) result }
 {
@@ -159,20 +169,24 @@ fn unread_schema(payload: &[u8]) -> Fault
     }
 }
 
-// The version of a number. Where the seat has not seen it, it learns what others have put and looks again.
+// The version of a number. Where the seat has not seen it, it learns what others have put and looks
+// again.
 fn version_on<B: Backend>(backend: &mut B, number: u64) -> Result<Snapshot, Fault>
     ensures learns { Learns B.moves (B.seat backend.old) (B.seat backend.new) }
-    ensures looked { result ≢ Err OutOfMemory → (B.seat backend.old).looks < (B.seat backend.new).looks }
+    ensures looked { result ≢ Err OutOfMemory →
+        (B.seat backend.old).looks < (B.seat backend.new).looks }
     ensures asks { result ≢ Err OutOfMemory → puts_in (B.seat backend.new).log < number
         → (B.seat backend.old).asks < (B.seat backend.new).asks }
-    ensures still { number ≤ puts_in (B.seat backend.old).log → AsksNone (B.seat backend.old) (B.seat backend.new) }
+    ensures still { number ≤ puts_in (B.seat backend.old).log →
+        AsksNone (B.seat backend.old) (B.seat backend.new) }
     ensures once { (B.seat backend.new).asks ≤ (B.seat backend.old).asks + 1 }
     ensures ok { IfOk result (λ snapshot. (number ≤ puts_in (B.seat backend.new).log)
         × (tables_of snapshot.catalog ≡ version (B.seat backend.new).log number)) }
     ensures kept { IfOk result (λ _. floor_of (B.seat backend.new).log ≤ number) }
     ensures known { result ≡ Err OutOfMemory → B.knows ≡ true
         → ((B.seat backend.old).looks < (B.seat backend.new).looks)
-        × (number ≤ puts_in (B.seat backend.new).log) × (floor_of (B.seat backend.new).log ≤ number) }
+        × (number ≤ puts_in (B.seat backend.new).log)
+        × (floor_of (B.seat backend.new).log ≤ number) }
     ensures err { IfErr result (λ fault. (fault ≡ OutOfMemory)
         ⊎ (((fault ≡ VersionUnknown) × (puts_in (B.seat backend.new).log < number))
         ⊎ ((fault ≡ VersionExpired) × (number ≤ puts_in (B.seat backend.new).log)
@@ -202,7 +216,8 @@ fn may_mean(handle: &Handle<'_>) -> bool
     }
 }
 
-// Opens what answers a fetch. Where memory is refused for a look at a version that is there, its handle may still mean nothing.
+// Opens what answers a fetch. Where memory is refused for a look at a version that is there, its
+// handle may still mean nothing.
 fn open_on<B: Backend>(
     alloc: Global,
     backend: &mut B,
@@ -212,12 +227,14 @@ fn open_on<B: Backend>(
     ensures learns { Learns B.moves (B.seat backend.old) (B.seat backend.new) }
     ensures looked { IsOk (handle_asked ticket.now) → result ≢ Err OutOfMemory
         → (B.seat backend.old).looks < (B.seat backend.new).looks }
-    ensures asks { result ≢ Err OutOfMemory → IsBeyond (handle_asked ticket.now) (B.seat backend.new).log
+    ensures asks { result ≢ Err OutOfMemory
+        → IsBeyond (handle_asked ticket.now) (B.seat backend.new).log
         → (B.seat backend.old).asks < (B.seat backend.new).asks }
     ensures still { (IsBeyond (handle_asked ticket.now) (B.seat backend.old).log → ⊥)
         → AsksNone (B.seat backend.old) (B.seat backend.new) }
     ensures once { (B.seat backend.new).asks ≤ (B.seat backend.old).asks + 1 }
-    ensures shown { B.knows ≡ true → IfErr result (λ fault. FetchShown (B.seat backend.new).log ticket.now (Some fault)) }
+    ensures shown { B.knows ≡ true →
+        IfErr result (λ fault. FetchShown (B.seat backend.new).log ticket.now (Some fault)) }
     ensures opens { OpensIn (B.seat backend.new).log ticket.now result }
 {
     let handle = read_ticket(ticket)?;
@@ -230,8 +247,10 @@ fn open_on<B: Backend>(
 
 // Answers a fetch.
 fn step_fetch<B: Backend>(alloc: Global, backend: &mut B, ticket: &[u8], workers: usize) -> Answer
-    ensures step { ReactsBy B.moves (Ok (fetch ticket.now workers)) (B.seat backend.old) result (B.seat backend.new) }
-    ensures shown { B.knows ≡ true → FetchShown (B.seat backend.new).log ticket.now (fault_in result) }
+    ensures step { ReactsBy B.moves (Ok (fetch ticket.now workers)) (B.seat backend.old) result
+        (B.seat backend.new) }
+    ensures shown { B.knows ≡ true →
+        FetchShown (B.seat backend.new).log ticket.now (fault_in result) }
     ensures made { (B.seat backend.new).made ≡ (B.seat backend.old).made }
     ensures fits { FitsMessages result }
 {
@@ -243,7 +262,8 @@ fn step_fetch<B: Backend>(alloc: Global, backend: &mut B, ticket: &[u8], workers
 
 // Answers an expiry. Its answer takes no memory.
 fn step_expiry<B: Backend>(alloc: Global, backend: &mut B, action: &[u8]) -> Answer
-    ensures step { ReactsBy B.moves (Ok (expire action.now)) (B.seat backend.old) result (B.seat backend.new) }
+    ensures step { ReactsBy B.moves (Ok (expire action.now)) (B.seat backend.old) result
+        (B.seat backend.new) }
     ensures puts { All B.accepts (puts_of (log_in (B.seat backend.old).made))
         → All B.accepts (puts_of (log_in (B.seat backend.new).made)) }
     ensures fits { FitsMessages result }

@@ -34,7 +34,7 @@ use Rattle.flight_info.specs.Forms.{EndsAt, IsPlainField, IsPlain, IsSchemaForm}
 
 -- ---- tables
 
--- no slot behind those that a table was given is set
+-- no slot after those that a table was given is set
 past_end : (slots : List Given) (bytes : List ℕ) (place : ℕ) → FitsTable slots → Stands (table_part slots).bytes bytes place → EndsAt (table_at bytes place (table_part slots)) (length slots)
 unfolding field_of
 past_end slots bytes place fits stands slot past =

@@ -83,7 +83,7 @@ listed_schema =
       apart = refl;
     }
 
--- ---- texts one behind another
+-- ---- texts one after another
 
 length-offsets : (at : ℕ) (values : List Value) → length (offsets_from at values) ≡ 4 * (length values + 1)
 length-offsets at [] = omega (arith, length-bytes_low_first 0 4 at)

@@ -10,13 +10,14 @@ use Rattle.ipc_batch.specs.Said.{Says}
 abbrev pub EndsAt : TableAt → ℕ → Type 0
 EndsAt table count = (slot : ℕ) → count ≤ slot → field_of table slot ≡ Ok None
 
--- a Field table says no more than name, nullable, type, dictionary and children, and a dictionary no more than its id and
--- the type of its indices
+-- a Field table says no more than name, nullable, type, dictionary and children, and a dictionary
+-- no more than its id and the type of its indices
 abbrev pub IsPlainField : TableAt → Type 0
 IsPlainField field = EndsAt field 6
     × ((dictionary : TableAt) → table_of field 4 ≡ Ok (Some dictionary) → EndsAt dictionary 2)
 
--- a message says no more than version, header and bodyLength, its Schema table no more than endianness and fields
+-- a message says no more than version, header and bodyLength, its Schema table no more than
+-- endianness and fields
 pub record IsPlain (header : List ℕ) : Type 0 where
   pub message : TableAt
   pub root : root_of header ≡ Ok message
@@ -26,7 +27,8 @@ pub record IsPlain (header : List ℕ) : Type 0 where
   pub schema_ends : EndsAt schema 2
   pub vector : VectorAt
   pub listed : vector_wanted schema 1 ≡ Ok vector
-  pub fields : (index : ℕ) (field : TableAt) → index < vector.count → element_of vector index ≡ Ok field → IsPlainField field
+  pub fields : (index : ℕ) (field : TableAt) → index < vector.count →
+      element_of vector index ≡ Ok field → IsPlainField field
 
 -- a message without a body, framed, which says this schema and nothing else
 pub record IsSchemaForm (bytes : List ℕ) (schema : Schema) : Type 0 where

@@ -12,7 +12,8 @@ use Rattle.query_binder.specs.ResultSchema.{result_schema}
 use Rattle.flight_proto.specs.Wanted.{Wanted, rows_of, tables}
 use Rattle.flight_info.specs.Tables.{tables_listed}
 
--- a text asks the sentence that it says of a database: its names and types are bound without a fault
+-- a text asks the sentence that it says of a database: its names and types are bound without a
+-- fault
 pub record Asks (database : Database) (text : List ℕ) (query : Sentence) : Type 0 where
   pub says : Parsed (λ s. s) text (Ok query)
   pub bound : fault_of query database ≡ None
@@ -21,13 +22,14 @@ pub record Asks (database : Database) (text : List ℕ) (query : Sentence) : Typ
 abbrev pub first_rows : Database → Sentence → ℕ
 first_rows database query = length (place_rows database query.first)
 
--- the rows `from` up to, not with, `to` are rows of the first place; a query that is grouped has one range, the whole
+-- the rows `from` up to, not with, `to` are rows of the first place; a query that is grouped has
+-- one range, the whole
 pub record IsRange (database : Database) (query : Sentence) (from to : ℕ) : Type 0 where
   pub ordered : from ≤ to
   pub within : to ≤ first_rows database query
   pub whole : is_grouped query ≡ true → (from ≡ 0) × (to ≡ first_rows database query)
 
--- the rows that a query means over a range of its first place, behind the schema of its result
+-- the rows that a query means over a range of its first place, after the schema of its result
 abbrev pub result_over : Sentence → Database → ℕ → ℕ → Table
 result_over query database from to =
     record { schema = result_schema query database; rows = meaning query database from to }
@@ -50,5 +52,6 @@ Answers database tables answer = answer ≡ tables_listed database
 -- why it has none: the first fault of parsing, else of binding
 abbrev pub Misses : Database → Wanted → Fault → Type 0
 Misses database (rows_of text) fault = Parsed {X = Sentence} (λ s. s) text (Err fault)
-    ⊎ ((query : Sentence) × Parsed (λ s. s) text (Ok query) × (fault_of query database ≡ Some fault))
+    ⊎ ((query : Sentence) × Parsed (λ s. s) text (Ok query)
+    × (fault_of query database ≡ Some fault))
 Misses database tables fault = ⊥

@@ -1,4 +1,5 @@
--- What the payloads of an answer say: each is a FlightData, whose header and body are an Arrow IPC message.
+-- What the payloads of an answer say: each is a FlightData, whose header and body are an Arrow IPC
+-- message.
 use Rattle.std.specs.Prelude.{◌≡◌, ◌≤◌, ℕ, List, length, map, All, Ok}
 use Rattle.scan_base.specs.Limits.{most_message_bytes}
 use Rattle.scan_base.specs.Lists.{each}

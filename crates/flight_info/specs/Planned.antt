@@ -8,8 +8,10 @@ use Rattle.query_binder.specs.Binding.{IsPlanOf}
 use Rattle.typed_plan.specs.Plan.{PlanAt}
 use Rattle.flight_info.specs.Meant.{Asks, first_rows}
 
--- the plan of the query that a text asks, how many rows its first place has, and whether it is grouped
-pub record IsPlanned (database : Database) (text : List ℕ) (plan : PlanAt) (rows : ℕ) (grouped : Bool) : Type 0 where
+-- the plan of the query that a text asks, how many rows its first place has, and whether it is
+-- grouped
+pub record IsPlanned (database : Database) (text : List ℕ) (plan : PlanAt) (rows : ℕ)
+    (grouped : Bool) : Type 0 where
   pub query : Sentence
   pub asks : Asks database text query
   pub of : IsPlanOf query database plan

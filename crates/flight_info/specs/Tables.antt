@@ -27,4 +27,5 @@ table_row name = Null ∷ Null ∷ Text name ∷ Text (codes "TABLE") ∷ []
 
 -- one row for each table, in byte order of the names, as the database has them
 abbrev pub tables_listed : Database → Table
-tables_listed database = record { schema = tables_schema; rows = map (λ entry. table_row entry.0) database }
+tables_listed database =
+    record { schema = tables_schema; rows = map (λ entry. table_row entry.0) database }

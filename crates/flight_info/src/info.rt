@@ -1,6 +1,7 @@
 //! Answering what an info and a schema ask for at a version.
 
-ghost use Rattle.std.specs.Prelude.{◌≡◌, ◌≢◌, ◌≤◌, ◌∷◌, [], length, map, None, Some, Result, Ok, IfOk, IfErr, MatchResult};
+ghost use Rattle.std.specs.Prelude.{◌≡◌, ◌≢◌, ◌≤◌, ◌∷◌, [], length, map, None, Some, Result, Ok};
+ghost use Rattle.std.specs.Prelude.{IfOk, IfErr, MatchResult};
 ghost use Rattle.scan_base.specs.declared.fault.Fault.TheVariants.{OutOfMemory};
 ghost use Rattle.scan_base.specs.Limits.{most_message_bytes};
 ghost use Rattle.scan_base.specs.Reading.{Gives, RefusesFirst};
@@ -12,9 +13,12 @@ ghost use Rattle.flight_proto.specs.Wanted as wants;
 ghost use Rattle.flight_proto.specs.Wanted.{rows_of, tables, wanted_in, wanted_said};
 ghost use Rattle.flight_proto.specs.Wrapped.{wrapped_bytes};
 ghost use Rattle.table_versions.specs.Stored.{tables_of};
-ghost use Rattle.flight_info.specs.inside.Described.{rows_read, tables_read, if_short, ticket_bytes, most_form_bytes, HasForm, Describes};
+ghost use Rattle.flight_info.specs.inside.Described.{rows_read, tables_read, if_short};
+ghost use Rattle.flight_info.specs.inside.Described.{ticket_bytes, most_form_bytes, HasForm};
+ghost use Rattle.flight_info.specs.inside.Described.{Describes};
 ghost use Rattle.flight_info.specs.Forms.{IsSchemaForm};
-ghost use Rattle.flight_info.specs.Infos.{rows_wanted, tables_wanted, schema_wanted, short_enough, ranges_over, InfoAt, SchemaAt};
+ghost use Rattle.flight_info.specs.Infos.{rows_wanted, tables_wanted, schema_wanted, short_enough};
+ghost use Rattle.flight_info.specs.Infos.{ranges_over, InfoAt, SchemaAt};
 ghost use Rattle.flight_info.specs.Meant.{Misses};
 ghost use Rattle.flight_info.specs.Payloads.{FitMessages};
 
@@ -30,7 +34,7 @@ use std::alloc::{AllocError, Global};
 use table_versions::Snapshot;
 use typed_plan::TypedPlan;
 
-// What an info says beside its descriptor: a schema in IPC form, and a Ticket for each endpoint.
+// What an info says next to its descriptor: a schema in IPC form, and a Ticket for each endpoint.
 #[derive(Drop)]
 struct Described {
     form: Vec<u8>,
@@ -88,8 +92,8 @@ fn query_tickets(
     Ok(tickets)
 }
 
-// The ranges of a query's endpoints, where its first place has so many rows: as many as there are parts, but one where the
-// query makes groups.
+// The ranges of a query's endpoints, where its first place has so many rows: as many as there are
+// parts, but one where the query makes groups.
 fn endpoint_ranges(rows: u32, grouped: bool, parts: u32) -> Ranges
     ensures { result ≡ ranges_over grouped rows parts }
 {
@@ -107,8 +111,9 @@ fn describe_query(
     text: &str,
     parts: u32,
 ) -> Result<Described, Fault>
-    ensures described { IfOk result (λ described. Describes (tables_of snapshot.now.catalog) snapshot.now.number parts
-        (rows_of text.now) described.form.items (map (λ ticket. ticket.items) described.tickets.items)) }
+    ensures described { IfOk result (λ described. Describes (tables_of snapshot.now.catalog)
+        snapshot.now.number parts (rows_of text.now) described.form.items
+        (map (λ ticket. ticket.items) described.tickets.items)) }
     ensures missed { IfErr result (λ fault. fault ≢ OutOfMemory →
         Misses (tables_of snapshot.now.catalog) (rows_of text.now) fault) }
     ensures first { RefusesFirst result (short_enough (rows_of text.now)) }
@@ -123,7 +128,8 @@ fn describe_query(
 
 // What the info of the list of tables says: its schema, and one Ticket.
 fn describe_tables(alloc: Global, snapshot: &Snapshot, parts: u32) -> Result<Described, AllocError>
-    ensures { IfOk result (λ described. Describes (tables_of snapshot.now.catalog) snapshot.now.number parts
+    ensures { IfOk result
+        (λ described. Describes (tables_of snapshot.now.catalog) snapshot.now.number parts
         tables described.form.items (map (λ ticket. ticket.items) described.tickets.items)) }
 {
     let form = schema_form(alloc, &tables_schema(alloc)?)?;
@@ -142,8 +148,9 @@ fn describe(
     wanted: Wanted<'_>,
     parts: u32,
 ) -> Result<Described, Fault>
-    ensures described { IfOk result (λ described. Describes (tables_of snapshot.now.catalog) snapshot.now.number parts
-        (wanted_said wanted.entry) described.form.items (map (λ ticket. ticket.items) described.tickets.items)) }
+    ensures described { IfOk result (λ described. Describes (tables_of snapshot.now.catalog)
+        snapshot.now.number parts (wanted_said wanted.entry) described.form.items
+        (map (λ ticket. ticket.items) described.tickets.items)) }
     ensures missed { IfErr result (λ fault. fault ≢ OutOfMemory →
         Misses (tables_of snapshot.now.catalog) (wanted_said wanted.entry) fault) }
     ensures first { RefusesFirst result (short_enough (wanted_said wanted.entry)) }
@@ -254,17 +261,18 @@ fn read_tables(payload: &[u8]) -> Result<Wanted<'_>, Fault>
     }
 }
 
-/// The answer to a GetFlightInfo of a query, at a version of the catalog: one FlightInfo, with the schema of the
-/// query's result, the payload as it came, and a ticket of this version for each part of the rows of the query's
-/// first place: as many as `parts`, but no more than 64, nor than rows, and at least one; of a query that makes groups
-/// there is one, over all rows. The query is parsed and bound once, and no row is read.
+/// The answer to a GetFlightInfo of a query, at a version of the catalog: one FlightInfo, with the
+/// schema of the query's result, the payload as it came, and a ticket of this version for each part
+/// of the rows of the query's first place: as many as `parts`, but no more than 64, nor than rows,
+/// and at least one; of a query that makes groups there is one, over all rows. The query is parsed
+/// and bound once, and no row is read.
 ///
 /// # Errors
 ///
 /// The reply's fault, and then no payload: the faults of `flight_proto::read_wanted`; F5
 /// (`Fault::UnknownCommand`) for the list of tables; then the faults of parsing and binding. F21
-/// (`Fault::OutOfMemory`) where memory is refused, and not in place of those that need none: all of them up to a
-/// query of more than 16,384 bytes.
+/// (`Fault::OutOfMemory`) where memory is refused, and not in place of those that need none: all of
+/// them up to a query of more than 16,384 bytes.
 pub fn answer_info(alloc: Global, snapshot: &Snapshot, payload: &[u8], parts: u32) -> Reply
     ensures info { InfoAt (tables_of snapshot.now.catalog) snapshot.now.number payload.now parts
         (rows_wanted payload.now) result.payloads result.fault }
@@ -273,13 +281,14 @@ pub fn answer_info(alloc: Global, snapshot: &Snapshot, payload: &[u8], parts: u3
     answer_read(alloc, snapshot, payload, read_rows(payload), parts)
 }
 
-/// The answer to a GetFlightInfo of the list of tables, at a version of the catalog: one FlightInfo, with the schema
-/// of the list, the payload as it came, and one ticket of this version.
+/// The answer to a GetFlightInfo of the list of tables, at a version of the catalog: one
+/// FlightInfo, with the schema of the list, the payload as it came, and one ticket of this version.
 ///
 /// # Errors
 ///
-/// The reply's fault, and then no payload: the faults of `flight_proto::read_wanted`; F5 (`Fault::UnknownCommand`)
-/// for a query; F21 (`Fault::OutOfMemory`) where memory is refused, and not in place of those.
+/// The reply's fault, and then no payload: the faults of `flight_proto::read_wanted`; F5
+/// (`Fault::UnknownCommand`) for a query; F21 (`Fault::OutOfMemory`) where memory is refused, and
+/// not in place of those.
 pub fn answer_tables(alloc: Global, snapshot: &Snapshot, payload: &[u8], parts: u32) -> Reply
     ensures info { InfoAt (tables_of snapshot.now.catalog) snapshot.now.number payload.now parts
         (tables_wanted payload.now) result.payloads result.fault }
@@ -288,13 +297,13 @@ pub fn answer_tables(alloc: Global, snapshot: &Snapshot, payload: &[u8], parts: 
     answer_read(alloc, snapshot, payload, read_tables(payload), parts)
 }
 
-/// The answer to a GetFlightInfo at a version of the catalog, of a query or of the list of tables: that of
-/// [`answer_info`] or of [`answer_tables`], by what the payload wants, which is read once.
+/// The answer to a GetFlightInfo at a version of the catalog, of a query or of the list of tables:
+/// that of [`answer_info`] or of [`answer_tables`], by what the payload wants, which is read once.
 ///
 /// # Errors
 ///
-/// The reply's fault, and then no payload: the faults of `flight_proto::read_wanted`; then those of the call that is
-/// due, but for its F5.
+/// The reply's fault, and then no payload: the faults of `flight_proto::read_wanted`; then those of
+/// the call that is due, but for its F5.
 pub fn answer_wanted(alloc: Global, snapshot: &Snapshot, payload: &[u8], parts: u32) -> Reply
     ensures info { InfoAt (tables_of snapshot.now.catalog) snapshot.now.number payload.now parts
         (schema_wanted payload.now) result.payloads result.fault }
@@ -305,7 +314,8 @@ pub fn answer_wanted(alloc: Global, snapshot: &Snapshot, payload: &[u8], parts: 
 
 // The schema of a query's result, in IPC form.
 fn query_form(alloc: Global, snapshot: &Snapshot, text: &str) -> Result<Vec<u8>, Fault>
-    ensures form { IfOk result (λ form. HasForm (tables_of snapshot.now.catalog) (rows_of text.now) form.items) }
+    ensures form { IfOk result
+        (λ form. HasForm (tables_of snapshot.now.catalog) (rows_of text.now) form.items) }
     ensures missed { IfErr result (λ fault. fault ≢ OutOfMemory →
         Misses (tables_of snapshot.now.catalog) (rows_of text.now) fault) }
     ensures first { RefusesFirst result (short_enough (rows_of text.now)) }
@@ -316,7 +326,8 @@ fn query_form(alloc: Global, snapshot: &Snapshot, text: &str) -> Result<Vec<u8>,
 
 // The schema of what is wanted, in IPC form.
 fn wanted_form(alloc: Global, snapshot: &Snapshot, wanted: Wanted<'_>) -> Result<Vec<u8>, Fault>
-    ensures form { IfOk result (λ form. HasForm (tables_of snapshot.now.catalog) (wanted_said wanted.entry) form.items) }
+    ensures form { IfOk result
+        (λ form. HasForm (tables_of snapshot.now.catalog) (wanted_said wanted.entry) form.items) }
     ensures missed { IfErr result (λ fault. fault ≢ OutOfMemory →
         Misses (tables_of snapshot.now.catalog) (wanted_said wanted.entry) fault) }
     ensures first { RefusesFirst result (short_enough (wanted_said wanted.entry)) }
@@ -332,7 +343,8 @@ fn schema_result(alloc: Global, snapshot: &Snapshot, payload: &[u8]) -> Result<V
     ensures schema { MatchResult result
         (λ payloads. SchemaAt (tables_of snapshot.now.catalog) (schema_wanted payload.now)
         payloads.items None)
-        (λ fault. SchemaAt (tables_of snapshot.now.catalog) (schema_wanted payload.now) [] (Some fault)) }
+        (λ fault. SchemaAt (tables_of snapshot.now.catalog) (schema_wanted payload.now) []
+        (Some fault)) }
     ensures fits { IfOk result (λ payloads. FitMessages payloads.items) }
 {
     let wanted = read_wanted(payload)?;
@@ -351,14 +363,14 @@ fn write_schema_result(alloc: Global, form: &[u8]) -> Result<Vec<Bytes>, AllocEr
     only_payload(alloc, result)
 }
 
-/// The answer to a GetSchema at a version of the catalog: one SchemaResult, with the schema of what is wanted in IPC
-/// form.
+/// The answer to a GetSchema at a version of the catalog: one SchemaResult, with the schema of what
+/// is wanted in IPC form.
 ///
 /// # Errors
 ///
-/// The reply's fault, and then no payload: the faults of `flight_proto::read_wanted`; then those of parsing and
-/// binding. F21 (`Fault::OutOfMemory`) where memory is refused, and not in place of those that need none: all of
-/// them up to a query of more than 16,384 bytes.
+/// The reply's fault, and then no payload: the faults of `flight_proto::read_wanted`; then those of
+/// parsing and binding. F21 (`Fault::OutOfMemory`) where memory is refused, and not in place of
+/// those that need none: all of them up to a query of more than 16,384 bytes.
 pub fn answer_schema(alloc: Global, snapshot: &Snapshot, payload: &[u8]) -> Reply
     ensures schema { SchemaAt (tables_of snapshot.now.catalog) (schema_wanted payload.now)
         result.payloads result.fault }

@@ -1,7 +1,7 @@
 //! What is asked for at a version, and the answers to GetFlightInfo and GetSchema.
 //!
-//! `specs/Meant.antt` says what a text asks and means, `specs/Infos.antt` and `specs/Forms.antt` what an info and a schema
-//! answer, and `specs/Payloads.antt` what the payloads of an answer say.
+//! `specs/Meant.antt` says what a text asks and means, `specs/Infos.antt` and `specs/Forms.antt`
+//! what an info and a schema answer, and `specs/Payloads.antt` what the payloads of an answer say.
 #![tactic(auto)]
 
 pub mod info;

@@ -36,7 +36,8 @@ pub fn plan_text(alloc: Global, catalog: &CatalogVersion, text: &str) -> Result<
         (plan_of planned.plan) planned.rows planned.grouped) }
     ensures missed { IfErr result (λ fault. fault ≢ OutOfMemory →
         Misses (tables_of catalog.now) (rows_of text.now) fault) }
-    ensures first { RefusesFirst result (demand (nat_le (length text.now) most_query_bytes) LimitReached) }
+    ensures first { RefusesFirst result
+        (demand (nat_le (length text.now) most_query_bytes) LimitReached) }
     ensures held { IfOk result (λ planned. HoldsFrom catalog.now planned.plan) }
 {
     let query = parse(alloc, text)?;

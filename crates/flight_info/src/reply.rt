@@ -10,7 +10,8 @@ use scan_base::Fault;
 use std::alloc::{AllocError, Global};
 use std::marker::Model;
 
-/// What answers a call: the payloads of the answer's messages, and a fault where its status is not 0.
+/// What answers a call: the payloads of the answer's messages, and a fault where its status is not
+/// 0.
 #[derive(Debug)]
 pub struct Reply {
     pub payloads: Vec<Bytes>,

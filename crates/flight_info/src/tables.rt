@@ -8,7 +8,8 @@ ghost use Rattle.arrays.specs.Batch.{rows_of};
 ghost use Rattle.arrays.specs.Typed.{AreOfTypes};
 ghost use Rattle.table_versions.specs.Stored.{tables_of};
 ghost use Rattle.table_versions.specs.Table.{Name, is_long_text};
-ghost use Rattle.flight_info.specs.inside.Listed.{text_values, HoldTexts, HasValues, nulls_listed, names_listed, types_listed};
+ghost use Rattle.flight_info.specs.inside.Listed.{text_values, HoldTexts, HasValues, nulls_listed};
+ghost use Rattle.flight_info.specs.inside.Listed.{names_listed, types_listed};
 ghost use Rattle.flight_info.specs.Tables.{text_column, tables_schema, tables_listed};
 
 use arrays::{Batch, Column, Slots, Texts};
@@ -45,7 +46,7 @@ pub fn tables_schema(alloc: Global) -> Result<Schema, AllocError>
 // The most bytes of a column's texts: its offsets are numbers of 32 bits with a sign.
 const MOST_BYTES: usize = 0x7fff_ffff;
 
-// Texts that are put one behind another: an offset before each and behind the last, and their bytes.
+// Texts that are put one after another: an offset before each and after the last, and their bytes.
 #[derive(Drop)]
 struct TextBuilder {
     offsets: Vec<u8>,
@@ -65,10 +66,11 @@ impl TextBuilder {
         })
     }
 
-    // Puts a text behind the others. `AllocError` also where no offset could name its end.
+    // Puts a text after the others. `AllocError` also where no offset could name its end.
     fn push(&mut self, text: &str) -> Result<(), AllocError>
-        ensures { (texts : List Name) → HoldTexts self.old.offsets.items self.old.bytes.items texts →
-            OnOk result (HoldTexts self.new.offsets.items self.new.bytes.items (texts ++ text.now ∷ [])) }
+        ensures { (texts : List Name) →
+            HoldTexts self.old.offsets.items self.old.bytes.items texts → OnOk result
+            (HoldTexts self.new.offsets.items self.new.bytes.items (texts ++ text.now ∷ [])) }
     {
         self.bytes.extend_from_slice(text.as_bytes())?;
         let end = self.bytes.len();
@@ -95,8 +97,8 @@ impl TextBuilder {
     }
 }
 
-// A column of a null for each table. Its zeros are the bits of slots none of which is valid, and offsets that cut
-// no byte.
+// A column of a null for each table. Its zeros are the bits of slots none of which is valid, and
+// offsets that cut no byte.
 fn null_column(alloc: Global, catalog: &CatalogVersion) -> Result<Column, AllocError>
     ensures { IfOk result (HasValues (nulls_listed catalog.now)) }
 {
@@ -132,10 +134,12 @@ fn type_column(alloc: Global, catalog: &CatalogVersion) -> Result<Column, AllocE
 
 /// The rows of the list of tables: one for each table, in byte order of the names, and at most 256.
 pub fn tables_batch(alloc: Global, catalog: &CatalogVersion) -> Result<Batch, AllocError>
-    ensures rows { IfOk result (λ batch. rows_of batch ≡ (tables_listed (tables_of catalog.now)).rows) }
+    ensures rows { IfOk result
+        (λ batch. rows_of batch ≡ (tables_listed (tables_of catalog.now)).rows) }
     ensures typed { IfOk result (λ batch. AreOfTypes tables_schema.fields batch.columns) }
     ensures few { IfOk result (λ batch. batch.rows ≤ most_tables) }
-    ensures short { IfOk result (λ batch. list_any (list_any is_long_text) (rows_of batch) ≡ false) }
+    ensures short { IfOk result
+        (λ batch. list_any (list_any is_long_text) (rows_of batch) ≡ false) }
 {
     let rows = catalog.len();
     let catalogs = null_column(alloc, catalog)?;

@@ -106,7 +106,7 @@ parts_refused bytes part later number fault a b h =
 
 -- a part that is over gives way to the next
 module _ (number : ℕ) (entry : Entry) (old new : List ℕ) (h : fields_of old ≡ (fields_of new >>= λ entries. Ok (entry ∷ entries))) where
-  -- what is left behind a part that is over, where the next field holds this
+  -- what is left after a part that is over, where the next field holds this
   passed : (found : Option (List ℕ)) → held chunk_of number entry ≡ found → fields_left [] old number ≡ fields_left (unwrap_or found []) new number
   unfolding fields_left fields_of_parts
   passed found e = rw (h, no_fields) (by found e (fields_of new) refl)

@@ -18,7 +18,7 @@ body_field body = by (length body == 0) refl
     by true e = rw e (sym (unset_chunk body (ap not e)))
     by false e = rw e (append-nil _ ∙ chunks_follow_heads 1000 body)
 
--- the fields of a header and of a body, one behind the other
+-- the fields of a header and of a body, one after the other
 both_fields : (header body : List ℕ) → spelled (set_fields (chunk_entry 2 header ∷ chunk_entry 1000 body ∷ []))
     ≡ spelled (set_fields (chunk_entry 2 header ∷ [])) ++ spelled (set_fields (chunk_entry 1000 body ∷ []))
 both_fields header body =

@@ -1,4 +1,4 @@
--- Two lists of fields, one behind the other, are one list of fields.
+-- Two lists of fields, one after the other, are one list of fields.
 use Rattle.std.proofs.Common.{◌≡◌, ℕ, List, [], ◌∷◌, ◌++◌, length, Result, Ok, Err, refl, sym, ap, ◌∙◌, append_assoc, arith}
 use Rattle.std.specs.Prelude.{flat_map}
 use Rattle.scan_base.specs.declared.fault.Fault.{Fault}

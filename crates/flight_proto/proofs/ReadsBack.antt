@@ -389,7 +389,7 @@ module _ (statement : StatementSaid) (h : IsStatement statement) where
         ),
       )
 
-  -- what the fields behind the options say, with any that stand in front of them
+  -- what the fields after the options say, with any that stand in front of them
   record Behind (fields : List Entry) : Type 0 where
     table : last_text 2 fields ≡ Ok statement.table
     schema : last_text 3 fields ≡ Ok statement.schema

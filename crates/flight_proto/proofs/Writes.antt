@@ -66,6 +66,6 @@ info_pieces schema descriptor tickets =
     same [] = refl
     same (ticket ∷ tickets) = ap (λ (rest : List Entry). endpoint_field ticket ∷ rest) (same tickets)
 
--- four pieces, one behind the other
+-- four pieces, one after the other
 pub four_pieces : (start p q r s a b c d : List ℕ) → a ≡ start ++ p → b ≡ a ++ q → c ≡ b ++ r → d ≡ c ++ s → d ≡ start ++ (p ++ (q ++ (r ++ s)))
 four_pieces start p q r s a b c d ea eb ec ed = rw (ed, ec, eb, ea) (simp append_assoc)

@@ -22,7 +22,8 @@ action_of bytes = do
 
 -- the bytes of an action
 abbrev pub action_bytes : ActionSaid → List ℕ
-action_bytes action = spelled (set_fields (chunk_entry 1 action.action_type ∷ chunk_entry 2 action.body ∷ []))
+action_bytes action =
+    spelled (set_fields (chunk_entry 1 action.action_type ∷ chunk_entry 2 action.body ∷ []))
 
 -- what the code holds
 abbrev pub action_said : Action → ActionSaid

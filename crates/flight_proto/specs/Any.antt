@@ -1,5 +1,6 @@
--- google.protobuf.Any: a message of any type, beside the name of its type.
-use Rattle.std.specs.Prelude.{ℕ, ◌==◌, List, [], ◌∷◌, ◌++◌, Option, Some, None, Result, Ok, codes, if◌then◌else◌}
+-- google.protobuf.Any: a message of any type, next to the name of its type.
+use Rattle.std.specs.Prelude.{ℕ, ◌==◌, List, [], ◌∷◌, ◌++◌, Option, Some, None, Result, Ok, codes}
+use Rattle.std.specs.Prelude.{if◌then◌else◌}
 use Rattle.std.specs.Option.{option_or}
 use Rattle.scan_base.specs.declared.fault.Fault.{Fault}
 use Rattle.scan_base.specs.Reading.{◌>>=◌}
@@ -33,7 +34,8 @@ any_fields any = set_fields (chunk_entry 1 any.type_url ∷ chunk_entry 2 any.va
 abbrev pub any_bytes : AnySaid → List ℕ
 any_bytes any = spelled (any_fields any)
 
--- the full name of the message's type: what follows the last slash (47) of the URL, where it has one
+-- the full name of the message's type: what follows the last slash (47) of the URL, where it has
+-- one
 abbrev pub message_name : List ℕ → Option (List ℕ)
 message_name [] = None
 message_name (b ∷ rest) = option_or (message_name rest) (if b == 47 then Some rest else None)

@@ -13,8 +13,8 @@ pub record CommandSaid : Type 0 where
   pub name : List ℕ
   pub value : List ℕ
 
--- the command of a descriptor, or the first fault: it is there, of type CMD, within the limit, reads
--- as an Any, and has a name
+-- the command of a descriptor, or the first fault: it is there, of type CMD, within the limit,
+-- reads as an Any, and has a name
 unfoldable pub command_of : Option DescriptorSaid → Result CommandSaid Fault
 command_of None = Err UnknownCommand
 command_of (Some descriptor) = do

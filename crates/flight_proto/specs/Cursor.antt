@@ -1,5 +1,6 @@
 -- Inside: the fields of a message that are left, and how one after the other is read.
-use Rattle.std.specs.Prelude.{◌≡◌, ℕ, List, [], ◌∷◌, ◌++◌, Option, Some, None, Result, Ok, Err, IsOk}
+use Rattle.std.specs.Prelude.{◌≡◌, ℕ, List, [], ◌∷◌, ◌++◌, Option, Some, None, Result, Ok, Err}
+use Rattle.std.specs.Prelude.{IsOk}
 use Rattle.scan_base.specs.declared.fault.Fault.{Fault}
 use Rattle.scan_base.specs.Reading.{◌>>=◌}
 use Rattle.proto_wire.specs.declared.field.Field.{Field}
@@ -9,7 +10,8 @@ use Rattle.proto_wire.specs.Calls.{entry_of}
 use Rattle.flight_proto.specs.Lookup.{parts_in}
 use Rattle.flight_proto.specs.declared.message.Cursor.{Cursor}
 
--- the fields of a part, and then those of the message of this number that is embedded in what comes later
+-- the fields of a part, and then those of the message of this number that is embedded in what comes
+-- later
 unfoldable pub fields_left : List ℕ → List ℕ → ℕ → Result (List Entry) Fault
 fields_left part later number = do
   first ← fields_of part
@@ -27,7 +29,8 @@ abbrev pub left_of : Cursor → Result (List Entry) Fault
 left_of cursor = fields_left cursor.part cursor.later cursor.number
 
 -- one field is read of those that are left
-abbrev pub LeftOn : Result (Option Field) Fault → Result (List Entry) Fault → Result (List Entry) Fault → Type 0
+abbrev pub LeftOn : Result (Option Field) Fault → Result (List Entry) Fault →
+    Result (List Entry) Fault → Type 0
 LeftOn (Ok (Some field)) old new = old ≡ (new >>= λ fields. Ok (entry_of field ∷ fields))
 LeftOn (Ok None) old new = old ≡ Ok []
 LeftOn (Err fault) old new = old ≡ Err fault

@@ -25,7 +25,8 @@ expiry_of message = do
 
 -- the action that expires the versions below a number
 abbrev pub expiry_bytes : ℕ → List ℕ
-expiry_bytes version = action_bytes (record { action_type = expire_name; body = big_bytes 8 version })
+expiry_bytes version =
+    action_bytes (record { action_type = expire_name; body = big_bytes 8 version })
 
 -- the floor that a Result says
 abbrev pub floor_said : List ℕ → Result ℕ Fault

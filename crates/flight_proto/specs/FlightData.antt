@@ -1,6 +1,7 @@
--- arrow.flight.protocol.FlightData: one message of a stream. The first one also has the descriptor of
--- the stream. It is read apart, since a descriptor behind the first message is not read at all.
-use Rattle.std.specs.Prelude.{ℕ, ◌==◌, List, [], ◌∷◌, ◌++◌, Option, Result, Ok, option_map, if◌then◌else◌}
+-- arrow.flight.protocol.FlightData: one message of a stream. The first one also has the descriptor
+-- of the stream. It is read apart, since a descriptor after the first message is not read at all.
+use Rattle.std.specs.Prelude.{ℕ, ◌==◌, List, [], ◌∷◌, ◌++◌, Option, Result, Ok, option_map}
+use Rattle.std.specs.Prelude.{if◌then◌else◌}
 use Rattle.scan_base.specs.declared.fault.Fault.{Fault}
 use Rattle.scan_base.specs.Reading.{◌>>=◌}
 use Rattle.proto_wire.specs.Standard.{Entry}
@@ -9,7 +10,8 @@ use Rattle.proto_wire.specs.Writing.{chunk_head}
 use Rattle.proto_wire.specs.Calls.{chunk_entry}
 use Rattle.flight_proto.specs.Lookup.{last_bytes, embedded_within}
 use Rattle.flight_proto.specs.Message.{set_fields, embedded_field, spelled}
-use Rattle.flight_proto.specs.FlightDescriptor.{DescriptorSaid, descriptor_in, descriptor_bytes, descriptor_said}
+use Rattle.flight_proto.specs.FlightDescriptor.{DescriptorSaid, descriptor_in, descriptor_bytes}
+use Rattle.flight_proto.specs.FlightDescriptor.{descriptor_said}
 use Rattle.flight_proto.specs.declared.flight_data.FlightData.{FlightData}
 use Rattle.flight_proto.specs.declared.flight_data.BorrowedData.{BorrowedData}
 use Rattle.flight_proto.specs.declared.flight_data.StreamDescriptor.{StreamDescriptor}
@@ -60,4 +62,5 @@ abbrev pub data_said : FlightData → DataSaid
 data_said carried = record { data_header = carried.data_header; data_body = carried.data_body }
 
 abbrev pub borrowed_said : BorrowedData → DataSaid
-borrowed_said carried = record { data_header = carried.data_header.now; data_body = carried.data_body.now }
+borrowed_said carried =
+    record { data_header = carried.data_header.now; data_body = carried.data_body.now }

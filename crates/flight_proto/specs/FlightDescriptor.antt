@@ -14,8 +14,8 @@ pub record DescriptorSaid : Type 0 where
   pub descriptor_type : ℕ
   pub cmd : List ℕ
 
--- a descriptor by its fields: DescriptorType type = 1, bytes cmd = 2, repeated string path = 3, of which no text
--- is kept
+-- a descriptor by its fields: DescriptorType type = 1, bytes cmd = 2, repeated string path = 3, of
+-- which no text is kept
 abbrev pub descriptor_in : List Entry → Result DescriptorSaid Fault
 descriptor_in fields = do
   _ ← last_text 3 fields

@@ -7,7 +7,8 @@ use Rattle.scan_base.specs.Reading.{◌>>=◌}
 use Rattle.proto_wire.specs.Standard.{Entry}
 use Rattle.proto_wire.specs.Reading.{fields_of}
 use Rattle.proto_wire.specs.Calls.{varint_entry, chunk_entry}
-use Rattle.flight_proto.specs.Lookup.{chunks, last_bytes, last_text, last_varint, is_present, joined, parts_in}
+use Rattle.flight_proto.specs.Lookup.{chunks, last_bytes, last_text, last_varint, is_present}
+use Rattle.flight_proto.specs.Lookup.{joined, parts_in}
 use Rattle.flight_proto.specs.Message.{bool_of, bool_number, int64_of, set_fields, spelled}
 use Rattle.flight_proto.specs.FlightDescriptor.{descriptor_in}
 use Rattle.flight_proto.specs.declared.flight_info.FlightEndpoint.{FlightEndpoint}
@@ -22,7 +23,8 @@ location_of bytes = fields_of bytes >>= last_text 1
 -- ---- FlightEndpoint: Ticket ticket = 1, repeated Location location = 2,
 -- ---- Timestamp expiration_time = 3
 
--- the bytes of the Ticket message, which a fetch takes as its one message, and whether a location is named
+-- the bytes of the Ticket message, which a fetch takes as its one message, and whether a location
+-- is named
 pub record EndpointSaid : Type 0 where
   pub ticket : List ℕ
   pub has_location : Bool
@@ -49,11 +51,12 @@ endpoint_bytes ticket = spelled (chunk_entry 1 ticket ∷ [])
 abbrev pub endpoint_field : List ℕ → Entry
 endpoint_field ticket = chunk_entry 3 (endpoint_bytes ticket)
 
--- ---- FlightInfo: bytes schema = 1, FlightDescriptor flight_descriptor = 2, repeated FlightEndpoint endpoint = 3,
--- ---- int64 total_records = 4, int64 total_bytes = 5, bool ordered = 6
+-- ---- FlightInfo: bytes schema = 1, FlightDescriptor flight_descriptor = 2, repeated
+-- ---- FlightEndpoint endpoint = 3, int64 total_records = 4, int64 total_bytes = 5, bool ordered =
+-- ---- 6
 
--- the schema in IPC form, the bytes of the descriptor, the endpoints, how many rows and bytes (-1: not known), and
--- whether the rows stand in the order of the endpoints
+-- the schema in IPC form, the bytes of the descriptor, the endpoints, how many rows and bytes (-1:
+-- not known), and whether the rows stand in the order of the endpoints
 pub record InfoSaid : Type 0 where
   pub schema : List ℕ
   pub descriptor : List ℕ
@@ -78,7 +81,7 @@ info_of bytes = do
     ordered = bool_of (last_varint 6 fields);
   })
 
--- the fields behind the endpoints
+-- the fields after the endpoints
 abbrev pub totals : ℤ → ℤ → Bool → List Entry
 totals total_records total_bytes ordered =
     set_fields (varint_entry 4 (cast_unsigned w64 total_records)
@@ -98,7 +101,8 @@ info_fields info =
 unfoldable pub info_bytes : InfoSaid → List ℕ
 info_bytes info = spelled (info_fields info)
 
--- the info of these tickets in their order, each without a location; how many rows they give is not known
+-- the info of these tickets in their order, each without a location; how many rows they give is not
+-- known
 abbrev pub info_with : List ℕ → List ℕ → List (List ℕ) → InfoSaid
 info_with schema descriptor tickets = record {
   schema = schema;
@@ -113,7 +117,8 @@ info_with schema descriptor tickets = record {
 
 -- an endpoint
 abbrev pub endpoint_said : FlightEndpoint → EndpointSaid
-endpoint_said endpoint = record { ticket = endpoint.ticket.items; has_location = endpoint.has_location }
+endpoint_said endpoint =
+    record { ticket = endpoint.ticket.items; has_location = endpoint.has_location }
 
 -- an info
 abbrev pub info_said : FlightInfo → InfoSaid

@@ -1,5 +1,6 @@
 -- The ingest that the first message of a put asks for, as far as it is supported.
-use Rattle.std.specs.Prelude.{ℕ, ◌==◌, ◌&&◌, Bool, not, List, [], ◌∷◌, length, slice_get, Result, Ok, unwrap_or, codes, bytes_eq}
+use Rattle.std.specs.Prelude.{ℕ, ◌==◌, ◌&&◌, Bool, not, List, [], ◌∷◌, length, slice_get, Result}
+use Rattle.std.specs.Prelude.{Ok, unwrap_or, codes, bytes_eq}
 use Rattle.scan_base.specs.declared.fault.Fault.{Fault}
 use Rattle.scan_base.specs.declared.fault.Fault.TheVariants.{BadProto, UnknownCommand, NotInSubset}
 use Rattle.scan_base.specs.Reading.{◌>>=◌, demand, wanted}
@@ -9,16 +10,19 @@ use Rattle.flight_proto.specs.Command.{command_of}
 use Rattle.scan_base.specs.declared.put_options.IfNotExist.{IfNotExist}
 use Rattle.scan_base.specs.declared.put_options.IfNotExist.TheVariants as absent
 use Rattle.scan_base.specs.declared.put_options.IfExists.{IfExists}
-use Rattle.scan_base.specs.declared.put_options.IfExists.TheVariants.{Unspecified, Fail, Append, Replace}
+use Rattle.scan_base.specs.declared.put_options.IfExists.TheVariants.{Unspecified, Fail, Append}
+use Rattle.scan_base.specs.declared.put_options.IfExists.TheVariants.{Replace}
 use Rattle.flight_proto.specs.declared.ingest.Ingest.{Ingest}
 
 -- what to do where the table is absent, by its number
 abbrev pub if_not_exist_of : ℕ → Result IfNotExist Fault
-if_not_exist_of number = wanted (slice_get (absent.Unspecified ∷ absent.Create ∷ absent.Fail ∷ []) number) BadProto
+if_not_exist_of number =
+    wanted (slice_get (absent.Unspecified ∷ absent.Create ∷ absent.Fail ∷ []) number) BadProto
 
 -- what to do where the table is there, by its number
 abbrev pub if_exists_of : ℕ → Result IfExists Fault
-if_exists_of number = wanted (slice_get (Unspecified ∷ Fail ∷ Append ∷ Replace ∷ []) number) BadProto
+if_exists_of number =
+    wanted (slice_get (Unspecified ∷ Fail ∷ Append ∷ Replace ∷ []) number) BadProto
 
 -- what is left out is at its default
 abbrev pub is_in_subset : StatementSaid → Bool
@@ -34,7 +38,8 @@ pub record IngestSaid : Type 0 where
 
 -- absent options are as empty ones
 abbrev pub options_said_in : StatementSaid → OptionsSaid
-options_said_in statement = unwrap_or statement.table_definition_options (record { if_not_exist = 0; if_exists = 0 })
+options_said_in statement =
+    unwrap_or statement.table_definition_options (record { if_not_exist = 0; if_exists = 0 })
 
 -- the ingest of a command, or the first fault
 unfoldable pub ingest_in : List ℕ → Result IngestSaid Fault

@@ -1,5 +1,7 @@
 -- What holds of all messages.
-use Rattle.std.specs.Prelude.{◌≡◌, ◌≢◌, ◌↔◌, ◌<◌, ◌≤◌, ◌^◌, ◌++◌, ◌∷◌, ℕ, ℤ, false, List, length, slice_index, flat_map, All, Option, None, Some, Result, Ok, IsUtf8, FitsSigned, IfSome}
+use Rattle.std.specs.Prelude.{◌≡◌, ◌≢◌, ◌↔◌, ◌<◌, ◌≤◌, ◌^◌, ◌++◌, ◌∷◌, ℕ, ℤ, false, List, length}
+use Rattle.std.specs.Prelude.{slice_index, flat_map, All, Option, None, Some, Result, Ok, IsUtf8}
+use Rattle.std.specs.Prelude.{FitsSigned, IfSome}
 use Rattle.std.specs.Int.{w64}
 use Rattle.scan_base.specs.declared.fault.Fault.{Fault}
 use Rattle.scan_base.specs.Limits.{most_query_bytes}
@@ -10,7 +12,8 @@ use Rattle.flight_proto.specs.Lookup.{fields_of_parts}
 use Rattle.flight_proto.specs.Message.{spelled}
 use Rattle.flight_proto.specs.Any.{AnySaid, message_name}
 use Rattle.flight_proto.specs.FlightDescriptor.{DescriptorSaid, descriptor_of}
-use Rattle.flight_proto.specs.FlightData.{DataSaid, data_of, stream_descriptor_of, data_bytes, data_head}
+use Rattle.flight_proto.specs.FlightData.{DataSaid, data_of, stream_descriptor_of, data_bytes}
+use Rattle.flight_proto.specs.FlightData.{data_head}
 use Rattle.flight_proto.specs.StatementIngest.{OptionsSaid, StatementSaid}
 use Rattle.flight_proto.specs.FlightInfo.{EndpointSaid, InfoSaid}
 use Rattle.flight_proto.specs.Wanted.{QuerySaid, TablesSaid, Wanted, rows_of, tables}
@@ -34,7 +37,7 @@ slash = 47
 abbrev pub LacksSlash : List ℕ → Type 0
 LacksSlash text = (i : ℕ) → i < length text → slice_index text i ≢ slash
 
--- it stands behind a slash of the URL, and no slash stands in it
+-- it stands after a slash of the URL, and no slash stands in it
 abbrev pub NameIsLastPart : Type 0
 NameIsLastPart =
     (url name : List ℕ)
@@ -45,11 +48,14 @@ NameIsLastPart =
 
 -- the fields that are written are those that are read
 abbrev pub FieldsReadBack : Type 0
-FieldsReadBack = (fields : List Entry) → All IsWritable fields → fields_of (spelled fields) ≡ Ok fields
+FieldsReadBack =
+    (fields : List Entry) → All IsWritable fields → fields_of (spelled fields) ≡ Ok fields
 
 -- a message that is within its range reads from its bytes as it was
-abbrev pub ReadsBack : {A : Type 0} → (A → Type 0) → (List ℕ → Result A Fault) → (A → List ℕ) → Type 0
-ReadsBack {A} IsSound message_of bytes_of = (message : A) → IsSound message → message_of (bytes_of message) ≡ Ok message
+abbrev pub ReadsBack : {A : Type 0} → (A → Type 0) → (List ℕ → Result A Fault) →
+    (A → List ℕ) → Type 0
+ReadsBack {A} IsSound message_of bytes_of =
+    (message : A) → IsSound message → message_of (bytes_of message) ≡ Ok message
 
 -- bytes that memory has room for
 abbrev pub FitsMemory : List ℕ → Type 0
@@ -128,4 +134,5 @@ DataReadsBack =
 abbrev pub BodiesFollowHeads : Type 0
 BodiesFollowHeads =
     (carried : DataSaid)
-    → data_bytes None carried ≡ data_head carried.data_header (length carried.data_body) ++ carried.data_body
+    → data_bytes None carried
+    ≡ data_head carried.data_header (length carried.data_body) ++ carried.data_body

@@ -1,6 +1,7 @@
--- What a message says is looked up in the list of its fields, by their numbers. A field of an unknown number is
--- passed over, and so is one of a known number and another wire type.
-use Rattle.std.specs.Prelude.{ℕ, ◌==◌, Bool, is_some, List, [], ◌∷◌, ◌++◌, flat_map, filter_map, Option, Some, None, Result, Ok, unwrap_or, if◌then◌else◌}
+-- What a message says is looked up in the list of its fields, by their numbers. A field of an
+-- unknown number is passed over, and so is one of a known number and another wire type.
+use Rattle.std.specs.Prelude.{ℕ, ◌==◌, Bool, is_some, List, [], ◌∷◌, ◌++◌, flat_map, filter_map}
+use Rattle.std.specs.Prelude.{Option, Some, None, Result, Ok, unwrap_or, if◌then◌else◌}
 use Rattle.std.specs.List.{list_all, last_or}
 use Rattle.std.specs.Str.{is_utf8}
 use Rattle.scan_base.specs.declared.fault.Fault.{Fault}
@@ -61,7 +62,8 @@ bytes_within number bytes = fields_of bytes >>= λ fields. Ok (last_bytes number
 
 -- a string: at its default it is empty
 abbrev pub last_text : ℕ → List Entry → Result (List ℕ) Fault
-last_text number fields = demand (are_texts number fields) BadProto >>= λ _. Ok (last_bytes number fields)
+last_text number fields =
+    demand (are_texts number fields) BadProto >>= λ _. Ok (last_bytes number fields)
 
 -- ---- embedded messages: those that come again are merged
 
@@ -69,7 +71,8 @@ last_text number fields = demand (are_texts number fields) BadProto >>= λ _. Ok
 abbrev pub joined : ℕ → List Entry → List ℕ
 joined number fields = flat_map (λ chunk. chunk) (chunks number fields)
 
--- the fields of an embedded message: those of its parts in their order, each of which reads by itself
+-- the fields of an embedded message: those of its parts in their order, each of which reads by
+-- itself
 unfoldable pub fields_of_parts : List (List ℕ) → Result (List Entry) Fault
 fields_of_parts [] = Ok []
 fields_of_parts (part ∷ parts) = do
@@ -86,11 +89,14 @@ abbrev pub parts_within : ℕ → List ℕ → Result (List Entry) Fault
 parts_within number bytes = fields_of bytes >>= parts_in number
 
 -- an embedded message by its fields, where it is there
-abbrev pub embedded : {A : Type 0} → (List Entry → Result A Fault) → ℕ → List Entry → Result (Option A) Fault
+abbrev pub embedded : {A : Type 0} → (List Entry → Result A Fault) → ℕ → List Entry →
+    Result (Option A) Fault
 embedded said number fields =
-    if is_present number fields then (parts_in number fields >>= said >>= λ message. Ok (Some message))
+    if is_present number fields
+    then (parts_in number fields >>= said >>= λ message. Ok (Some message))
     else Ok None
 
 -- the same in these bytes
-abbrev pub embedded_within : {A : Type 0} → (List Entry → Result A Fault) → ℕ → List ℕ → Result (Option A) Fault
+abbrev pub embedded_within : {A : Type 0} → (List Entry → Result A Fault) → ℕ → List ℕ →
+    Result (Option A) Fault
 embedded_within said number bytes = fields_of bytes >>= embedded said number

@@ -10,7 +10,8 @@ use Rattle.flight_proto.specs.declared.written.Part.TheVariants.{Scalar, Embedde
 abbrev pub entries_of : List Part → List Entry
 entries_of [] = []
 entries_of (Scalar field ∷ parts) =
-    if is_set (content_of field.payload) then entry_of field ∷ entries_of parts else entries_of parts
+    if is_set (content_of field.payload) then entry_of field ∷ entries_of parts
+    else entries_of parts
 entries_of (Embedded number None ∷ parts) = entries_of parts
 entries_of (Embedded number (Some bytes) ∷ parts) = chunk_entry number bytes.now ∷ entries_of parts
 

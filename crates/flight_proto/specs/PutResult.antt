@@ -20,7 +20,8 @@ rows_put_of bytes = wrapped_of bytes >>= update_of
 
 -- the DoPutUpdateResult of a count
 abbrev pub update_bytes : ℤ → List ℕ
-update_bytes record_count = spelled (set_fields (varint_entry 1 (cast_unsigned w64 record_count) ∷ []))
+update_bytes record_count =
+    spelled (set_fields (varint_entry 1 (cast_unsigned w64 record_count) ∷ []))
 
 -- the PutResult that says how many rows were put
 abbrev pub rows_put_bytes : ℤ → List ℕ

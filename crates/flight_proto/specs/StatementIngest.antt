@@ -6,9 +6,14 @@ use Rattle.proto_wire.specs.Standard.{Entry}
 use Rattle.proto_wire.specs.Reading.{fields_of}
 use Rattle.proto_wire.specs.Calls.{varint_entry, chunk_entry}
 use Rattle.flight_proto.specs.Lookup.{last_bytes, last_text, last_varint, embedded}
-use Rattle.flight_proto.specs.Message.{enum_of, bool_of, bool_number, set_fields, embedded_field, spelled}
-use Rattle.flight_proto.specs.declared.statement_ingest.TableDefinitionOptions.{TableDefinitionOptions}
-use Rattle.flight_proto.specs.declared.statement_ingest.CommandStatementIngest.{CommandStatementIngest}
+use Rattle.flight_proto.specs.Message.{enum_of, bool_of, bool_number, set_fields, embedded_field}
+use Rattle.flight_proto.specs.Message.{spelled}
+use Rattle.flight_proto.specs.declared.statement_ingest.TableDefinitionOptions.{
+  TableDefinitionOptions,
+}
+use Rattle.flight_proto.specs.declared.statement_ingest.CommandStatementIngest.{
+  CommandStatementIngest,
+}
 
 -- ---- TableDefinitionOptions: what to do where the table is absent, and where it is there
 
@@ -20,7 +25,10 @@ pub record OptionsSaid : Type 0 where
 -- options by their fields: TableNotExistOption if_not_exist = 1, TableExistsOption if_exists = 2
 abbrev pub options_in : List Entry → Result OptionsSaid Fault
 options_in fields =
-    Ok (record { if_not_exist = enum_of (last_varint 1 fields); if_exists = enum_of (last_varint 2 fields) })
+    Ok (record {
+      if_not_exist = enum_of (last_varint 1 fields);
+      if_exists = enum_of (last_varint 2 fields);
+    })
 
 -- the options that the bytes are
 abbrev pub options_of : List ℕ → Result OptionsSaid Fault
@@ -40,8 +48,8 @@ abbrev pub options_said : TableDefinitionOptions → OptionsSaid
 options_said options =
     record { if_not_exist = options.if_not_exist; if_exists = options.if_exists }
 
--- ---- CommandStatementIngest, without the map `options` (1000), which is not read. An optional field
--- ---- that is absent is as one that is empty.
+-- ---- CommandStatementIngest, without the map `options` (1000), which is not read. An optional
+-- ---- field that is absent is as one that is empty.
 
 -- what a CommandStatementIngest says
 pub record StatementSaid : Type 0 where
@@ -74,7 +82,7 @@ statement_in fields = do
 abbrev pub statement_of : List ℕ → Result StatementSaid Fault
 statement_of bytes = fields_of bytes >>= statement_in
 
--- the fields of the command behind its options
+-- the fields of the command after its options
 abbrev pub statement_scalars : StatementSaid → List Entry
 statement_scalars statement =
     set_fields (chunk_entry 2 statement.table

@@ -1,7 +1,10 @@
--- What a flight info or a schema is asked for: the command in the one message of GetFlightInfo and of GetSchema.
-use Rattle.std.specs.Prelude.{ℕ, ◌==◌, ◌||◌, Bool, false, not, nat_le, List, [], ◌∷◌, length, Some, Result, Ok, Err, codes, bytes_eq, if◌then◌else◌}
+-- What a flight info or a schema is asked for: the command in the one message of GetFlightInfo and
+-- of GetSchema.
+use Rattle.std.specs.Prelude.{ℕ, ◌==◌, ◌||◌, Bool, false, not, nat_le, List, [], ◌∷◌, length, Some}
+use Rattle.std.specs.Prelude.{Result, Ok, Err, codes, bytes_eq, if◌then◌else◌}
 use Rattle.scan_base.specs.declared.fault.Fault.{Fault}
-use Rattle.scan_base.specs.declared.fault.Fault.TheVariants.{UnknownCommand, LimitReached, NotInSubset}
+use Rattle.scan_base.specs.declared.fault.Fault.TheVariants.{UnknownCommand, LimitReached}
+use Rattle.scan_base.specs.declared.fault.Fault.TheVariants.{NotInSubset}
 use Rattle.scan_base.specs.Limits.{most_request_bytes}
 use Rattle.scan_base.specs.Reading.{◌>>=◌, demand}
 use Rattle.proto_wire.specs.Standard.{Entry}
@@ -17,7 +20,8 @@ use Rattle.flight_proto.specs.declared.wanted.CommandGetTables.{CommandGetTables
 use Rattle.flight_proto.specs.declared.wanted.Wanted as code
 use Rattle.flight_proto.specs.declared.wanted.Wanted.TheVariants as variants
 
--- ---- arrow.flight.protocol.sql.CommandStatementQuery: string query = 1, optional bytes transaction_id = 2
+-- ---- arrow.flight.protocol.sql.CommandStatementQuery: string query = 1, optional bytes
+-- ---- transaction_id = 2
 
 -- the query's text, and the transaction: one that is absent is as one that is empty
 pub record QuerySaid : Type 0 where
@@ -34,10 +38,12 @@ query_in fields = do
 abbrev pub query_of : List ℕ → Result QuerySaid Fault
 query_of bytes = fields_of bytes >>= query_in
 
--- ---- arrow.flight.protocol.sql.CommandGetTables: optional strings catalog = 1, db_schema_filter_pattern = 2 and
--- ---- table_name_filter_pattern = 3, repeated string table_types = 4, bool include_schema = 5
+-- ---- arrow.flight.protocol.sql.CommandGetTables: optional strings catalog = 1,
+-- ---- db_schema_filter_pattern = 2 and table_name_filter_pattern = 3, repeated string table_types
+-- ---- = 4, bool include_schema = 5
 
--- whether the tables are filtered, and whether their schemas are asked for. The filters' texts are not kept.
+-- whether the tables are filtered, and whether their schemas are asked for. The filters' texts are
+-- not kept.
 pub record TablesSaid : Type 0 where
   pub is_filtered : Bool
   pub include_schema : Bool
@@ -50,7 +56,8 @@ tables_in fields = do
   _ ← last_text 3 fields
   _ ← last_text 4 fields
   Ok (record {
-    is_filtered = is_present 1 fields || is_present 2 fields || is_present 3 fields || is_present 4 fields;
+    is_filtered =
+        is_present 1 fields || is_present 2 fields || is_present 3 fields || is_present 4 fields;
     include_schema = bool_of (last_varint 5 fields);
   })
 
@@ -106,11 +113,13 @@ wanted_in message = do
 
 -- the bytes of a query
 abbrev pub query_bytes : QuerySaid → List ℕ
-query_bytes said = spelled (set_fields (chunk_entry 1 said.query ∷ chunk_entry 2 said.transaction_id ∷ []))
+query_bytes said =
+    spelled (set_fields (chunk_entry 1 said.query ∷ chunk_entry 2 said.transaction_id ∷ []))
 
 -- the bytes of a list of tables without filters
 abbrev pub tables_bytes : Bool → List ℕ
-tables_bytes include_schema = spelled (set_fields (varint_entry 5 (bool_number include_schema) ∷ []))
+tables_bytes include_schema =
+    spelled (set_fields (varint_entry 5 (bool_number include_schema) ∷ []))
 
 -- the Any of a command
 abbrev pub wanted_any : Wanted → AnySaid

@@ -1,5 +1,6 @@
--- Messages of one field, which is bytes: Ticket (ticket = 1), TicketStatementQuery (statement_handle = 1), PutResult
--- (app_metadata = 1), SchemaResult (schema = 1) and Result (body = 1). What such a message says is those bytes.
+-- Messages of one field, which is bytes: Ticket (ticket = 1), TicketStatementQuery
+-- (statement_handle = 1), PutResult (app_metadata = 1), SchemaResult (schema = 1) and Result (body
+-- = 1). What such a message says is those bytes.
 use Rattle.std.specs.Prelude.{ℕ, List, [], ◌∷◌, Result}
 use Rattle.scan_base.specs.declared.fault.Fault.{Fault}
 use Rattle.proto_wire.specs.Calls.{chunk_entry}

@@ -10,7 +10,8 @@ use proto_wire::Field;
 use scan_base::Fault;
 use std::alloc::AllocError;
 
-/// Something that is asked of a server by name. It is answered by a `Result`, a message of one field of bytes.
+/// Something that is asked of a server by name. It is answered by a `Result`, a message of one
+/// field of bytes.
 #[derive(Clone, Copy, Debug, PartialEq, Eq)]
 pub struct Action<'a> {
     /// Field 1, `type`: the action's name.
@@ -41,7 +42,8 @@ impl<'a> Action<'a> {
     ///
     /// `AllocError` where memory is refused. Nothing has changed then.
     pub fn put(&self, out: &mut Vec<u8>) -> Result<(), AllocError>
-        ensures ok { OnOk result (out.new.items ≡ out.old.items ++ action_bytes (action_said self.now)) }
+        ensures ok { OnOk result
+            (out.new.items ≡ out.old.items ++ action_bytes (action_said self.now)) }
         ensures err { OnErr result (out.new.items ≡ out.old.items) }
     {
         let action_type = Field::bytes(1, self.action_type.as_bytes());

@@ -10,10 +10,10 @@ use proto_wire::Field;
 use scan_base::Fault;
 use std::alloc::AllocError;
 
-/// A message of any type, beside the name of its type.
+/// A message of any type, next to the name of its type.
 #[derive(Clone, Copy, Debug, PartialEq, Eq)]
 pub struct Any<'a> {
-    /// Field 1: a URL, whose part behind the last `/` is the full name of the message's type.
+    /// Field 1: a URL, whose part after the last `/` is the full name of the message's type.
     pub type_url: &'a str,
     /// Field 2: the message's bytes.
     pub value: &'a [u8],

@@ -27,11 +27,12 @@ impl<'a> Command<'a> {
     /// # Errors
     ///
     /// The first of: `Fault::UnknownCommand` where there is no descriptor or its type is not CMD,
-    /// `Fault::LimitReached` where its `cmd` has more than `MAX_CMD_LEN` bytes, `Fault::BadProto` where
-    /// that is no Any, and `Fault::UnknownCommand` where the Any's URL has no `/`.
+    /// `Fault::LimitReached` where its `cmd` has more than `MAX_CMD_LEN` bytes, `Fault::BadProto`
+    /// where that is no Any, and `Fault::UnknownCommand` where the Any's URL has no `/`.
     #[tactic(auto, unfolding(crate::specs::Command::command_of))]
     pub fn read(descriptor: Option<FlightDescriptor<'a>>) -> Result<Command<'a>, Fault>
-        ensures { Gives command_said result (command_of (option_map descriptor_said descriptor.entry)) }
+        ensures { Gives command_said result
+            (command_of (option_map descriptor_said descriptor.entry)) }
     {
         let descriptor = descriptor.ok_or(Fault::UnknownCommand)?;
         if descriptor.descriptor_type != DESCRIPTOR_CMD {

@@ -1,8 +1,10 @@
-//! An expiry of old versions: the `Action` that asks for it, and the `Result` that answers it. The form is this project's own.
+//! An expiry of old versions: the `Action` that asks for it, and the `Result` that answers it. The
+//! form is this project's own.
 
 ghost use Rattle.std.specs.Prelude.{◌≡◌, ◌++◌, OnOk, OnErr};
 ghost use Rattle.scan_base.specs.Reading.{Gives};
-ghost use Rattle.flight_proto.specs.Expiry.{body_number, expiry_of, expiry_bytes, floor_said, floor_bytes};
+ghost use Rattle.flight_proto.specs.Expiry.{body_number, expiry_of, expiry_bytes, floor_said};
+ghost use Rattle.flight_proto.specs.Expiry.{floor_bytes};
 
 use crate::action::Action;
 use crate::wrapped::{put_wrapped, read_wrapped};
@@ -26,8 +28,8 @@ fn read_number(body: &[u8]) -> Result<u64, Fault>
 ///
 /// # Errors
 ///
-/// `Fault::BadProto` where the action does not read, `Fault::UnknownCommand` where its name is another than `scan.expire`, and
-/// `Fault::BadProto` where its body has not eight bytes.
+/// `Fault::BadProto` where the action does not read, `Fault::UnknownCommand` where its name is
+/// another than `scan.expire`, and `Fault::BadProto` where its body has not eight bytes.
 pub fn read_expiry(message: &[u8]) -> Result<u64, Fault>
     ensures { Gives (λ version. version) result (expiry_of message.now) }
 {

@@ -1,11 +1,13 @@
 //! `arrow.flight.protocol.FlightData`.
 
-ghost use Rattle.std.specs.Prelude.{◌≡◌, ◌++◌, length, take, option_map, option_copied, OnOk, OnErr};
+ghost use Rattle.std.specs.Prelude.{◌≡◌, ◌++◌, length, take, option_map, option_copied, OnOk};
+ghost use Rattle.std.specs.Prelude.{OnErr};
 ghost use Rattle.scan_base.specs.Reading.{Gives, GivesUnlessMemory, RefusesFirst};
 ghost use Rattle.flight_proto.specs.Lookup.{bytes_within};
 ghost use Rattle.flight_proto.specs.FlightDescriptor.{descriptor_said};
 ghost use Rattle.flight_proto.specs.FlightData.{stream_said, stream_descriptor_of};
-ghost use Rattle.flight_proto.specs.FlightData.{data_of, data_said, borrowed_said, data_bytes, data_head};
+ghost use Rattle.flight_proto.specs.FlightData.{data_of, data_said, borrowed_said, data_bytes};
+ghost use Rattle.flight_proto.specs.FlightData.{data_head};
 
 use crate::flight_descriptor::FlightDescriptor;
 use crate::message::{Message, chunk_of};
@@ -15,8 +17,8 @@ use proto_wire::{Field, Fields, put_bytes_head};
 use scan_base::Fault;
 use std::alloc::AllocError;
 
-/// The descriptor in the first message of a stream (field 1). A descriptor in a later message has no
-/// meaning, so it is read apart from what all messages carry.
+/// The descriptor in the first message of a stream (field 1). A descriptor in a later message has
+/// no meaning, so it is read apart from what all messages carry.
 #[derive(Clone, Copy, Debug, PartialEq, Eq)]
 pub struct StreamDescriptor<'a> {
     /// The descriptor, where there is one.
@@ -100,8 +102,8 @@ impl FlightData {
     ///
     /// # Errors
     ///
-    /// `Fault::BadProto` where the message is no list of fields, and `Fault::OutOfMemory` only where a cut of one
-    /// that is a list is refused.
+    /// `Fault::BadProto` where the message is no list of fields, and `Fault::OutOfMemory` only
+    /// where a cut of one that is a list is refused.
     pub fn read(message: &Bytes) -> Result<FlightData, Fault>
         ensures value { GivesUnlessMemory data_said result (data_of message.now) }
         ensures first { RefusesFirst result (data_of message.now) }
@@ -152,7 +154,8 @@ fn append_flight_data_head(
     data_header: &[u8],
     body_length: u64,
 ) -> Result<(), AllocError>
-    ensures ok { OnOk result (out.new.items ≡ out.old.items ++ data_head data_header.now body_length) }
+    ensures ok { OnOk result
+        (out.new.items ≡ out.old.items ++ data_head data_header.now body_length) }
     ensures err { take (length out.old.items) out.new.items ≡ out.old.items }
 {
     put_parts(out, &[Part::Scalar(Field::bytes(2, data_header))])?;
@@ -162,8 +165,8 @@ fn append_flight_data_head(
     put_bytes_head(out, 1000, body_length)
 }
 
-/// Writes at the end a message of a stream without a descriptor, up to its body. The caller writes a body of
-/// so many bytes behind it, and so copies that once.
+/// Writes at the end a message of a stream without a descriptor, up to its body. The caller writes
+/// a body of so many bytes after it, and so copies that once.
 ///
 /// # Errors
 ///
@@ -173,7 +176,8 @@ pub fn put_flight_data_head(
     data_header: &[u8],
     body_length: u64,
 ) -> Result<(), AllocError>
-    ensures ok { OnOk result (out.new.items ≡ out.old.items ++ data_head data_header.now body_length) }
+    ensures ok { OnOk result
+        (out.new.items ≡ out.old.items ++ data_head data_header.now body_length) }
     ensures err { OnErr result (out.new.items ≡ out.old.items) }
 {
     let len = out.len();

@@ -2,7 +2,8 @@
 
 ghost use Rattle.std.specs.Prelude.{◌≡◌, ◌++◌, OnOk, OnErr};
 ghost use Rattle.scan_base.specs.Reading.{Gives};
-ghost use Rattle.flight_proto.specs.FlightDescriptor.{descriptor_said, descriptor_in, descriptor_of};
+ghost use Rattle.flight_proto.specs.FlightDescriptor.{descriptor_said, descriptor_in};
+ghost use Rattle.flight_proto.specs.FlightDescriptor.{descriptor_of};
 ghost use Rattle.flight_proto.specs.FlightDescriptor.{descriptor_bytes};
 
 use crate::message::Message;

@@ -6,7 +6,8 @@ ghost use Rattle.scan_base.specs.Reading.{Gives, GivesUnlessMemory, RefusesFirst
 ghost use Rattle.flight_proto.specs.Lookup.{chunks};
 ghost use Rattle.flight_proto.specs.Cursor.{Reads};
 ghost use Rattle.flight_proto.specs.Message.{spelled};
-ghost use Rattle.flight_proto.specs.FlightInfo.{location_of, endpoint_said, endpoint_by, endpoint_of};
+ghost use Rattle.flight_proto.specs.FlightInfo.{location_of, endpoint_said, endpoint_by};
+ghost use Rattle.flight_proto.specs.FlightInfo.{endpoint_of};
 ghost use Rattle.flight_proto.specs.FlightInfo.{endpoint_bytes, endpoint_field};
 ghost use Rattle.flight_proto.specs.FlightInfo.{info_said, info_of, totals, info_bytes, info_with};
 
@@ -65,7 +66,8 @@ impl FlightEndpoint {
     ///
     /// # Errors
     ///
-    /// `Fault::BadProto` where they do not read, and `Fault::OutOfMemory` only where they do and memory is refused.
+    /// `Fault::BadProto` where they do not read, and `Fault::OutOfMemory` only where they do and
+    /// memory is refused.
     pub fn read(alloc: Global, bytes: &[u8]) -> Result<FlightEndpoint, Fault>
         ensures value { GivesUnlessMemory endpoint_said result (endpoint_of bytes.now) }
         ensures first { RefusesFirst result (endpoint_of bytes.now) }
@@ -90,7 +92,8 @@ pub fn put_endpoint(out: &mut Vec<u8>, ticket: &[u8]) -> Result<(), AllocError>
     put_parts(out, &[Part::Embedded(1, Some(ticket))])
 }
 
-/// Where the rows of a query are fetched, and what they are. Its `app_metadata` (field 7) is not read.
+/// Where the rows of a query are fetched, and what they are. Its `app_metadata` (field 7) is not
+/// read.
 #[derive(Debug, Drop)]
 pub struct FlightInfo<'a> {
     /// Field 1: the schema of the rows in IPC form.
@@ -142,7 +145,8 @@ impl<'a> FlightInfo<'a> {
     ///
     /// # Errors
     ///
-    /// `Fault::BadProto` where they do not read, and `Fault::OutOfMemory` only where they do and memory is refused.
+    /// `Fault::BadProto` where they do not read, and `Fault::OutOfMemory` only where they do and
+    /// memory is refused.
     #[tactic(auto, unfolding(crate::specs::FlightInfo::info_of))]
     pub fn read(alloc: Global, bytes: &'a [u8]) -> Result<FlightInfo<'a>, Fault>
         ensures value { GivesUnlessMemory info_said result (info_of bytes.now) }
@@ -166,7 +170,8 @@ impl<'a> FlightInfo<'a> {
 // Writes at the end an endpoint for each ticket, and may leave some where memory runs out.
 fn append_endpoints(out: &mut Vec<u8>, tickets: &[Vec<u8>]) -> Result<(), AllocError>
     ensures ok { OnOk result (out.new.items
-        ≡ out.old.items ++ spelled (map endpoint_field (map (λ ticket. ticket.items) tickets.now))) }
+        ≡ out.old.items
+        ++ spelled (map endpoint_field (map (λ ticket. ticket.items) tickets.now))) }
     ensures err { take (length out.old.items) out.new.items ≡ out.old.items }
 {
     for ticket in tickets {
@@ -175,10 +180,11 @@ fn append_endpoints(out: &mut Vec<u8>, tickets: &[Vec<u8>]) -> Result<(), AllocE
     Ok(())
 }
 
-// Writes at the end that the counts of rows and of bytes are not known, and that the rows are in order. An `Err`
-// changes nothing.
+// Writes at the end that the counts of rows and of bytes are not known, and that the rows are in
+// order. An `Err` changes nothing.
 fn put_totals(out: &mut Vec<u8>) -> Result<(), AllocError>
-    ensures ok { OnOk result (out.new.items ≡ out.old.items ++ spelled (totals (negsuc 0) (negsuc 0) true)) }
+    ensures ok { OnOk result
+        (out.new.items ≡ out.old.items ++ spelled (totals (negsuc 0) (negsuc 0) true)) }
     ensures err { OnErr result (out.new.items ≡ out.old.items) }
 {
     let not_known = (-1i64).cast_unsigned();
@@ -196,7 +202,8 @@ fn append_info(
     tickets: &[Vec<u8>],
 ) -> Result<(), AllocError>
     ensures ok { OnOk result (out.new.items ≡ out.old.items
-        ++ info_bytes (info_with schema.now descriptor.now (map (λ ticket. ticket.items) tickets.now))) }
+        ++ info_bytes (info_with schema.now descriptor.now
+        (map (λ ticket. ticket.items) tickets.now))) }
     ensures err { take (length out.old.items) out.new.items ≡ out.old.items }
 {
     let schema = Field::bytes(1, schema);
@@ -206,8 +213,8 @@ fn append_info(
     put_totals(out)
 }
 
-/// Writes at the end the info of these tickets, in their order: a schema in IPC form, a descriptor's bytes as
-/// they stand, no location, and no count of rows or bytes.
+/// Writes at the end the info of these tickets, in their order: a schema in IPC form, a
+/// descriptor's bytes as they stand, no location, and no count of rows or bytes.
 ///
 /// # Errors
 ///
@@ -219,7 +226,8 @@ pub fn put_flight_info(
     tickets: &[Vec<u8>],
 ) -> Result<(), AllocError>
     ensures ok { OnOk result (out.new.items ≡ out.old.items
-        ++ info_bytes (info_with schema.now descriptor.now (map (λ ticket. ticket.items) tickets.now))) }
+        ++ info_bytes (info_with schema.now descriptor.now
+        (map (λ ticket. ticket.items) tickets.now))) }
     ensures err { OnErr result (out.new.items ≡ out.old.items) }
 {
     let start = out.len();

@@ -1,9 +1,9 @@
 //! The messages of Arrow Flight and Flight SQL: what their fields say, and the bytes that say it.
 //!
-//! The messages are those of the public `Flight.proto` and `FlightSql.proto`, and the bytes those of
-//! the Protocol Buffers encoding (proto3). `message` looks up what the fields of a message say, and `written`
-//! writes fields; a module for each message, or for a few that belong together, has a struct, what reads it
-//! and what writes it. `specs/` has a file for each module.
+//! The messages are those of the public `Flight.proto` and `FlightSql.proto`, and the bytes those
+//! of the Protocol Buffers encoding (proto3). `message` looks up what the fields of a message say,
+//! and `written` writes fields; a module for each message, or for a few that belong together, has a
+//! struct, what reads it and what writes it. `specs/` has a file for each module.
 #![tactic(auto)]
 
 pub mod action;

@@ -1,12 +1,13 @@
-//! A message, of which each field is looked up by its number. Nothing here takes memory but what is told an
-//! allocator.
+//! A message, of which each field is looked up by its number. Nothing here takes memory but what is
+//! told an allocator.
 
 ghost use Rattle.std.specs.Prelude.{◌≡◌, ◌+◌, ◌<◌, length, option_map, is_some, IfErr, IfOk};
 ghost use Rattle.scan_base.specs.Reading.{Gives};
 ghost use Rattle.scan_base.specs.declared.fault.Fault.TheVariants.{BadProto};
 ghost use Rattle.proto_wire.specs.Reading.{fields_of};
 ghost use Rattle.proto_wire.specs.Calls.{entry_of};
-ghost use Rattle.flight_proto.specs.Lookup.{held, chunk_of, varint_of, last_chunk, last_bytes, last_varint};
+ghost use Rattle.flight_proto.specs.Lookup.{held, chunk_of, varint_of, last_chunk, last_bytes};
+ghost use Rattle.flight_proto.specs.Lookup.{last_varint};
 ghost use Rattle.flight_proto.specs.Lookup.{is_present, last_text, joined, parts_within};
 ghost use Rattle.flight_proto.specs.Message.{enum_of};
 ghost use Rattle.flight_proto.specs.Cursor.{left_of, LeftOn, Reads, IfMore};
@@ -36,8 +37,8 @@ fn varint_of(field: &Field<'_>, number: u32) -> Option<u64>
     }
 }
 
-// The fields that are left of a message: those of a part, and then those of each chunk of this number among
-// the later fields.
+// The fields that are left of a message: those of a part, and then those of each chunk of this
+// number among the later fields.
 #[derive(Drop)]
 pub(crate) struct Cursor<'a> {
     part: Fields<'a>,
@@ -50,7 +51,8 @@ impl<'a> Cursor<'a> {
     pub(crate) fn next(&mut self) -> Result<Option<Field<'a>>, Fault>
         ensures left { LeftOn result (left_of self.old) (left_of self.new) }
         ensures fewer { IfMore result
-            (length self.new.part + length self.new.later < length self.old.part + length self.old.later) }
+            (length self.new.part + length self.new.later
+            < length self.old.part + length self.old.later) }
     {
         while self.part.bytes_left() == 0 {
             let Some(field) = self.later.next()? else {
@@ -114,7 +116,8 @@ impl<'a> Message<'a> {
         })
     }
 
-    // The message that is embedded in these bytes, in fields of this number: it is there, or has no fields.
+    // The message that is embedded in these bytes, in fields of this number: it is there, or has no
+    // fields.
     pub(crate) fn read_parts(bytes: &'a [u8], number: u32) -> Result<Message<'a>, Fault>
         ensures value { Gives (λ message. message) result (parts_within number bytes.now) }
         ensures fault { IfErr result (λ fault. fault ≡ BadProto) }

@@ -3,7 +3,8 @@
 
 ghost use Rattle.std.specs.Prelude.{◌≡◌, ◌++◌, OnOk, OnErr};
 ghost use Rattle.scan_base.specs.Reading.{Gives};
-ghost use Rattle.flight_proto.specs.PutResult.{update_of, update_bytes, rows_put_of, rows_put_bytes};
+ghost use Rattle.flight_proto.specs.PutResult.{update_of, update_bytes, rows_put_of};
+ghost use Rattle.flight_proto.specs.PutResult.{rows_put_bytes};
 
 use crate::message::Message;
 use crate::wrapped::{put_wrapped, read_wrapped};

@@ -4,7 +4,8 @@ ghost use Rattle.std.specs.Prelude.{◌≡◌, ◌++◌, Ok, take, length, optio
 ghost use Rattle.scan_base.specs.Reading.{Gives};
 ghost use Rattle.flight_proto.specs.Message.{embedded_field, spelled};
 ghost use Rattle.flight_proto.specs.Lookup.{embedded_within};
-ghost use Rattle.flight_proto.specs.StatementIngest.{options_said, options_in, options_of, options_bytes};
+ghost use Rattle.flight_proto.specs.StatementIngest.{options_said, options_in, options_of};
+ghost use Rattle.flight_proto.specs.StatementIngest.{options_bytes};
 ghost use Rattle.flight_proto.specs.StatementIngest.{statement_said, statement_of, statement_bytes};
 
 use crate::message::Message;
@@ -13,8 +14,8 @@ use proto_wire::Field;
 use scan_base::Fault;
 use std::alloc::AllocError;
 
-/// What to do where the table is absent, and where it is there. Numbers outside the standard's lists
-/// are kept as they are.
+/// What to do where the table is absent, and where it is there. Numbers outside the standard's
+/// lists are kept as they are.
 #[derive(Clone, Copy, Debug, PartialEq, Eq)]
 pub struct TableDefinitionOptions {
     /// Field 1: unspecified is 0, CREATE is 1, FAIL is 2.
@@ -74,8 +75,8 @@ impl TableDefinitionOptions {
     }
 }
 
-/// The command to put the rows of a stream into a table. Its map `options` (field 1000) is not read.
-/// An optional field that is absent is as one that is empty.
+/// The command to put the rows of a stream into a table. Its map `options` (field 1000) is not
+/// read. An optional field that is absent is as one that is empty.
 #[derive(Clone, Copy, Debug, PartialEq, Eq)]
 pub struct CommandStatementIngest<'a> {
     /// Field 1.

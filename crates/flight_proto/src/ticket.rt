@@ -31,8 +31,8 @@ fn read_handle(ticket: &[u8]) -> Result<&[u8], Fault>
 ///
 /// # Errors
 ///
-/// `Fault::BadProto` where the Ticket does not read. `Fault::BadTicket` where what it holds is no Any
-/// of a TicketStatementQuery.
+/// `Fault::BadProto` where the Ticket does not read. `Fault::BadTicket` where what it holds is no
+/// Any of a TicketStatementQuery.
 pub fn read_statement_handle(bytes: &[u8]) -> Result<&[u8], Fault>
     ensures { Gives (λ handle. handle.now) result (statement_handle_of bytes.now) }
 {

@@ -1,10 +1,12 @@
-//! What a flight info or a schema is asked for: `arrow.flight.protocol.sql.CommandStatementQuery` and
-//! `CommandGetTables`.
+//! What a flight info or a schema is asked for: `arrow.flight.protocol.sql.CommandStatementQuery`
+//! and `CommandGetTables`.
 
 ghost use Rattle.std.specs.Prelude.{◌≡◌, ◌++◌, OnOk, OnErr};
 ghost use Rattle.scan_base.specs.Reading.{Gives};
-ghost use Rattle.flight_proto.specs.Wanted.{query_said, query_of, query_bytes, tables_said, tables_of, tables_bytes};
-ghost use Rattle.flight_proto.specs.Wanted.{wanted_said, wanted_rows, wanted_tables, wanted_in, rows_of, command_bytes, wanted_bytes};
+ghost use Rattle.flight_proto.specs.Wanted.{query_said, query_of, query_bytes, tables_said};
+ghost use Rattle.flight_proto.specs.Wanted.{tables_of, tables_bytes};
+ghost use Rattle.flight_proto.specs.Wanted.{wanted_said, wanted_rows, wanted_tables, wanted_in};
+ghost use Rattle.flight_proto.specs.Wanted.{rows_of, command_bytes, wanted_bytes};
 
 use crate::any::Any;
 use crate::command::Command;
@@ -46,7 +48,8 @@ impl<'a> CommandStatementQuery<'a> {
     ///
     /// `AllocError` where memory is refused. Nothing has changed then.
     pub fn put(&self, out: &mut Vec<u8>) -> Result<(), AllocError>
-        ensures ok { OnOk result (out.new.items ≡ out.old.items ++ query_bytes (query_said self.now)) }
+        ensures ok { OnOk result
+            (out.new.items ≡ out.old.items ++ query_bytes (query_said self.now)) }
         ensures err { OnErr result (out.new.items ≡ out.old.items) }
     {
         let query = Field::bytes(1, self.query.as_bytes());
@@ -148,9 +151,9 @@ fn read_tables(value: &[u8]) -> Result<Wanted<'_>, Fault>
 ///
 /// The first of: `Fault::LimitReached` where the message has more than `MAX_REQUEST_LEN` bytes,
 /// `Fault::BadProto` where it is no FlightDescriptor, the faults of `Command::read`,
-/// `Fault::UnknownCommand` where the command is neither a CommandStatementQuery nor a CommandGetTables,
-/// `Fault::BadProto` where that does not read, and `Fault::NotInSubset` where the query's transaction is
-/// not empty, or the tables are filtered or their schemas asked for.
+/// `Fault::UnknownCommand` where the command is neither a CommandStatementQuery nor a
+/// CommandGetTables, `Fault::BadProto` where that does not read, and `Fault::NotInSubset` where the
+/// query's transaction is not empty, or the tables are filtered or their schemas asked for.
 #[tactic(auto, unfolding(crate::specs::Wanted::wanted_in))]
 pub fn read_wanted(message: &[u8]) -> Result<Wanted<'_>, Fault>
     ensures { Gives wanted_said result (wanted_in message.now) }
@@ -204,7 +207,8 @@ fn put_query(out: &mut Vec<u8>, query: &str) -> Result<(), AllocError>
 ///
 /// `AllocError` where memory is refused. Nothing has changed then.
 pub fn put_wanted(out: &mut Vec<u8>, wanted: Wanted<'_>) -> Result<(), AllocError>
-    ensures ok { OnOk result (out.new.items ≡ out.old.items ++ wanted_bytes (wanted_said wanted.entry)) }
+    ensures ok { OnOk result
+        (out.new.items ≡ out.old.items ++ wanted_bytes (wanted_said wanted.entry)) }
     ensures err { OnErr result (out.new.items ≡ out.old.items) }
 {
     match wanted {

@@ -1,4 +1,5 @@
-//! Messages of one field of bytes: `Ticket`, `TicketStatementQuery`, `PutResult`, `SchemaResult` and `Result`.
+//! Messages of one field of bytes: `Ticket`, `TicketStatementQuery`, `PutResult`, `SchemaResult`
+//! and `Result`.
 
 ghost use Rattle.std.specs.Prelude.{◌≡◌, ◌++◌, OnOk, OnErr};
 ghost use Rattle.scan_base.specs.Reading.{Gives};

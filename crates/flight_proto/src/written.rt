@@ -32,7 +32,8 @@ fn is_set(field: &Field<'_>) -> bool
 // Writes a part at the end. An `Err` changes nothing.
 fn put_part(out: &mut Vec<u8>, part: &Part<'_>) -> Result<(), AllocError>
     requires { IsNumbered part.now }
-    ensures ok { OnOk result (out.new.items ≡ out.old.items ++ spelled (entries_of (part.now ∷ []))) }
+    ensures ok { OnOk result
+        (out.new.items ≡ out.old.items ++ spelled (entries_of (part.now ∷ []))) }
     ensures err { OnErr result (out.new.items ≡ out.old.items) }
 {
     match *part {

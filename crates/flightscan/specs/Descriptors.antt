@@ -1,8 +1,10 @@
--- File descriptors: how many a server may need, and what is said where the system lets it have fewer.
+-- File descriptors: how many a server may need, and what is said where the system lets it have
+-- fewer.
 use Rattle.std.specs.Prelude.{ℕ, ◌+◌, ◌*◌, List, ◌++◌, codes}
 use Rattle.std.specs.Fmt.{decimal}
 
--- how many a server of so many seats may need: for each seat one of its listener and two of its connection, and sixteen of its own
+-- how many a server of so many seats may need: for each seat one of its listener and two of its
+-- connection, and sixteen of its own
 abbrev pub needed_for : ℕ → ℕ
 needed_for seats = 3 * seats + 16
 

@@ -17,7 +17,8 @@ use Rattle.command_line.specs.declared.request.PutForm.{PutForm}
 use Rattle.command_line.specs.declared.request.PutForm.TheVariants.{Arrow, Csv}
 use Rattle.command_line.specs.declared.request.Serving.{Serving}
 use Rattle.command_line.specs.declared.request.Request.{Request}
-use Rattle.command_line.specs.declared.request.Request.TheVariants.{Pipe, Serve, Put, Query, Tables, Expire}
+use Rattle.command_line.specs.declared.request.Request.TheVariants.{Pipe, Serve, Put, Query, Tables}
+use Rattle.command_line.specs.declared.request.Request.TheVariants.{Expire}
 use Rattle.command_ends.specs.Network.{Accepting, Ends}
 use Rattle.command_ends.specs.Printing.{Said, Prints, fault_line, said_of}
 use Rattle.command_ends.specs.Whole.{Source, source_of}
@@ -33,16 +34,21 @@ use Rattle.flightscan.specs.declared.running.Streams.{Streams}
 
 -- ---- the standard streams
 
--- the standard streams, before or behind a command
+-- the standard streams, before or after a command
 pub record Standard : Type 0 where
   pub input : Source
   pub out : Said
   pub faults : Said
 
 -- all three, whose traits' ghost members these are
-abbrev pub standard_of : {I W E : Type 0} → InputMembers I → OutputMembers W → OutputMembers E → Streams I W E → Standard
+abbrev pub standard_of : {I W E : Type 0} → InputMembers I → OutputMembers W → OutputMembers E →
+    Streams I W E → Standard
 standard_of inputs outputs faults streams =
-    record { input = source_of inputs streams.input; out = said_of outputs streams.output; faults = said_of faults streams.faults }
+    record {
+      input = source_of inputs streams.input;
+      out = said_of outputs streams.output;
+      faults = said_of faults streams.faults;
+    }
 
 -- what a command prints on
 abbrev pub desk_in : Standard → Desk
@@ -50,7 +56,8 @@ desk_in standard = desk_of standard.out standard.faults
 
 -- the input and the output as a connection, with the seat of its backend
 abbrev pub connection_in : Standard → Seat → Connection
-connection_in standard seat = connection_of standard.input.tape standard.out.bytes standard.input.failed standard.out.failures seat
+connection_in standard seat = connection_of standard.input.tape standard.out.bytes
+    standard.input.failed standard.out.failures seat
 
 -- ---- requests of clients
 
@@ -63,41 +70,55 @@ abbrev pub target_of : Bor Text → PutMode → Target
 target_of table mode = record { table = table; mode = mode }
 
 -- the rows that the input says in a form are put
-abbrev pub PutsForm : PutForm → Type 0 → (Option Ends → Type 0) → Target → ExitStatus → Standard → Standard → Type 0
+abbrev pub PutsForm : PutForm → Type 0 → (Option Ends → Type 0) → Target → ExitStatus → Standard →
+    Standard → Type 0
 PutsForm Arrow untouched Gives target status old new =
     Puts old.input new.input untouched Gives target status (desk_in old) (desk_in new)
 PutsForm (Csv form) untouched Gives target status old new =
-    PutsCsv (form_of form) old.input new.input untouched Gives target status (desk_in old) (desk_in new)
+    PutsCsv (form_of form) old.input new.input untouched Gives target status (desk_in old)
+    (desk_in new)
 
--- hashes begin with a seed, and the system gave no random bytes for one: F22 is printed, and nothing else is done
+-- hashes begin with a seed, and the system gave no random bytes for one: F22 is printed, and
+-- nothing else is done
 abbrev pub LacksSeed : ExitStatus → Standard → Standard → Type 0
 LacksSeed status old new =
-    (status ≡ FaultAtThisEnd) × Prints (fault_line Transport) old.faults new.faults × (new.out ≡ old.out) × (new.input ≡ old.input)
+    (status ≡ FaultAtThisEnd) × Prints (fault_line Transport) old.faults new.faults
+    × (new.out ≡ old.out) × (new.input ≡ old.input)
 
 -- with a seed, the rows that a query answers are printed in a form
-abbrev pub QueriesWith : {S N : Type 0} → Option S → (N → Option Ends → N → Type 0) → (N → N → N → Type 0)
-    → ℕ → List ℕ → Format → ExitStatus → N → N → Standard → Standard → Type 0
+abbrev pub QueriesWith : {S N : Type 0} → Option S → (N → Option Ends → N → Type 0)
+    → (N → N → N → Type 0) → ℕ → List ℕ → Format → ExitStatus → N → N → Standard → Standard → Type 0
 QueriesWith (Some seed) connects shares streams sql format status before behind old new =
-    Queries connects shares streams sql format before behind status (desk_in old) (desk_in new) × (new.input ≡ old.input)
-QueriesWith None connects shares streams sql format status before behind old new = LacksSeed status old new × (behind ≡ before)
+    Queries connects shares streams sql format before behind status (desk_in old) (desk_in new)
+    × (new.input ≡ old.input)
+QueriesWith None connects shares streams sql format status before behind old new =
+    LacksSeed status old new × (behind ≡ before)
 
--- What a client does for a request, with the seed of its hashes, if there is one, by a network that connects and is shared so. Only
--- a put reads the input. A request for a server leaves the network as it was.
-abbrev pub CallsServer : {S N : Type 0} → Option S → Connecting N → (N → N → N → Type 0) → Request → ExitStatus → N → N → Standard → Standard → Type 0
+-- What a client does for a request, with the seed of its hashes, if there is one, by a network that
+-- connects and is shared so. Only a put reads the input. A request for a server leaves the network
+-- as it was.
+abbrev pub CallsServer : {S N : Type 0} → Option S → Connecting N → (N → N → N → Type 0) → Request →
+    ExitStatus → N → N → Standard → Standard → Type 0
 CallsServer seed connects shares (Put port table mode form progress) status before behind old new =
-    PutsForm form (behind ≡ before) (λ ends. connects before port ends behind) (target_of table mode) status old new
-CallsServer seed connects shares (Query port format streams sql progress) status before behind old new =
-    QueriesWith seed (λ one ends other. connects one port ends other) shares streams sql.now format status before behind old new
+    PutsForm form (behind ≡ before) (λ ends. connects before port ends behind)
+    (target_of table mode) status old new
+CallsServer seed connects shares (Query port format streams sql progress) status before
+    behind old new =
+    QueriesWith seed (λ one ends other. connects one port ends other) shares streams sql.now format
+    status before behind old new
 CallsServer seed connects shares (Tables port) status before behind old new =
-    ListsTables (λ ends. connects before port ends behind) status (desk_in old) (desk_in new) × (new.input ≡ old.input)
+    ListsTables (λ ends. connects before port ends behind) status (desk_in old) (desk_in new)
+    × (new.input ≡ old.input)
 CallsServer seed connects shares (Expire port version) status before behind old new =
-    Expires (λ ends. connects before port ends behind) version status (desk_in old) (desk_in new) × (new.input ≡ old.input)
+    Expires (λ ends. connects before port ends behind) version status (desk_in old) (desk_in new)
+    × (new.input ≡ old.input)
 CallsServer seed connects shares (Serve serving) status before behind old new = behind ≡ before
 CallsServer seed connects shares (Pipe parts workers) status before behind old new = behind ≡ before
 
 -- ---- requests for a server
 
--- which port a listener gives, where it is asked for one, and for connections that end behind so many seconds of silence
+-- which port a listener gives, where it is asked for one, and for connections that end after so
+-- many seconds of silence
 abbrev pub Hearing : Type 0 → Type 1
 Hearing L = L → ℕ → ℕ → Option ℕ → L → Type 0
 
@@ -108,29 +129,35 @@ piped_by parts workers = record { parts = parts; workers = workers; keep = 0 }
 -- with a seed, the input is served as one connection, to the output
 abbrev pub PipesWith : {S : Type 0} → Option S → Options → ExitStatus → Standard → Standard → Type 0
 PipesWith (Some seed) options status old new =
-    (seat : Seat) × Pipes options status (connection_in old (seat_of [] 0)) (connection_in new seat) old.faults new.faults
+    (seat : Seat) × Pipes options status (connection_in old (seat_of [] 0))
+    (connection_in new seat) old.faults new.faults
 PipesWith None options status old new = LacksSeed status old new
 
 -- with a seed, connections are served, by a listener that hears, accepts and is shared so
 abbrev pub ServesWith : {S L : Type 0} → Option S → Hearing L → Accepting L → Sharing L
     → Serving → ExitStatus → L → L → Standard → Standard → Type 0
 ServesWith (Some seed) hears accepts shares serving status before behind old new =
-    Listens accepts shares (hears before serving.port serving.idle) serving status behind old.out new.out old.faults new.faults
+    Listens accepts shares (hears before serving.port serving.idle) serving status behind old.out
+    new.out old.faults new.faults
     × (new.input ≡ old.input)
-ServesWith None hears accepts shares serving status before behind old new = LacksSeed status old new × (behind ≡ before)
+ServesWith None hears accepts shares serving status before behind old new =
+    LacksSeed status old new × (behind ≡ before)
 
--- What a server does for a request, with the seed of its hashes, if there is one. A request of a client leaves the listener as it
--- was.
+-- What a server does for a request, with the seed of its hashes, if there is one. A request of a
+-- client leaves the listener as it was.
 abbrev pub ServesClients : {S L : Type 0} → Option S → Hearing L → Accepting L → Sharing L
     → Request → ExitStatus → L → L → Standard → Standard → Type 0
 ServesClients seed hears accepts shares (Serve serving) status before behind old new =
     ServesWith seed hears accepts shares serving status before behind old new
 ServesClients seed hears accepts shares (Pipe parts workers) status before behind old new =
     PipesWith seed (piped_by parts workers) status old new × (behind ≡ before)
-ServesClients seed hears accepts shares (Put port table mode form progress) status before behind old new = behind ≡ before
-ServesClients seed hears accepts shares (Query port format streams sql progress) status before behind old new = behind ≡ before
+ServesClients seed hears accepts shares (Put port table mode form progress) status before behind old
+    new = behind ≡ before
+ServesClients seed hears accepts shares (Query port format streams sql progress) status before
+    behind old new = behind ≡ before
 ServesClients seed hears accepts shares (Tables port) status before behind old new = behind ≡ before
-ServesClients seed hears accepts shares (Expire port version) status before behind old new = behind ≡ before
+ServesClients seed hears accepts shares (Expire port version) status before behind old new =
+    behind ≡ before
 
 -- whatever a network is owed for a connection, serving it is that, however calls are answered
 abbrev pub AlwaysPays : (RestAt → Ends → Ends → RestAt → Type 0) → Type 0

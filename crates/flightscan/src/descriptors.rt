@@ -1,4 +1,5 @@
-//! File descriptors: how many a server may need, and what is said where the system lets it have fewer.
+//! File descriptors: how many a server may need, and what is said where the system lets it have
+//! fewer.
 
 ghost use Rattle.std.specs.Prelude.{◌≡◌, ◌<◌, ◌↔◌, IfOk, IfSome, IsSome, string_bytes};
 ghost use Rattle.flightscan.specs.Descriptors.{limit_line, needed_for};
@@ -38,7 +39,8 @@ pub fn descriptor_limit() -> Option<u64> {
 /// `AllocError` where memory is refused.
 pub fn small_limit(alloc: Global, limit: u64, seats: u32) -> Result<Option<String>, AllocError>
     ensures is_told { IfOk result (λ line. IsSome line ↔ limit < needed_for seats) }
-    ensures line { IfOk result (λ line. IfSome line (λ text. string_bytes text ≡ limit_line limit seats)) }
+    ensures line { IfOk result
+        (λ line. IfSome line (λ text. string_bytes text ≡ limit_line limit seats)) }
 {
     let needed = descriptors_needed(seats);
     if limit >= needed {

@@ -1,5 +1,5 @@
-//! The program `flightscan`: reads the command line, and calls the command that it names with the standard streams, the
-//! sockets and the random bytes of the system.
+//! The program `flightscan`: reads the command line, and calls the command that it names with the
+//! standard streams, the sockets and the random bytes of the system.
 #![tactic(auto)]
 
 ghost use Rattle.grpc_frame.specs.Ends.{CanFail};
@@ -30,11 +30,13 @@ fn tells_progress(request: &Request<'_>) -> bool {
     }
 }
 
-// The C library keeps up to twice as much of freed memory as the largest block that was freed so far had. What is beyond, it
-// gives back to the system, which hands it out anew page by page: that costs a batch more than its rows do.
+// The C library keeps up to twice as much of freed memory as the largest block that was freed so
+// far had. What is beyond, it gives back to the system, which hands it out again page by page: that
+// costs a batch more than its rows do.
 const LARGEST_FREED: usize = 8 << 20;
 
-// Has the memory of a batch kept for the next one. Where the block is refused, nothing changes but time.
+// Has the memory of a batch kept for the next one. Where the block is refused, nothing changes but
+// time.
 fn keep_freed_memory(alloc: Global) {
     let _block = Vec::<u8>::with_capacity(alloc, LARGEST_FREED);
 }
@@ -44,7 +46,8 @@ fn null_device<R: Files>(files: &R) -> Option<R::File> {
     File::open(files, "/dev/null").ok()
 }
 
-// Says in a line where the system lets a server have too few file descriptors for its seats. The server starts all the same.
+// Says in a line where the system lets a server have too few file descriptors for its seats. The
+// server starts all the same.
 fn tell_small_limit<E: Output>(alloc: Global, seats: u32, faults: &mut E)
     requires { CanFail (E.failures faults.old) }
 {
@@ -64,7 +67,8 @@ fn refused<E: Output>(kind: ErrorKind, faults: &mut E) -> ExitCode
 }
 
 fn main(rt: HostRuntime) -> ExitCode {
-    // Where standard input, output or error is closed, one of these has its number, and no socket does.
+    // Where standard input, output or error is closed, one of these has its number, and no socket
+    // does.
     let _standard = (null_device(&rt), null_device(&rt), null_device(&rt));
     let alloc = rt.alloc();
     keep_freed_memory(alloc);

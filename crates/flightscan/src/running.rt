@@ -6,7 +6,9 @@ ghost use Rattle.version_cell.specs.Rests.{RestAt};
 ghost use Rattle.commands.specs.Port.{IsDueAfter};
 ghost use Rattle.commands.specs.Serve.{AcceptsThenCloses};
 ghost use Rattle.commands.specs.Words.{HasSeats};
-ghost use Rattle.flightscan.specs.Running.{AlwaysPays, CallsServer, PipesWith, PutsForm, QueriesWith, ServesClients, ServesWith, piped_by, standard_of};
+ghost use Rattle.flightscan.specs.Running.{AlwaysPays, CallsServer, PipesWith, PutsForm};
+ghost use Rattle.flightscan.specs.Running.{QueriesWith, ServesClients, ServesWith, piped_by};
+ghost use Rattle.flightscan.specs.Running.{standard_of};
 
 use client_calls::Target;
 use client_commands::expire::expire;
@@ -29,8 +31,8 @@ use std::thread::Threads;
 use std::time::Clock;
 use version_cell::Opened;
 
-/// What the program has of its machine: threads, a clock and memory; and the seed with which hashes of clients' values begin,
-/// where the system gave random bytes for one.
+/// What the program has of its machine: threads, a clock and memory; and the seed with which hashes
+/// of clients' values begin, where the system gave random bytes for one.
 #[derive(Clone, Copy)]
 pub struct Machine<'a, T> {
     pub rt: &'a T,
@@ -65,8 +67,9 @@ fn run_put<C: Connect, I: Input, W: Output, E: Output>(
     requires writes { CanFail (W.failures streams.old.output) }
     requires prints { CanFail (E.failures streams.old.faults) }
     ensures { PutsForm form.entry (connector.new ≡ connector.old)
-        (λ ends. C.connects connector.old putting.entry.port ends connector.new) putting.entry.target result
-        (standard_of I.Input W.Output E.Output streams.old) (standard_of I.Input W.Output E.Output streams.new) }
+        (λ ends. C.connects connector.old putting.entry.port ends connector.new)
+        putting.entry.target result (standard_of I.Input W.Output E.Output streams.old)
+        (standard_of I.Input W.Output E.Output streams.new) }
 {
     let (input, output, faults) = (&mut streams.input, &mut streams.output, &mut streams.faults);
     match form {
@@ -97,9 +100,10 @@ where
     requires writes { CanFail (W.failures streams.old.output) }
     requires prints { CanFail (E.failures streams.old.faults) }
     requires owed { AlwaysPays L.owed }
-    ensures { ServesWith machine.entry.seed L.listens (AcceptsThenCloses L.accepts L.closes) L.shares
-        serving result listener.old listener.new
-        (standard_of I.Input W.Output E.Output streams.old) (standard_of I.Input W.Output E.Output streams.new) }
+    ensures { ServesWith machine.entry.seed L.listens
+        (AcceptsThenCloses L.accepts L.closes) L.shares serving result listener.old listener.new
+        (standard_of I.Input W.Output E.Output streams.old)
+        (standard_of I.Input W.Output E.Output streams.new) }
 {
     let Some(seed) = machine.seed else {
         return end_by_fault(&mut streams.faults, Fault::Transport);
@@ -130,7 +134,8 @@ fn run_pipe<T: Threads + Wait + Sync, I: Input, W: Output, E: Output>(
     requires writes { CanFail (W.failures streams.old.output) }
     requires prints { CanFail (E.failures streams.old.faults) }
     ensures { PipesWith machine.entry.seed (piped_by parts workers) result
-        (standard_of I.Input W.Output E.Output streams.old) (standard_of I.Input W.Output E.Output streams.new) }
+        (standard_of I.Input W.Output E.Output streams.old)
+        (standard_of I.Input W.Output E.Output streams.new) }
 {
     let Some(seed) = machine.seed else {
         return end_by_fault(&mut streams.faults, Fault::Transport);
@@ -176,9 +181,11 @@ where
     C::Writer: Send,
     requires writes { CanFail (W.failures streams.old.output) }
     requires prints { CanFail (E.failures streams.old.faults) }
-    ensures { QueriesWith machine.entry.seed (λ one ends other. C.connects one asked.entry.port ends other) C.shares
-        asked.entry.streams asked.entry.sql.now asked.entry.format result connector.old connector.new
-        (standard_of I.Input W.Output E.Output streams.old) (standard_of I.Input W.Output E.Output streams.new) }
+    ensures { QueriesWith machine.entry.seed
+        (λ one ends other. C.connects one asked.entry.port ends other) C.shares asked.entry.streams
+        asked.entry.sql.now asked.entry.format result connector.old connector.new
+        (standard_of I.Input W.Output E.Output streams.old)
+        (standard_of I.Input W.Output E.Output streams.new) }
 {
     let Some(seed) = machine.seed else {
         return end_by_fault(&mut streams.faults, Fault::Transport);
@@ -200,8 +207,8 @@ where
     )
 }
 
-/// Does what a request asks for: a server keeps its tables in the cell that was opened. Where there is no seed, a server and a query
-/// print F22.
+/// Does what a request asks for: a server keeps its tables in the cell that was opened. Where there
+/// is no seed, a server and a query print F22.
 pub fn run<T, C, L, I: Input, W: Output, E: Output>(
     machine: Machine<'_, T>,
     opened: Opened,
@@ -234,11 +241,15 @@ where
     requires owed { AlwaysPays L.owed }
 
     // A client's request is asked of a server, and a server's is served.
-    ensures asks { CallsServer machine.entry.seed C.connects C.shares request.entry result network.old.connector network.new.connector
-        (standard_of I.Input W.Output E.Output streams.old) (standard_of I.Input W.Output E.Output streams.new) }
-    ensures serves { ServesClients machine.entry.seed L.listens (AcceptsThenCloses L.accepts L.closes) L.shares
+    ensures asks { CallsServer machine.entry.seed C.connects C.shares request.entry result
+        network.old.connector network.new.connector
+        (standard_of I.Input W.Output E.Output streams.old)
+        (standard_of I.Input W.Output E.Output streams.new) }
+    ensures serves { ServesClients machine.entry.seed L.listens
+        (AcceptsThenCloses L.accepts L.closes) L.shares
         request.entry result network.old.listener network.new.listener
-        (standard_of I.Input W.Output E.Output streams.old) (standard_of I.Input W.Output E.Output streams.new) }
+        (standard_of I.Input W.Output E.Output streams.old)
+        (standard_of I.Input W.Output E.Output streams.new) }
 {
     let (connector, listener) = (&mut network.connector, &mut network.listener);
     match request {

@@ -33,8 +33,8 @@ fn push_names(text: &mut String, schema: Option<&Schema>) -> Result<(), AllocErr
     Ok(())
 }
 
-// `HEX`: what a reader says to each message of a stream, and the columns that it knows then, with the reader and
-// without.
+// `HEX`: what a reader says to each message of a stream, and the columns that it knows then, with
+// the reader and without.
 fn reader(alloc: Global, bytes: &[u8]) -> Result<String, Fault> {
     let stream = Bytes::copy_from_slice(alloc, bytes)?;
     let mut text = String::new(alloc);
@@ -68,8 +68,8 @@ fn batch(alloc: Global, bytes: &[u8]) -> Result<Batch, Fault>
     Ok(Batch::new(columns, rows))
 }
 
-// `HEX`: what is written of a batch of numbers that is sized once: how long the body is, the body after a 9, and what
-// the header says of the whole message.
+// `HEX`: what is written of a batch of numbers that is sized once: how long the body is, the body
+// after a 9, and what the header says of the whole message.
 fn sized(alloc: Global, bytes: &[u8]) -> Result<String, Fault> {
     let batch = batch(alloc, bytes)?;
     let sized = SizedBatch::new(alloc, &batch)?.ok_or(Fault::LimitReached)?;

@@ -91,7 +91,8 @@ fn short_word(alloc: Global, row: &Row) -> Result<String, Fault> {
     )
 }
 
-// `HEX FIRST SECOND LEN`: what the bits of the first half of the bytes make with those of the second.
+// `HEX FIRST SECOND LEN`: what the bits of the first half of the bytes make with those of the
+// second.
 fn joined(alloc: Global, case: &str, row: &Row) -> Result<String, Fault> {
     let [first, second, len] = row.numbers.as_slice() else {
         return Err(Fault::BadFrame);

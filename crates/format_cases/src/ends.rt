@@ -1,4 +1,5 @@
-//! Ends that fail: system calls that are interrupted or refused, writes that fail, and the longest records.
+//! Ends that fail: system calls that are interrupted or refused, writes that fail, and the longest
+//! records.
 
 ghost use Rattle.std.specs.Prelude.{◌≡◌, ◌≤◌, IfOk, length};
 ghost use Rattle.grpc_frame.specs.Ends.{CanFail};
@@ -14,8 +15,8 @@ use std::alloc::{AllocError, Global};
 use std::io;
 use std::io::{ErrorKind, Read, Write};
 
-// An end of the system's. Of each call its script has a byte: 0 where it goes well and moves one byte, 1 where it is
-// interrupted, and another where it is refused.
+// An end of the system's. Of each call its script has a byte: 0 where it goes well and moves one
+// byte, 1 where it is interrupted, and another where it is refused.
 #[derive(Drop)]
 struct Scripted<'a> {
     script: &'a [u8],
@@ -102,8 +103,8 @@ fn reads(alloc: Global, script: &[u8]) -> Result<String, Fault> {
     told_calls(alloc, done, Input::failures(&input), input.get_ref().moved)
 }
 
-// `HEX`: a piece of three bytes, written by a script. The last call of a piece that is written whole is the flush: a
-// piece whose flush fails is not written.
+// `HEX`: a piece of three bytes, written by a script. The last call of a piece that is written
+// whole is the flush: a piece whose flush fails is not written.
 fn writes(alloc: Global, script: &[u8]) -> Result<String, Fault> {
     let mut output = Counted::new(Scripted::new(script));
     let done = output.write(b"abc");
@@ -128,8 +129,8 @@ fn write_call<W: Output>(alloc: Global, out: &mut W) -> Result<(), Fault>
     outbox.flush(out)
 }
 
-// `HEX CALLS`: a call whose write of this number fails: whether that shows, how many failures are counted, and whether
-// what is written is a beginning of the whole call, and all of it.
+// `HEX CALLS`: a call whose write of this number fails: whether that shows, how many failures are
+// counted, and whether what is written is a beginning of the whole call, and all of it.
 fn failed_write(alloc: Global, whole: &[u8], calls: usize) -> Result<String, Fault> {
     let mut out = MemoryOutput::new(alloc).failing_after(calls as u64);
     let fails = write_call(alloc, &mut out).is_err();
@@ -146,8 +147,8 @@ fn failed_write(alloc: Global, whole: &[u8], calls: usize) -> Result<String, Fau
     )
 }
 
-// `HEX CALLS`: the record in front of an input that comes in pieces of four bytes, whose read of this number fails:
-// whether that shows, and how many failures are counted.
+// `HEX CALLS`: the record in front of an input that comes in pieces of four bytes, whose read of
+// this number fails: whether that shows, and how many failures are counted.
 fn failed_read(alloc: Global, bytes: &[u8], calls: usize) -> Result<String, Fault> {
     let mut input = MemoryInput::new(bytes)
         .in_pieces_of(4)

@@ -52,7 +52,8 @@ fn each_call(alloc: Global) -> Result<String, Fault> {
     told(alloc, &[Word::Bytes(&out)])
 }
 
-// Content of some length, since short content shows little: how many bytes are written, and the first of them.
+// Content of some length, since short content shows little: how many bytes are written, and the
+// first of them.
 fn large_content(alloc: Global, content: &[u8]) -> Result<String, Fault> {
     let mut out = Vec::new(alloc);
     put_bytes(&mut out, 1000, content)?;

@@ -1,5 +1,6 @@
-//! Reads rows, one a line, and prints the answer of each. `README.md` describes the rows, and `vectors/formats/make.py`
-//! writes them and their answers, from what other tools and hands say of them.
+//! Reads rows, one a line, and prints the answer of each. `README.md` describes the rows, and
+//! `vectors/formats/make.py` writes them and their answers, from what other tools and hands say of
+//! them.
 #![tactic(auto)]
 
 mod batches;

@@ -185,7 +185,8 @@ fn long_command(alloc: Global, len: usize) -> Result<String, Fault> {
     told(alloc, &[Word::Text(Command::read(Some(descriptor))?.name)])
 }
 
-// A header and a body of so many bytes, written and read: the header, how long the body is, and whether it is the same.
+// A header and a body of so many bytes, written and read: the header, how long the body is, and
+// whether it is the same.
 fn large_data(alloc: Global, len: usize) -> Result<String, Fault> {
     let body = vec![in alloc; 7u8; len]?;
     let mut out = Vec::new(alloc);

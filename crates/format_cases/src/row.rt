@@ -11,7 +11,8 @@ pub struct Row {
 }
 
 impl Row {
-    /// The row of a text: the bytes in hex, where a dash stands for none, and each number in a word of its own.
+    /// The row of a text: the bytes in hex, where a dash stands for none, and each number in a word
+    /// of its own.
     pub fn read(alloc: Global, text: &str) -> Result<Row, Fault> {
         let (digits, words) = text.split_once(' ').unwrap_or((text, ""));
         Ok(Row {

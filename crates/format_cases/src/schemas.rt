@@ -29,7 +29,8 @@ pub fn kind_name(kind: HeaderKind) -> &'static str {
     }
 }
 
-// What our own writer makes of a schema, read as a message: its kind, how long its body is, and its columns.
+// What our own writer makes of a schema, read as a message: its kind, how long its body is, and its
+// columns.
 fn written(alloc: Global, bytes: &[u8]) -> Result<String, Fault> {
     let header = write_schema(alloc, &read_schema(alloc, bytes)?)?;
     let message = read_message(&header)?;

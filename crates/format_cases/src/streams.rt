@@ -14,7 +14,8 @@ fn push_message(alloc: Global, text: &mut String, message: &IpcMessage) -> Resul
     text.push_str(&hex::encode(alloc, message.body.as_slice())?)
 }
 
-/// How many messages a stream has, and each of them. They share the stream's bytes: where they do not, that is said.
+/// How many messages a stream has, and each of them. They share the stream's bytes: where they do
+/// not, that is said.
 pub fn messages(alloc: Global, digits: &str) -> Result<String, Fault> {
     let stream = Bytes::from_vec(read_bytes(alloc, digits)?)?;
     let messages = ipc_messages(alloc, &stream)?;

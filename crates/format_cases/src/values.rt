@@ -62,8 +62,8 @@ fn long_chain(alloc: Global, levels: usize) -> Result<String, Fault> {
     told(alloc, &[Word::Text("dropped")])
 }
 
-// Trees of so many levels to the left are looked at as far as the leftmost: whether `$0 = 2 AND $0 = 3 AND ..` is false
-// and `$0 = 3 OR $0 = 2 OR ..` true where the column is 3.
+// Trees of so many levels to the left are looked at as far as the leftmost: whether
+// `$0 = 2 AND $0 = 3 AND ..` is false and `$0 = 3 OR $0 = 2 OR ..` true where the column is 3.
 fn chain_truths(alloc: Global, levels: usize) -> Result<String, Fault> {
     let mut all = first_equals(2);
     let mut any = first_equals(3);

@@ -14,7 +14,7 @@ pub record IsRead {T A : Type 0} (r : Reader T A) (L : Language T A) (ts : List 
   pub spells : L front v
   pub local : (more : List T) → first_of more ≡ first_of rest → r (front ++ more) ≡ Read v more
 
--- The tokens before the place begin a sentence of L, and it sticks at the place whatever stands behind.
+-- The tokens before the place begin a sentence of L, and it sticks at the place whatever stands after.
 pub record IsStuck {T A : Type 0} (r : Reader T A) (L : Language T A) (ts : List T) (place : List T) : Type 0 where
   pub front : List T
   pub splits : ts ≡ front ++ place
@@ -23,7 +23,7 @@ pub record IsStuck {T A : Type 0} (r : Reader T A) (L : Language T A) (ts : List
   pub goes_on : L (front ++ more) value
   pub local : (more : List T) → first_of more ≡ first_of place → r (front ++ more) ≡ Stuck more
 
--- The tokens up to an opener begin a sentence of M, and it goes no further whatever stands behind.
+-- The tokens up to an opener begin a sentence of M, and it goes no further whatever stands after.
 pub record IsOver {T A : Type 0} (r : Reader T A) (M : Language T A) (ts : List T) : Type 0 where
   pub front : List T
   pub opener : T

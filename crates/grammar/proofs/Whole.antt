@@ -35,7 +35,7 @@ after_many {K} {V} {A} M p f so st ts rest (v ∷ vs) q fol = go q.0 q.1 q.2 q.3
     go [] r e a = absurd (so v a)
     go (t ∷ l) r e a = rw e (or-inl (p t.0) (f t.0) (st t l v a))
 
--- behind an opener, where one may be opened
+-- after an opener, where one may be opened
 inside : {K V P A : Type 0} (D : Option (Reader (K × V) P)) (p : K → Bool) (r : Reader (K × V) A) (t : K × V) (ts : List (K × V)) (v : A) (rest : List (K × V)) → is_some D ≡ true → p t.0 ≡ true → r ts ≡ Read v rest → entered D p r (t ∷ ts) ≡ Read v rest
 unfolding token
 inside None p r t ts v rest o e h = cc

@@ -1,5 +1,6 @@
 -- Inside: reading by a grammar from the left, with one token to look ahead at.
-use Rattle.std.specs.Prelude.{ℕ, zero, suc, Bool, true, false, cond, ◌&&◌, ◌||◌, List, [], ◌∷◌, length, Option, Some, None}
+use Rattle.std.specs.Prelude.{ℕ, zero, suc, Bool, true, false, cond, ◌&&◌, ◌||◌, List, [], ◌∷◌}
+use Rattle.std.specs.Prelude.{length, Option, Some, None}
 use Rattle.grammar.specs.Rule.{Rule, one, empty, both, either, many, make, opened, again}
 
 pub data Outcome (T : Type 0) (A : Type 0) : Type 0 where
@@ -58,7 +59,8 @@ taken p f ts = and_then (token p ts) (λ t us. kept (f t) ts us)
 abbrev pub followed : {T A B : Type 0} → Reader T A → Reader T B → Reader T (A × B)
 followed r s ts = and_then (r ts) (λ x us. and_then (s us) (λ y vs. Read (x, y) vs))
 
-abbrev pub chosen : {K V A : Type 0} → (K → Bool) → Reader (K × V) A → Reader (K × V) A → Reader (K × V) A
+abbrev pub chosen : {K V A : Type 0} → (K → Bool) → Reader (K × V) A → Reader (K × V) A →
+    Reader (K × V) A
 chosen p r s ts = cond (begins p ts) (r ts) (s ts)
 
 abbrev pub made : {T A B : Type 0} → (A → B) → Reader T A → Reader T B
@@ -66,7 +68,8 @@ made f r ts = and_then (r ts) (λ x us. Read (f x) us)
 
 abbrev pub repeats : {K V A : Type 0} → (K → Bool) → Reader (K × V) A → ℕ → Reader (K × V) (List A)
 repeats p r zero ts = Read [] ts
-repeats p r (suc n) ts = cond (begins p ts) (and_then (r ts) (λ v us. and_then (repeats p r n us) (λ vs ws. Read (v ∷ vs) ws))) (Read [] ts)
+repeats p r (suc n) ts = cond (begins p ts)
+    (and_then (r ts) (λ v us. and_then (repeats p r n us) (λ vs ws. Read (v ∷ vs) ws))) (Read [] ts)
 
 abbrev pub repeated : {K V A : Type 0} → (K → Bool) → Reader (K × V) A → Reader (K × V) (List A)
 repeated p r ts = repeats p r (length ts) ts
@@ -77,9 +80,11 @@ nested None ts = Over
 nested (Some r) ts = r ts
 
 -- an opener and what is within it, where one may be opened
-abbrev pub entered : {K V P A : Type 0} → Option (Reader (K × V) P) → (K → Bool) → Reader (K × V) A → Reader (K × V) A
+abbrev pub entered : {K V P A : Type 0} → Option (Reader (K × V) P) → (K → Bool) →
+    Reader (K × V) A → Reader (K × V) A
 entered {A = A} None p r ts = Over
-entered {A = A} (Some d) p r ts = made (λ (x : Unit {0} × A). x.1) (followed (taken p (λ t. Some tt)) r) ts
+entered {A = A} (Some d) p r ts =
+    made (λ (x : Unit {0} × A). x.1) (followed (taken p (λ t. Some tt)) r) ts
 
 abbrev pub reads : {K V P A : Type 0} → Option (Reader (K × V) P) → Rule K V P A → Reader (K × V) A
 reads D (one p f s) = taken p f

@@ -10,7 +10,8 @@ use Rattle.group_slots.specs.Counting.{AreWithin, CanCount, stepped}
 use Rattle.group_slots.specs.Held.{tallies_in}
 
 -- the tallies are those of before, and of no rows for each new group, with the rows added
-pub record IsAdded (item : Aggregate) (columns : List ColumnAt) (rows groups : List ℕ) (found : ℕ) (before after : List Tally) : Type 0 where
+pub record IsAdded (item : Aggregate) (columns : List ColumnAt) (rows groups : List ℕ) (found : ℕ)
+    (before after : List Tally) : Type 0 where
   pub padded : List Tally
   pub long : length padded ≡ found
   pub same : (group : ℕ) → group < found → get_or padded group no_rows ≡ get_or before group no_rows
@@ -24,14 +25,18 @@ lists_of tallies = map tallies_in tallies
 pub record CanCountAll (items : List Aggregate) (columns : List ColumnAt) : Type 0 where
   pub each : (item : ℕ) → item < length items → CanCount (get_or items item (Key 0)) columns
 
--- there is a list of tallies for each item, one for each group that was found, of no more than so many rows
-pub record IsKept (items : List Aggregate) (found : ℕ) (count : ℕ) (tallies : List (List Tally)) : Type 0 where
+-- there is a list of tallies for each item, one for each group that was found, of no more than so
+-- many rows
+pub record IsKept (items : List Aggregate) (found : ℕ) (count : ℕ)
+    (tallies : List (List Tally)) : Type 0 where
   pub many : length tallies ≡ length items
   pub long : (item : ℕ) → item < length items → length (get_or tallies item []) ≡ found
   pub small : (item : ℕ) → item < length items → AreWithin count (get_or tallies item [])
 
 -- the rows are added to the tallies of each item before a place, and the others are as they were
-pub record AreAdded (items : List Aggregate) (columns : List ColumnAt) (rows groups : List ℕ) (found fed : ℕ) (before after : List (List Tally)) (place : ℕ) : Type 0 where
-  pub added : (item : ℕ) → item < place → IsAdded (get_or items item (Key 0)) columns rows groups found (get_or before item []) (get_or after item [])
+pub record AreAdded (items : List Aggregate) (columns : List ColumnAt) (rows groups : List ℕ)
+    (found fed : ℕ) (before after : List (List Tally)) (place : ℕ) : Type 0 where
+  pub added : (item : ℕ) → item < place → IsAdded (get_or items item (Key 0)) columns rows groups
+      found (get_or before item []) (get_or after item [])
   pub small : (item : ℕ) → item < place → AreWithin (fed + length rows) (get_or after item [])
   pub left : (item : ℕ) → place ≤ item → get_or after item [] ≡ get_or before item []

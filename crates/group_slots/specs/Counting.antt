@@ -1,5 +1,6 @@
 -- Tallies that are small, and tallies as the rows go by.
-use Rattle.std.specs.Prelude.{◌≡◌, ◌≤◌, ◌<◌, ◌≤ℤ◌, ℕ, zero, suc, ◌*◌, ◌^◌, ℤ, pos, neg_ℤ, List, length, get_or, slice_get, slice_set, Some}
+use Rattle.std.specs.Prelude.{◌≡◌, ◌≤◌, ◌<◌, ◌≤ℤ◌, ℕ, zero, suc, ◌*◌, ◌^◌, ℤ, pos, neg_ℤ, List}
+use Rattle.std.specs.Prelude.{length, get_or, slice_get, slice_set, Some}
 use Rattle.std.specs.List.{sum_by}
 use Rattle.arrow_schema.specs.declared.data_type.IntegerType.{IntegerType}
 use Rattle.arrow_schema.specs.declared.data_type.DataType.TheVariants.{Integer}
@@ -40,11 +41,14 @@ abbrev pub CanCount : Aggregate → List ColumnAt → Type 0
 CanCount (Key place) columns = Unit {0}
 CanCount CountRows columns = Unit {0}
 CanCount (Count column) columns = column < length columns
-CanCount (Sum column) columns = (column < length columns) × ((found : ColumnAt) → slice_get columns column ≡ Some found → IsIntegers found.layout)
+CanCount (Sum column) columns = (column < length columns)
+    × ((found : ColumnAt) → slice_get columns column ≡ Some found → IsIntegers found.layout)
 
 -- the tallies of groups after the first `fed` of some rows, each of which adds to its group's
 abbrev pub stepped : Aggregate → List ColumnAt → List ℕ → List ℕ → List Tally → ℕ → List Tally
 stepped item columns groups rows tallies zero = tallies
 stepped item columns groups rows tallies (suc fed) =
     slice_set (stepped item columns groups rows tallies fed) (get_or groups fed 0)
-    (added item (get_or (stepped item columns groups rows tallies fed) (get_or groups fed 0) no_rows) (row_of columns (get_or rows fed 0)))
+    (added item
+    (get_or (stepped item columns groups rows tallies fed) (get_or groups fed 0) no_rows)
+    (row_of columns (get_or rows fed 0)))

@@ -1,5 +1,6 @@
 -- Tallies as they are held.
-use Rattle.std.specs.Prelude.{◌≡◌, ◌<◌, ℕ, ◌-◌, pos, List, ◌++◌, length, map, get_or, take, replicate}
+use Rattle.std.specs.Prelude.{◌≡◌, ◌<◌, ℕ, ◌-◌, pos, List, ◌++◌, length, map, get_or, take}
+use Rattle.std.specs.Prelude.{replicate}
 use Rattle.group_slots.specs.declared.item_tallies.ItemTallies.{ItemTallies}
 use Rattle.group_slots.specs.declared.item_tallies.ItemTallies.TheVariants.{Counts, Sums}
 use Rattle.group_slots.specs.declared.tally.Tally.{Tally}

@@ -15,4 +15,5 @@ tallies_of pieces = map piece_tally pieces
 -- each tally has those rows more that the other at its place has
 pub record AreBoth (before others after : List Tally) : Type 0 where
   pub long : length after ≡ length before
-  pub each : (group : ℕ) → group < length before → get_or after group no_rows ≡ both (get_or before group no_rows) (get_or others group no_rows)
+  pub each : (group : ℕ) → group < length before →
+      get_or after group no_rows ≡ both (get_or before group no_rows) (get_or others group no_rows)

@@ -1,5 +1,6 @@
 -- Packed numbers of a column.
-use Rattle.std.specs.Prelude.{◌≡◌, ◌≤◌, ◌<◌, ℕ, ◌+◌, ◌*◌, ◌^◌, ℤ, Bool, if◌then◌else◌, List, length, Option, Some, None, unwrap_or}
+use Rattle.std.specs.Prelude.{◌≡◌, ◌≤◌, ◌<◌, ℕ, ◌+◌, ◌*◌, ◌^◌, ℤ, Bool, if◌then◌else◌, List, length}
+use Rattle.std.specs.Prelude.{Option, Some, None, unwrap_or}
 use Rattle.std.specs.Int.{w64, cast_unsigned}
 use Rattle.arrays.specs.Dictionary.{entry_at}
 use Rattle.group_slots.specs.declared.tags.Tag.{Tag}
@@ -36,11 +37,13 @@ slot_cell slots row = number_or_null (slot_is_valid slots row) (slot_number slot
 -- what the index of a row leads to in a dictionary
 abbrev pub entry_cell : Entries → ℕ → Value
 entry_cell entries row =
-    if slot_is_valid entries.slots row then unwrap_or (entry_at entries.dictionary.now (slot_number entries.slots row)) Null else Null
+    if slot_is_valid entries.slots row
+    then unwrap_or (entry_at entries.dictionary.now (slot_number entries.slots row)) Null else Null
 
 -- the tag of a number, where it is valid
 abbrev pub number_tag : Bool → ℤ → Tag
-number_tag valid number = if valid then record { key = cast_unsigned w64 number; kind = 2 } else record { key = 0; kind = 1 }
+number_tag valid number = if valid then record { key = cast_unsigned w64 number; kind = 2 }
+    else record { key = 0; kind = 1 }
 
 -- the packed numbers have room for so many rows, and their validity bits too
 pub record HaveRoom (slots : Slots) (rows : ℕ) : Type 0 where

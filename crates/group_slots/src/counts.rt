@@ -2,7 +2,8 @@
 
 ghost use Rattle.std.specs.Prelude.{◌≡◌, ◌≤◌, ◌<◌, ◌+◌, All, length};
 ghost use Rattle.scan_base.specs.Limits.{most_rows};
-ghost use Rattle.typed_plan.specs.declared.plan.Aggregate.TheVariants.{CountRows as CountAll, Count as CountOf};
+ghost use Rattle.typed_plan.specs.declared.plan.Aggregate.TheVariants.{CountRows as CountAll};
+ghost use Rattle.typed_plan.specs.declared.plan.Aggregate.TheVariants.{Count as CountOf};
 ghost use Rattle.scan_base.specs.Predicate.{cell_in};
 ghost use Rattle.arrays.specs.Batch.{row_of};
 ghost use Rattle.group_slots.specs.Counting.{AreWithin, CanCount, stepped};
@@ -20,7 +21,8 @@ pub(crate) fn count_rows(counts: &mut [u64], part: &Part<'_>)
     requires few { part.now.fed + length part.now.rows.now ≤ most_rows }
     requires small { AreWithin part.now.fed (count_tallies counts.old) }
     ensures stepped { count_tallies counts.new
-        ≡ stepped CountAll part.now.batch.now.columns part.now.groups.now part.now.rows.now (count_tallies counts.old) (length part.now.rows.now) }
+        ≡ stepped CountAll part.now.batch.now.columns part.now.groups.now part.now.rows.now
+        (count_tallies counts.old) (length part.now.rows.now) }
     ensures small { AreWithin (part.now.fed + length part.now.rows.now) (count_tallies counts.new) }
 {
     for k in 0..part.rows.len() {
@@ -38,7 +40,8 @@ pub(crate) fn count_values(counts: &mut [u64], column: usize, part: &Part<'_>)
     requires few { part.now.fed + length part.now.rows.now ≤ most_rows }
     requires small { AreWithin part.now.fed (count_tallies counts.old) }
     ensures stepped { count_tallies counts.new
-        ≡ stepped (CountOf column) part.now.batch.now.columns part.now.groups.now part.now.rows.now (count_tallies counts.old) (length part.now.rows.now) }
+        ≡ stepped (CountOf column) part.now.batch.now.columns part.now.groups.now part.now.rows.now
+        (count_tallies counts.old) (length part.now.rows.now) }
     ensures small { AreWithin (part.now.fed + length part.now.rows.now) (count_tallies counts.new) }
 {
     for k in 0..part.rows.len() {
@@ -51,7 +54,8 @@ pub(crate) fn count_values(counts: &mut [u64], column: usize, part: &Part<'_>)
 fn value_count(batch: &Batch, column: usize, row: usize) -> u64
     requires there { column < length batch.now.columns }
     requires within { row < batch.now.rows }
-    ensures counted { counted (count_tally 0) (cell_in (row_of batch.now.columns row) column) ≡ count_tally result }
+    ensures counted { counted (count_tally 0) (cell_in (row_of batch.now.columns row) column)
+        ≡ count_tally result }
     ensures one { result ≤ 1 }
 {
     match batch.columns()[column].value_at(row) {

@@ -6,7 +6,8 @@ ghost use Rattle.group_slots.specs.Held.{count_tallies, padded, tallies_in, AreB
 use crate::tally::Tally;
 use std::alloc::{AllocError, Global};
 
-/// For one item the tally of each group. Before the first sum the sums are 0, and only counts are held.
+/// For one item the tally of each group. Before the first sum the sums are 0, and only counts are
+/// held.
 #[derive(Drop)]
 pub enum ItemTallies {
     Counts(Vec<u64>),
@@ -27,7 +28,7 @@ impl ItemTallies {
         Ok(tallies)
     }
 
-    /// Of so many groups: those behind the own have no rows.
+    /// Of so many groups: those after the own have no rows.
     ///
     /// # Errors
     ///

@@ -32,8 +32,10 @@ fn add_rows(tallies: &mut ItemTallies, item: Aggregate, part: &Part<'_>) -> Resu
     requires few { part.now.fed + length part.now.rows.now ≤ most_rows }
     requires small { AreWithin part.now.fed (tallies_in tallies.old) }
     ensures stepped { OnOk result (tallies_in tallies.new
-        ≡ stepped item part.now.batch.now.columns part.now.groups.now part.now.rows.now (tallies_in tallies.old) (length part.now.rows.now)) }
-    ensures small { OnOk result (AreWithin (part.now.fed + length part.now.rows.now) (tallies_in tallies.new)) }
+        ≡ stepped item part.now.batch.now.columns part.now.groups.now part.now.rows.now
+        (tallies_in tallies.old) (length part.now.rows.now)) }
+    ensures small { OnOk result
+        (AreWithin (part.now.fed + length part.now.rows.now) (tallies_in tallies.new)) }
 {
     match tallies {
         ItemTallies::Counts(counts) => match item {
@@ -62,7 +64,8 @@ pub(crate) fn add_each(tallies: &mut [Tally], item: Aggregate, part: &Part<'_>)
     requires long { length part.now.groups.now ≡ length part.now.rows.now }
     requires few { part.now.fed + length part.now.rows.now ≤ most_rows }
     requires small { AreWithin part.now.fed tallies.old }
-    ensures stepped { tallies.new ≡ stepped item part.now.batch.now.columns part.now.groups.now part.now.rows.now tallies.old (length part.now.rows.now) }
+    ensures stepped { tallies.new ≡ stepped item part.now.batch.now.columns part.now.groups.now
+        part.now.rows.now tallies.old (length part.now.rows.now) }
     ensures small { AreWithin (part.now.fed + length part.now.rows.now) tallies.new }
 {
     for k in 0..part.rows.len() {
@@ -89,8 +92,10 @@ pub(crate) fn add_to(
     requires few { part.now.fed + length part.now.rows.now ≤ most_rows }
     requires grown { length (tallies_in tallies.old) ≤ found }
     requires small { AreWithin part.now.fed (tallies_in tallies.old) }
-    ensures added { OnOk result (IsAdded item part.now.batch.now.columns part.now.rows.now part.now.groups.now found (tallies_in tallies.old) (tallies_in tallies.new)) }
-    ensures small { OnOk result (AreWithin (part.now.fed + length part.now.rows.now) (tallies_in tallies.new)) }
+    ensures added { OnOk result (IsAdded item part.now.batch.now.columns part.now.rows.now
+        part.now.groups.now found (tallies_in tallies.old) (tallies_in tallies.new)) }
+    ensures small { OnOk result
+        (AreWithin (part.now.fed + length part.now.rows.now) (tallies_in tallies.new)) }
 {
     tallies.resize(found)?;
     add_rows(tallies, item, part)
@@ -112,10 +117,13 @@ pub fn add_all(
     requires grouped { All (λ group. group < found) part.now.groups.now }
     requires long { length part.now.groups.now ≡ length part.now.rows.now }
     requires few { part.now.fed + length part.now.rows.now ≤ most_rows }
-    requires kept { (before : ℕ) × (before ≤ found) × IsKept items.now before part.now.fed (lists_of tallies.old) }
-    ensures added { OnOk result (AreAdded items.now part.now.batch.now.columns part.now.rows.now part.now.groups.now found part.now.fed
-        (lists_of tallies.old) (lists_of tallies.new) (length items.now)) }
-    ensures kept { OnOk result (IsKept items.now found (part.now.fed + length part.now.rows.now) (lists_of tallies.new)) }
+    requires kept { (before : ℕ) × (before ≤ found)
+        × IsKept items.now before part.now.fed (lists_of tallies.old) }
+    ensures added { OnOk result
+        (AreAdded items.now part.now.batch.now.columns part.now.rows.now part.now.groups.now found
+        part.now.fed (lists_of tallies.old) (lists_of tallies.new) (length items.now)) }
+    ensures kept { OnOk result
+        (IsKept items.now found (part.now.fed + length part.now.rows.now) (lists_of tallies.new)) }
 {
     for item in 0..items.len() {
         add_to(&mut tallies[item], items[item], part, found)?;

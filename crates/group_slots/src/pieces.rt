@@ -43,7 +43,8 @@ impl Piece {
     // Adds a slot, and says whether 64 bits still hold the sum.
     fn add_slot(&mut self, valid: bool, number: i64) -> bool
         requires { self.old.count < most_rows }
-        ensures added { result ≡ true → piece_tally self.new ≡ summed (piece_tally self.old) (number_or_null valid number) }
+        ensures added { result ≡ true →
+            piece_tally self.new ≡ summed (piece_tally self.old) (number_or_null valid number) }
         ensures few { self.new.count ≤ self.old.count + 1 }
     {
         let (sum, holds) = sum_of(self.sum, number);
@@ -69,8 +70,8 @@ pub(crate) fn blank_pieces() -> [Piece; MOST_PIECES]
     [Piece::new(); MOST_PIECES]
 }
 
-/// Adds the number of each row to the piece of its group, where these are the numbers of the column, of a type, and says
-/// whether 64 bits hold each sum.
+/// Adds the number of each row to the piece of its group, where these are the numbers of the
+/// column, of a type, and says whether 64 bits hold each sum.
 pub(crate) fn fill_pieces<N: Number, V: Validity>(
     pieces: &mut [Piece],
     column: usize,
@@ -86,7 +87,8 @@ pub(crate) fn fill_pieces<N: Number, V: Validity>(
     requires few { length part.now.rows.now ≤ most_rows }
     requires small { AreWithin 0 (tallies_of pieces.old) }
     ensures stepped { result ≡ true → tallies_of pieces.new
-        ≡ stepped (SumOf column) part.now.batch.now.columns part.now.groups.now part.now.rows.now (tallies_of pieces.old) (length part.now.rows.now) }
+        ≡ stepped (SumOf column) part.now.batch.now.columns part.now.groups.now part.now.rows.now
+        (tallies_of pieces.old) (length part.now.rows.now) }
     ensures small { result ≡ true → AreWithin (length part.now.rows.now) (tallies_of pieces.new) }
 {
     let mut holds = true;

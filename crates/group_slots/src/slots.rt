@@ -5,9 +5,11 @@ ghost use Rattle.arrow_schema.specs.declared.data_type.IntegerType.{IntegerType 
 ghost use Rattle.arrow_schema.specs.declared.data_type.IntegerType.TheVariants as integer;
 ghost use Rattle.arrays.specs.Number.{byte_width, integer_at};
 ghost use Rattle.arrays.specs.Column.{slot_of};
-ghost use Rattle.arrays.specs.declared.layout.Layout.TheVariants.{Indices as IndicesLayout, Integers as IntegersLayout};
+ghost use Rattle.arrays.specs.declared.layout.Layout.TheVariants.{Indices as IndicesLayout};
+ghost use Rattle.arrays.specs.declared.layout.Layout.TheVariants.{Integers as IntegersLayout};
 ghost use Rattle.arrays.specs.Indices.{AreIndices};
-ghost use Rattle.group_slots.specs.Slots.{HaveRoom, entry_cell, slot_cell, slot_is_valid, slot_number};
+ghost use Rattle.group_slots.specs.Slots.{HaveRoom, entry_cell, slot_cell, slot_is_valid};
+ghost use Rattle.group_slots.specs.Slots.{slot_number};
 
 use arrays::{Cells, Column, Dictionary, Element, Indices, Integers};
 use arrow_schema::IntegerType;
@@ -79,7 +81,8 @@ impl Number for u32 {
     }
 }
 
-/// The packed numbers of a column, their type, which of them are valid, and the place of its first row among them.
+/// The packed numbers of a column, their type, which of them are valid, and the place of its first
+/// row among them.
 #[derive(Clone, Copy, Drop)]
 pub struct Slots<'a> {
     pub kind: IntegerType,

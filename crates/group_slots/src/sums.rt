@@ -25,7 +25,8 @@ pub(crate) fn sum_rows(tallies: &mut [Tally], column: usize, part: &Part<'_>)
     requires long { length part.now.groups.now ≡ length part.now.rows.now }
     requires few { part.now.fed + length part.now.rows.now ≤ most_rows }
     requires small { AreWithin part.now.fed tallies.old }
-    ensures stepped { tallies.new ≡ stepped (SumOf column) part.now.batch.now.columns part.now.groups.now part.now.rows.now tallies.old (length part.now.rows.now) }
+    ensures stepped { tallies.new ≡ stepped (SumOf column) part.now.batch.now.columns
+        part.now.groups.now part.now.rows.now tallies.old (length part.now.rows.now) }
     ensures small { AreWithin (part.now.fed + length part.now.rows.now) tallies.new }
 {
     let numbers = &part.batch.columns()[column];
@@ -45,7 +46,8 @@ fn sum_kind(tallies: &mut [Tally], column: usize, slots: &Slots<'_>, part: &Part
     requires long { length part.now.groups.now ≡ length part.now.rows.now }
     requires few { part.now.fed + length part.now.rows.now ≤ most_rows }
     requires small { AreWithin part.now.fed tallies.old }
-    ensures stepped { tallies.new ≡ stepped (SumOf column) part.now.batch.now.columns part.now.groups.now part.now.rows.now tallies.old (length part.now.rows.now) }
+    ensures stepped { tallies.new ≡ stepped (SumOf column) part.now.batch.now.columns
+        part.now.groups.now part.now.rows.now tallies.old (length part.now.rows.now) }
     ensures small { AreWithin (part.now.fed + length part.now.rows.now) tallies.new }
 {
     match slots.kind {
@@ -60,7 +62,8 @@ fn sum_kind(tallies: &mut [Tally], column: usize, slots: &Slots<'_>, part: &Part
     }
 }
 
-// Adds the number of each row to the tally of its group, where these are the numbers of the column, of a type.
+// Adds the number of each row to the tally of its group, where these are the numbers of the column,
+// of a type.
 fn sum_slots<N: Number>(tallies: &mut [Tally], column: usize, slots: &Slots<'_>, part: &Part<'_>)
     requires kind { slots.now.kind ≡ N.kind }
     requires slots { AreSlots slots.now column part.now.batch.now }
@@ -69,7 +72,8 @@ fn sum_slots<N: Number>(tallies: &mut [Tally], column: usize, slots: &Slots<'_>,
     requires long { length part.now.groups.now ≡ length part.now.rows.now }
     requires few { part.now.fed + length part.now.rows.now ≤ most_rows }
     requires small { AreWithin part.now.fed tallies.old }
-    ensures stepped { tallies.new ≡ stepped (SumOf column) part.now.batch.now.columns part.now.groups.now part.now.rows.now tallies.old (length part.now.rows.now) }
+    ensures stepped { tallies.new ≡ stepped (SumOf column) part.now.batch.now.columns
+        part.now.groups.now part.now.rows.now tallies.old (length part.now.rows.now) }
     ensures small { AreWithin (part.now.fed + length part.now.rows.now) tallies.new }
 {
     match slots.validity {
@@ -93,7 +97,8 @@ fn sum_valid<N: Number, V: Validity>(
     requires long { length part.now.groups.now ≡ length part.now.rows.now }
     requires few { part.now.fed + length part.now.rows.now ≤ most_rows }
     requires small { AreWithin part.now.fed tallies.old }
-    ensures stepped { tallies.new ≡ stepped (SumOf column) part.now.batch.now.columns part.now.groups.now part.now.rows.now tallies.old (length part.now.rows.now) }
+    ensures stepped { tallies.new ≡ stepped (SumOf column) part.now.batch.now.columns
+        part.now.groups.now part.now.rows.now tallies.old (length part.now.rows.now) }
     ensures small { AreWithin (part.now.fed + length part.now.rows.now) tallies.new }
 {
     if tallies.len() <= MOST_PIECES && tallies.len() <= part.rows.len() / LEAST_ROWS {
@@ -102,7 +107,8 @@ fn sum_valid<N: Number, V: Validity>(
     sum_each::<N, V>(tallies, column, slots, part)
 }
 
-// The same in pieces, of few groups. The table of pieces is large, so that it stays out of its callers.
+// The same in pieces, of few groups. The table of pieces is large, so that it stays out of its
+// callers.
 #[inline(never)]
 fn sum_in_pieces<N: Number, V: Validity>(
     tallies: &mut [Tally],
@@ -119,7 +125,8 @@ fn sum_in_pieces<N: Number, V: Validity>(
     requires long { length part.now.groups.now ≡ length part.now.rows.now }
     requires few { part.now.fed + length part.now.rows.now ≤ most_rows }
     requires small { AreWithin part.now.fed tallies.old }
-    ensures stepped { tallies.new ≡ stepped (SumOf column) part.now.batch.now.columns part.now.groups.now part.now.rows.now tallies.old (length part.now.rows.now) }
+    ensures stepped { tallies.new ≡ stepped (SumOf column) part.now.batch.now.columns
+        part.now.groups.now part.now.rows.now tallies.old (length part.now.rows.now) }
     ensures small { AreWithin (part.now.fed + length part.now.rows.now) tallies.new }
 {
     let mut blank = blank_pieces();
@@ -145,7 +152,8 @@ fn sum_each<N: Number, V: Validity>(
     requires long { length part.now.groups.now ≡ length part.now.rows.now }
     requires few { part.now.fed + length part.now.rows.now ≤ most_rows }
     requires small { AreWithin part.now.fed tallies.old }
-    ensures stepped { tallies.new ≡ stepped (SumOf column) part.now.batch.now.columns part.now.groups.now part.now.rows.now tallies.old (length part.now.rows.now) }
+    ensures stepped { tallies.new ≡ stepped (SumOf column) part.now.batch.now.columns
+        part.now.groups.now part.now.rows.now tallies.old (length part.now.rows.now) }
     ensures small { AreWithin (part.now.fed + length part.now.rows.now) tallies.new }
 {
     for k in 0..part.rows.len() {

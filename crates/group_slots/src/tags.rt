@@ -1,6 +1,7 @@
 //! What tells the keys of one column apart.
 
-ghost use Rattle.std.specs.Prelude.{◌≡◌, ◌≢◌, ◌≤◌, ◌<◌, ◌+◌, ◌*◌, ◌^◌, ◌%◌, ℕ, length, slice_range, if◌then◌else◌};
+ghost use Rattle.std.specs.Prelude.{◌≡◌, ◌≢◌, ◌≤◌, ◌<◌, ◌+◌, ◌*◌, ◌^◌, ◌%◌, ℕ, length, slice_range};
+ghost use Rattle.std.specs.Prelude.{if◌then◌else◌};
 ghost use Rattle.byteorder.specs.Endian.{little_from};
 ghost use Rattle.scan_base.specs.declared.value.Value.{Value as Cell};
 ghost use Rattle.scan_base.specs.declared.value.Value.TheVariants.{Text as TextOf};
@@ -174,7 +175,8 @@ impl<'a> TextTags<'a> {
 fn text_tag(bytes: &[u8], begin: usize, end: usize) -> Tag
     requires ordered { begin ≤ end }
     requires within { end ≤ length bytes.now }
-    ensures { result.kind ≢ 0 → value_tagged result.kind result.key ≡ TextOf (slice_range bytes.now begin end) }
+    ensures { result.kind ≢ 0 →
+        value_tagged result.kind result.key ≡ TextOf (slice_range bytes.now begin end) }
 {
     let len = end - begin;
     if len > 8 {

@@ -13,7 +13,8 @@ use arrays::{Batch, Cells, Column};
 use scan_base::ValueRef;
 use typed_plan::Aggregate;
 
-/// What is kept of a group's rows for one item: how many rows or values it counts, and the sum of the values.
+/// What is kept of a group's rows for one item: how many rows or values it counts, and the sum of
+/// the values.
 #[derive(Clone, Copy, Drop)]
 pub struct Tally {
     pub count: u64,

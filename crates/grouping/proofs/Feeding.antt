@@ -76,7 +76,7 @@ pub keys_there : (types : List DataType) (keys : List ℕ) (columns : List Colum
     list_all (λ key. nat_lt key (length types)) keys ≡ true → list_all (λ key. nat_lt key (length columns)) keys ≡ true
 keys_there types keys columns are there = subst (λ n. list_all (λ key. nat_lt key n) keys ≡ true) (as_many types columns are) there
 
--- the groups of rows, and of more behind them
+-- the groups of rows, and of more after them
 pub fed_holds : (before after : GroupsAt) (columns : List ColumnAt) (rows : List ℕ) (earlier : List Row) →
     after.keys ≡ before.keys → after.items ≡ before.items → after.count ≡ before.count + length rows →
     length after.tallies ≡ length before.items →

@@ -343,7 +343,7 @@ range_two f a (suc m) n k is =
     let more : suc (m + n) ≡ suc m + n = omega arith in
     ap (λ ys. f a ∷ ys) (range_two f (a + 1) m n k (omega arith)) ∙ ap (λ (c : ℕ). map f (range_with_len a c)) more
 
--- the numbers behind the first ones
+-- the numbers after the first ones
 range_left : {Y : Type 0} (f : ℕ → Y) (a k n : ℕ) → k ≤ n → drop k (map f (range_with_len a n)) ≡ map f (range_with_len (a + k) (n - k))
 range_left f a zero n low =
     let same : a ≡ a + 0 = omega arith in
@@ -356,7 +356,7 @@ range_left f a (suc k) (suc n) low =
     range_left f (a + 1) k n (omega arith)
     ∙ ap (λ (b : ℕ). map f (range_with_len b (n - k))) same ∙ ap (λ (m : ℕ). map f (range_with_len (a + suc k) m)) all
 
--- the batch of the next groups, and the groups behind them
+-- the batch of the next groups, and the groups after them
 pub next_given : (groups : GroupsAt) (from most : ℕ) (batch : BatchAt) → from + most ≤ length groups.found → IsNextOf groups from most batch →
     drop from (answer_rows groups) ≡ rows_of batch ++ drop (from + batch.rows) (answer_rows groups)
 next_given groups from most batch within next =

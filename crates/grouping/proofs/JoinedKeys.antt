@@ -1,4 +1,4 @@
--- Keys of other rows that are found behind those of rows.
+-- Keys of other rows that are found after those of rows.
 use Rattle.std.proofs.Common.{◌≡◌, ◌≤◌, ◌<◌, ℕ, zero, suc, ◌+◌, Bool, true, false, List, [], ◌∷◌, ◌++◌, All, length, map, get_or, take, refl, sym, ap, ◌∙◌, subst, arith, below_more}
 use Rattle.std.specs.Prelude.{nat_eq}
 use Rattle.std.specs.List.{list_any}
@@ -80,7 +80,7 @@ insert_through a b x = by (list_any (same_key x) b) refl
         rw e (sym (inserted_again (insert_all same_key a b) x there))
     by false e = rw e (fold-append (insert_key same_key) a b (x ∷ []))
 
--- keys behind keys that were found of others
+-- keys after keys that were found of others
 all_through : (a b xs : List (List Value)) → insert_all same_key a (insert_all same_key b xs) ≡ insert_all same_key (insert_all same_key a b) xs
 all_through a b [] = refl
 all_through a b (x ∷ xs) =

@@ -14,7 +14,7 @@ use Rattle.grouping.proofs.Finding.{found_more}
 use Rattle.grouping.proofs.JoinedKeys.{joined_then}
 use Rattle.grouping.proofs.JoinedTallies.{both_tallied}
 
--- the groups of rows, and of others behind them
+-- the groups of rows, and of others after them
 merged_holds : (before other after : GroupsAt) (most : ℕ) (rows more : List Row) → other.keys ≡ before.keys → other.items ≡ before.items → after.keys ≡ before.keys →
     after.items ≡ before.items → after.count ≡ before.count + other.count → length after.tallies ≡ length before.items →
     IsMerged before.found other.found after.found (length before.items) most other.tallies before.tallies after.tallies →

@@ -136,7 +136,7 @@ old_tally keys found more earlier item before tallied places group = by (nat_lt 
         get_or-eq_default before no_rows (omega (arith, tallied.long))
         ∙ ap (tally_of item) (sym (share_kept keys found more earlier group places ∙ share_none keys found earlier group high places))
 
--- rows that are fed behind others: the tallies of an item are those of all of them
+-- rows that are fed after others: the tallies of an item are those of all of them
 pub fed_tallies : (keys : List ℕ) (columns : List ColumnAt) (rows groups : List ℕ) (earlier : List Row) (item : Aggregate) (before after : List Tally) →
     (found : List (List Value)) → found ≡ found_in keys earlier →
     ArePlaced keys columns (found_then keys found (map (row_of columns) rows)) rows groups (length rows) →

@@ -11,7 +11,8 @@ use Rattle.grouping.specs.Fed.{GroupsAt, Holds}
 -- what the item at a place gives of the group at a place
 abbrev pub cell_at : GroupsAt → ℕ → ℕ → Value
 cell_at groups group item =
-    item_value (get_or groups.found group []) (get_or groups.items item (Key 0)) (get_or (get_or groups.tallies item []) group no_rows)
+    item_value (get_or groups.found group []) (get_or groups.items item (Key 0))
+    (get_or (get_or groups.tallies item []) group no_rows)
 
 -- the items of the group at a place
 abbrev pub row_at : GroupsAt → ℕ → Row
@@ -24,4 +25,5 @@ answer_rows groups = map (row_at groups) (range_with_len 0 (length groups.found)
 -- the groups of some rows answer what a plan that groups them says
 abbrev pub HeldAnswersAreGroups : Type 0
 HeldAnswersAreGroups = (groups : GroupsAt) (rows : List Row) → Holds groups rows →
-    answer_rows groups ≡ map (λ group. map (answered group) groups.items) (groups_by groups.keys rows)
+    answer_rows groups
+    ≡ map (λ group. map (answered group) groups.items) (groups_by groups.keys rows)

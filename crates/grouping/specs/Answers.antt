@@ -1,5 +1,6 @@
 -- The answer, batch by batch.
-use Rattle.std.specs.Prelude.{◌≡◌, ◌≤◌, ◌<◌, ℕ, All, List, [], ◌∷◌, ◌++◌, length, map, drop, Option, Some, None, Result, Ok, Err}
+use Rattle.std.specs.Prelude.{◌≡◌, ◌≤◌, ◌<◌, ℕ, All, List, [], ◌∷◌, ◌++◌, length, map, drop, Option}
+use Rattle.std.specs.Prelude.{Some, None, Result, Ok, Err}
 use Rattle.std.specs.declared.alloc.AllocError.{AllocError}
 use Rattle.arrow_schema.specs.declared.data_type.DataType.{DataType}
 use Rattle.arrow_schema.specs.Answer.{copied_type}
@@ -20,9 +21,9 @@ use Rattle.grouping.specs.Answered.{answer_rows}
 use Rattle.grouping.specs.Fed.{GroupsAt, Holds, AreTyped, batch_at}
 use Rattle.grouping.specs.Found.{key_in}
 
--- The types of the columns of the rows that were grouped, the numbers of those that are the key, the items that are wanted
--- of each group, where the first row of each group stands, for each item the tally of each group, and how many groups were
--- answered.
+-- The types of the columns of the rows that were grouped, the numbers of those that are the key,
+-- the items that are wanted of each group, where the first row of each group stands, for each item
+-- the tally of each group, and how many groups were answered.
 pub record AnswersAt : Type 0 where
   pub types : List DataType
   pub keys : List ℕ
@@ -38,7 +39,8 @@ row_in batches place = row_of (batch_at batches place.batch).columns place.row
 -- the keys of groups, by their first rows; without columns there is one key
 abbrev pub keys_at : List BatchAt → List ℕ → List Place → List (List Value)
 keys_at batches [] firsts = [] ∷ []
-keys_at batches (key ∷ keys) firsts = map (λ first. key_in (key ∷ keys) (row_in batches first)) firsts
+keys_at batches (key ∷ keys) firsts =
+    map (λ first. key_in (key ∷ keys) (row_in batches first)) firsts
 
 -- the groups that are answered
 abbrev pub groups_at : List BatchAt → AnswersAt → GroupsAt
@@ -53,7 +55,8 @@ groups_at batches answers = record {
   refused = None;
 }
 
--- the items of the groups that are still to be answered, where the rows were grouped of these batches
+-- the items of the groups that are still to be answered, where the rows were grouped of these
+-- batches
 abbrev pub answers_ahead : List BatchAt → AnswersAt → List Row
 answers_ahead batches answers = drop answers.given (answer_rows (groups_at batches answers))
 
@@ -72,7 +75,8 @@ pub record IsOver (batches : List BatchAt) (answers : AnswersAt) : Type 0 where
   pub there : All (IsThere batches) answers.firsts
 
 -- a batch has the items of the next groups, one or more, and few cells and texts
-pub record GivesGroups (batches : List BatchAt) (before : AnswersAt) (batch : BatchAt) (after : AnswersAt) : Type 0 where
+pub record GivesGroups (batches : List BatchAt) (before : AnswersAt) (batch : BatchAt)
+    (after : AnswersAt) : Type 0 where
   pub next : answers_ahead batches before ≡ rows_of batch ++ answers_ahead batches after
   pub some : 0 < batch.rows
   pub few : batch.rows ≤ most_batch_rows
@@ -81,18 +85,23 @@ pub record GivesGroups (batches : List BatchAt) (before : AnswersAt) (batch : Ba
   pub over : IsOver batches after
   pub types : answer_types after ≡ answer_types before
 
--- The next batch of the answer, or none where no group is left. Where memory is refused the same groups come next.
-abbrev pub GivesAnswer : List BatchAt → AnswersAt → Result (Option BatchAt) AllocError → AnswersAt → Type 0
+-- The next batch of the answer, or none where no group is left. Where memory is refused the same
+-- groups come next.
+abbrev pub GivesAnswer : List BatchAt → AnswersAt → Result (Option BatchAt) AllocError →
+    AnswersAt → Type 0
 GivesAnswer batches before (Ok (Some batch)) after = GivesGroups batches before batch after
 GivesAnswer batches before (Ok None) after = (answers_ahead batches before ≡ []) × (after ≡ before)
 GivesAnswer batches before (Err _) after = after ≡ before
 
--- the answer is of the groups' batches and items, and has the items of each group of the rows held, by first appearance
+-- the answer is of the groups' batches and items, and has the items of each group of the rows held,
+-- by first appearance
 pub record IsAnswerOf (groups : GroupsAt) (answers : AnswersAt) : Type 0 where
   pub over : IsOver groups.batches answers
-  pub types : answer_types answers ≡ map copied_type (map (item_type groups.keys groups.types) groups.items)
+  pub types : answer_types answers
+      ≡ map copied_type (map (item_type groups.keys groups.types) groups.items)
   pub ahead : (rows : List Row) → Holds groups rows →
-      answers_ahead groups.batches answers ≡ map (λ group. map (answered group) groups.items) (groups_by groups.keys rows)
+      answers_ahead groups.batches answers
+      ≡ map (λ group. map (answered group) groups.items) (groups_by groups.keys rows)
 
 -- The answer, or what refused it.
 abbrev pub Finishes : GroupsAt → Result AnswersAt Fault → Type 0

@@ -1,6 +1,7 @@
 //! Columns of the answer.
 
-ghost use Rattle.std.specs.Prelude.{◌≡◌, ◌≤◌, ◌==◌, ◌-◌, pos, All, IfOk, length, map, take, drop, if◌then◌else◌};
+ghost use Rattle.std.specs.Prelude.{◌≡◌, ◌≤◌, ◌==◌, ◌-◌, pos, All, IfOk, length, map, take, drop};
+ghost use Rattle.std.specs.Prelude.{if◌then◌else◌};
 ghost use Rattle.scan_base.specs.Limits.{most_rows};
 ghost use Rattle.scan_base.specs.declared.value.Value.TheVariants as value;
 ghost use Rattle.arrow_schema.specs.declared.data_type.DataType.TheVariants as type;
@@ -29,7 +30,9 @@ pub(crate) fn count_column(
     requires ordered { from ≤ to }
     requires within { to ≤ length (tallies_in tallies.now) }
     requires few { All (λ tally. tally.count ≤ most_rows) (tallies_in tallies.now) }
-    ensures values { IfOk result (λ made. values_of made ≡ map (λ tally. value.Int (pos tally.count)) (take (to - from) (drop from (tallies_in tallies.now)))) }
+    ensures values { IfOk result
+        (λ made. values_of made ≡ map (λ tally. value.Int (pos tally.count))
+        (take (to - from) (drop from (tallies_in tallies.now)))) }
     ensures typed { IfOk result (λ made. IsOfType (type.Integer integer.Int64) made.layout) }
     ensures long { IfOk result (λ made. made.len ≡ to - from) }
 {
@@ -57,7 +60,8 @@ pub(crate) fn sum_column(
     requires ordered { from ≤ to }
     requires within { to ≤ length (tallies_in tallies.now) }
     ensures values { IfOk result (λ made. values_of made
-        ≡ map (λ tally. if tally.count == 0 then value.Null else value.Int tally.sum) (take (to - from) (drop from (tallies_in tallies.now)))) }
+        ≡ map (λ tally. if tally.count == 0 then value.Null else value.Int tally.sum)
+        (take (to - from) (drop from (tallies_in tallies.now)))) }
     ensures typed { IfOk result (λ made. IsOfType type.Decimal128 made.layout) }
     ensures long { IfOk result (λ made. made.len ≡ to - from) }
 {
@@ -73,7 +77,8 @@ pub(crate) fn sum_column(
 // The column of counts.
 fn column_of_counts(alloc: Global, counts: &[u64]) -> Result<Column, AllocError>
     requires { All (λ count. count ≤ most_rows) counts.now }
-    ensures values { IfOk result (λ made. values_of made ≡ map (λ count. value.Int (pos count)) counts.now) }
+    ensures values { IfOk result
+        (λ made. values_of made ≡ map (λ count. value.Int (pos count)) counts.now) }
     ensures typed { IfOk result (λ made. IsOfType (type.Integer integer.Int64) made.layout) }
     ensures long { IfOk result (λ made. made.len ≡ length counts.now) }
 {
@@ -86,7 +91,8 @@ fn column_of_counts(alloc: Global, counts: &[u64]) -> Result<Column, AllocError>
 
 // The column of sums: null where nothing is summed.
 fn column_of_sums(alloc: Global, tallies: &[Tally]) -> Result<Column, AllocError>
-    ensures values { IfOk result (λ made. values_of made ≡ map (λ tally. if tally.count == 0 then value.Null else value.Int tally.sum) tallies.now) }
+    ensures values { IfOk result (λ made. values_of made
+        ≡ map (λ tally. if tally.count == 0 then value.Null else value.Int tally.sum) tallies.now) }
     ensures typed { IfOk result (λ made. IsOfType type.Decimal128 made.layout) }
     ensures long { IfOk result (λ made. made.len ≡ length tallies.now) }
 {

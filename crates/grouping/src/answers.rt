@@ -22,8 +22,9 @@ use std::alloc::{AllocError, Global};
 use std::marker::Model;
 use typed_plan::Aggregate;
 
-/// The answer of groups: the items of each, in order. It holds where the first rows of groups stand, and is given the
-/// batches anew for each batch of it. A contract sees the groups, and how many of them were answered.
+/// The answer of groups: the items of each, in order. It holds where the first rows of groups
+/// stand, and is given the batches again for each batch of it. A contract sees the groups, and how
+/// many of them were answered.
 #[derive(Drop)]
 pub struct Answers {
     types: Vec<DataType>,
@@ -53,7 +54,8 @@ impl Model for Answers {
       given = a.given;
     } };
 
-    ghost invariant = { λ a. IsAnswers a.types.items a.keys.items a.items.items (length a.firsts.items) (lists_of a.tallies.items) a.given };
+    ghost invariant = { λ a. IsAnswers a.types.items a.keys.items a.items.items
+        (length a.firsts.items) (lists_of a.tallies.items) a.given };
 }
 
 impl Answers {
@@ -68,7 +70,9 @@ impl Answers {
         kept: Kept<'_>,
     ) -> Result<Answers, AllocError>
         requires has { HasItems shape.now.types.now shape.now.keys.now shape.now.items.now }
-        requires kept { IsKept shape.now.items.now (length (found_by shape.now.keys.now kept.firsts.keys)) kept.count (lists_of kept.tallies.items) }
+        requires kept { IsKept shape.now.items.now
+            (length (found_by shape.now.keys.now kept.firsts.keys)) kept.count
+            (lists_of kept.tallies.items) }
         requires few { kept.count ≤ most_rows }
         ensures { IfOk result (λ answers. answers ≡ record {
           types = shape.now.types.now;
@@ -95,14 +99,15 @@ impl Answers {
         })
     }
 
-    /// The items of the next groups as a batch, where these are the batches whose rows were grouped: one row or more, no
-    /// more than 65,536, which has room where it is more than one: no more than 131,072 cells, and no more than 2 MB of text in
-    /// all. `None` where no group is left.
+    /// The items of the next groups as a batch, where these are the batches whose rows were
+    /// grouped: one row or more, no more than 65,536, which has room where it is more than one: no
+    /// more than 131,072 cells, and no more than 2 MB of text in all. `None` where no group is
+    /// left.
     ///
     /// # Errors
     ///
-    /// `AllocError` where memory is refused, or where one text has so many bytes that no offset names the last: 2 to the 31
-    /// or more. The same groups come next.
+    /// `AllocError` where memory is refused, or where one text has so many bytes that no offset
+    /// names the last: 2 to the 31 or more. The same groups come next.
     pub fn next(&mut self, alloc: Global, batches: &[Batch]) -> Result<Option<Batch>, AllocError>
         requires { IsOver batches.now self.old }
         ensures { GivesAnswer batches.now self.old result self.new }

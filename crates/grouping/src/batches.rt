@@ -1,6 +1,7 @@
 //! Batches of the answer.
 
-ghost use Rattle.std.specs.Prelude.{◌≡◌, ◌≤◌, ◌<◌, ◌-◌, ◌+◌, ◌*◌, ◌^◌, ℕ, All, IfOk, length, map, take, drop};
+ghost use Rattle.std.specs.Prelude.{◌≡◌, ◌≤◌, ◌<◌, ◌-◌, ◌+◌, ◌*◌, ◌^◌, ℕ, All, IfOk, length, map};
+ghost use Rattle.std.specs.Prelude.{take, drop};
 ghost use Rattle.array_select.specs.OfSlots.{slot_value, IsSlotOf};
 ghost use Rattle.arrays.specs.Written.{texts_joined};
 ghost use Rattle.batch_room.specs.Light.{Fits};
@@ -8,7 +9,8 @@ ghost use Rattle.batch_room.specs.Room.{most_batch_cells, share_among};
 ghost use Rattle.typed_plan.specs.Typed.{type_at};
 ghost use Rattle.grouping.specs.Answers.{IsThere};
 ghost use Rattle.grouping.specs.inside.Answering.{first_cell};
-ghost use Rattle.grouping.specs.inside.Finishing.{groups_in, AllFit, CanAnswer, IsItemColumn, IsBatchOf, IsNextOf, item_cells};
+ghost use Rattle.grouping.specs.inside.Finishing.{groups_in, AllFit, CanAnswer, IsItemColumn};
+ghost use Rattle.grouping.specs.inside.Finishing.{IsBatchOf, IsNextOf, item_cells};
 
 use crate::answer::{count_column, sum_column};
 use crate::key::Place;
@@ -52,7 +54,8 @@ impl<'a> Answer<'a> {
         }
     }
 
-    /// The items of the groups from one on, as a batch: as many as have room in one, no more than `most`.
+    /// The items of the groups from one on, as a batch: as many as have room in one, no more than
+    /// `most`.
     ///
     /// # Errors
     ///
@@ -82,7 +85,8 @@ impl<'a> Answer<'a> {
         Ok(count)
     }
 
-    // How many of the groups from one on have an item whose texts have room in one batch, of no more than `most`.
+    // How many of the groups from one on have an item whose texts have room in one batch, of no
+    // more than `most`.
     fn how_many_fit_in(
         &self,
         alloc: Global,
@@ -94,7 +98,8 @@ impl<'a> Answer<'a> {
         requires there { item < length self.now.items.now }
         requires some { 0 < most }
         requires within { from + most ≤ length (groups_in self.now).found }
-        ensures { IfOk result (Fits (share_among (length self.now.items.now)) (item_cells (groups_in self.now) item from most)) }
+        ensures { IfOk result (Fits (share_among (length self.now.items.now))
+            (item_cells (groups_in self.now) item from most)) }
     {
         match self.items[item] {
             Aggregate::Key(place) => {
@@ -105,7 +110,8 @@ impl<'a> Answer<'a> {
         }
     }
 
-    // How many of these first rows have texts in a column that have room in one batch. Only texts are looked at.
+    // How many of these first rows have texts in a column that have room in one batch. Only texts
+    // are looked at.
     fn how_many_firsts_fit(
         &self,
         alloc: Global,
@@ -116,7 +122,8 @@ impl<'a> Answer<'a> {
         requires there { column < length self.now.types.now }
         requires firsts { All (IsThere self.now.batches.now) firsts.now }
         requires some { 0 < length firsts.now }
-        ensures { IfOk result (Fits (share_among (length self.now.items.now)) (map (first_cell self.now.batches.now column) firsts.now)) }
+        ensures { IfOk result (Fits (share_among (length self.now.items.now))
+            (map (first_cell self.now.batches.now column) firsts.now)) }
     {
         if !has_texts(self.types[column]) {
             return Ok(firsts.len());
@@ -130,7 +137,8 @@ impl<'a> Answer<'a> {
         requires can { CanAnswer self.now }
         requires ordered { from ≤ to }
         requires within { to ≤ length (groups_in self.now).found }
-        requires named { (item : ℕ) → item < length self.now.items.now → length (texts_joined (item_cells (groups_in self.now) item from (to - from))) < 2 ^ 31 }
+        requires named { (item : ℕ) → item < length self.now.items.now →
+            length (texts_joined (item_cells (groups_in self.now) item from (to - from))) < 2 ^ 31 }
         ensures { IfOk result (IsBatchOf (groups_in self.now) from (to - from)) }
     {
         let mut columns = Vec::with_capacity(alloc, self.items.len())?;
@@ -152,7 +160,8 @@ impl<'a> Answer<'a> {
         requires there { item < length self.now.items.now }
         requires ordered { from ≤ to }
         requires within { to ≤ length (groups_in self.now).found }
-        requires named { length (texts_joined (item_cells (groups_in self.now) item from (to - from))) < 2 ^ 31 }
+        requires named { length
+            (texts_joined (item_cells (groups_in self.now) item from (to - from))) < 2 ^ 31 }
         ensures { IfOk result (IsItemColumn (groups_in self.now) item from (to - from)) }
     {
         match self.items[item] {
@@ -178,8 +187,10 @@ impl<'a> Answer<'a> {
         requires can { CanAnswer self.now }
         requires there { column < length self.now.types.now }
         requires firsts { All (IsThere self.now.batches.now) firsts.now }
-        ensures values { IfOk result (λ slots. map slot_value slots.items ≡ map (first_cell self.now.batches.now column) firsts.now) }
-        ensures there { IfOk result (λ slots. All (IsSlotOf (type_at self.now.types.now column)) slots.items) }
+        ensures values { IfOk result (λ slots. map slot_value slots.items
+            ≡ map (first_cell self.now.batches.now column) firsts.now) }
+        ensures there { IfOk result
+            (λ slots. All (IsSlotOf (type_at self.now.types.now column)) slots.items) }
     {
         let mut slots = Vec::with_capacity(alloc, firsts.len())?;
         for first in firsts {

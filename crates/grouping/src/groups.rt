@@ -23,8 +23,8 @@ use std::marker::Model;
 use typed_plan::Aggregate;
 use work_watch::Watches;
 
-/// What is grouped: batches, the types of their columns, the numbers of those that are the key, and the items that are
-/// wanted of each group.
+/// What is grouped: batches, the types of their columns, the numbers of those that are the key, and
+/// the items that are wanted of each group.
 #[derive(Clone, Copy, Drop)]
 pub struct Grouping<'t> {
     pub batches: &'t [Batch],
@@ -33,9 +33,10 @@ pub struct Grouping<'t> {
     pub items: &'t [Aggregate],
 }
 
-/// Groups of rows that have the same values in some columns, by first appearance; without such a column there is one
-/// group of all rows, also of none. Keys stay in the batches that they came in: no value is copied for a row. A contract
-/// sees the keys and the tallies of the groups; `Holds` says of which rows they are.
+/// Groups of rows that have the same values in some columns, by first appearance; without such a
+/// column there is one group of all rows, also of none. Keys stay in the batches that they came in:
+/// no value is copied for a row. A contract sees the keys and the tallies of the groups; `Holds`
+/// says of which rows they are.
 pub struct Groups<'t> {
     shape: Grouping<'t>,
     kept: Kept<'t>,
@@ -97,7 +98,8 @@ impl<'t> Groups<'t> {
     pub fn new(alloc: Global, seed: HashSeed, shape: Grouping<'t>) -> Result<Groups<'t>, AllocError>
         requires typed { AreTyped shape.types.now shape.batches.now }
         requires has { HasItems shape.types.now shape.keys.now shape.items.now }
-        ensures { IfOk result (IsNew (shape.entry).batches.now (shape.entry).types.now (shape.entry).keys.now (shape.entry).items.now) }
+        ensures { IfOk result (IsNew (shape.entry).batches.now (shape.entry).types.now
+            (shape.entry).keys.now (shape.entry).items.now) }
     {
         let firsts = FirstRows::new(alloc, seed, have_numbers(&shape));
         let groups = found_count(shape.keys, &firsts);
@@ -119,12 +121,15 @@ impl<'t> Groups<'t> {
     ///
     /// # Errors
     ///
-    /// F21 (`Fault::OutOfMemory`) where memory is refused. What refused the groups is answered from then on.
+    /// F21 (`Fault::OutOfMemory`) where memory is refused. What refused the groups is answered from
+    /// then on.
     pub fn feed(&mut self, alloc: Global, number: usize, selection: &Selection) -> Result<(), Fault>
         requires there { number < length self.old.batches }
         requires within { All (λ row. row < (batch_at self.old.batches number).rows) selection.now }
-        requires few { ForNone self.old.refused (self.old.count + length selection.now ≤ most_rows) }
-        ensures { Feeds self.old result self.new (map (row_of (batch_at self.old.batches number).columns) selection.now) }
+        requires few { ForNone self.old.refused
+            (self.old.count + length selection.now ≤ most_rows) }
+        ensures { Feeds self.old result self.new
+            (map (row_of (batch_at self.old.batches number).columns) selection.now) }
     {
         if let Some(fault) = self.refused {
             return Err(fault);
@@ -146,8 +151,8 @@ impl<'t> Groups<'t> {
         }
     }
 
-    /// Frees the tables that find groups sooner: what is known of keys, and what was seen of long texts in a batch. What is grouped
-    /// stays. Rows that are fed later make tables anew.
+    /// Frees the tables that find groups sooner: what is known of keys, and what was seen of long
+    /// texts in a batch. What is grouped stays. Rows that are fed later make tables again.
     pub fn free_tables(&mut self)
         ensures { self.new ≡ self.old }
     {
@@ -155,13 +160,15 @@ impl<'t> Groups<'t> {
         self.kept.known = Vec::new(*self.kept.known.allocator());
     }
 
-    /// Takes the groups of other rows of the same batches behind the own: each joins that of its key, or stands last. Who watches is
-    /// told of the other groups, and may end it: behind each 65,536, where each counts as often as the key has columns, and again
-    /// behind the tallies of each item.
+    /// Takes the groups of other rows of the same batches after the own: each joins that of its
+    /// key, or stands last. Who watches is told of the other groups, and may end it: after each
+    /// 65,536, where each counts as often as the key has columns, and again after the tallies of
+    /// each item.
     ///
     /// # Errors
     ///
-    /// What refused either; F21 (`Fault::OutOfMemory`) where memory is refused, or who watches ends it. It is answered from then on.
+    /// What refused either; F21 (`Fault::OutOfMemory`) where memory is refused, or who watches ends
+    /// it. It is answered from then on.
     pub fn merge<W: Watches>(
         &mut self,
         alloc: Global,
@@ -169,7 +176,8 @@ impl<'t> Groups<'t> {
         watch: &mut W,
     ) -> Result<(), Fault>
         requires alike { IsAlike self.old other }
-        requires few { ForNone self.old.refused (ForNone other.refused (self.old.count + other.count ≤ most_rows)) }
+        requires few { ForNone self.old.refused
+            (ForNone other.refused (self.old.count + other.count ≤ most_rows)) }
         requires ready { W.ready watch.old }
         ensures merged { Merges self.old other.entry result self.new }
         ensures ready { OnOk result (W.ready watch.new) }

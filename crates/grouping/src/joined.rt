@@ -19,11 +19,11 @@ use std::alloc::{AllocError, Global};
 use typed_plan::Aggregate;
 use work_watch::{Watches, tell};
 
-// Behind so many groups that joined, who watches is told of them.
+// After so many groups that joined, who watches is told of them.
 const PIECE_GROUPS: usize = 65_536;
 
-/// The tallies of other groups, and the group that each joins. How many groups were found in all, and how many rows were fed here
-/// and there.
+/// The tallies of other groups, and the group that each joins. How many groups were found in all,
+/// and how many rows were fed here and there.
 #[derive(Clone, Copy, Drop)]
 pub(crate) struct Others<'p> {
     pub(crate) tallies: &'p [ItemTallies],
@@ -34,8 +34,9 @@ pub(crate) struct Others<'p> {
 }
 
 impl<'t> Grouping<'t> {
-    /// The group that each of other first rows joins, or opens behind all others; without columns there is one group. Behind each
-    /// 65,536 groups who watches is told of them, and may end it. A group counts as often as the key has columns.
+    /// The group that each of other first rows joins, or opens after all others; without columns
+    /// there is one group. After each 65,536 groups who watches is told of them, and may end it. A
+    /// group counts as often as the key has columns.
     ///
     /// # Errors
     ///
@@ -50,8 +51,11 @@ impl<'t> Grouping<'t> {
         requires others { All (IsFirst self.now.batches.now self.now.keys.now) others.now.keys }
         requires ready { W.ready watch.old }
         ensures found { OnOk result (found_by self.now.keys.now firsts.new.keys
-            ≡ insert_all same_key (found_by self.now.keys.now firsts.old.keys) (found_by self.now.keys.now others.now.keys)) }
-        ensures joined { IfOk result (λ groups. AreJoined (found_by self.now.keys.now firsts.new.keys) (found_by self.now.keys.now others.now.keys) groups.items
+            ≡ insert_all same_key (found_by self.now.keys.now firsts.old.keys)
+            (found_by self.now.keys.now others.now.keys)) }
+        ensures joined { IfOk result
+            (λ groups. AreJoined (found_by self.now.keys.now firsts.new.keys)
+            (found_by self.now.keys.now others.now.keys) groups.items
             (length (found_by self.now.keys.now others.now.keys))) }
         ensures firsts { OnOk result (FirstsJoin firsts.old.keys others.now.keys firsts.new.keys) }
         ensures ready { OnOk result (W.ready watch.new) }
@@ -65,7 +69,8 @@ impl<'t> Grouping<'t> {
         self.join_each(alloc, firsts, others, watch)
     }
 
-    // The group that each of these first rows joins, or opens behind all others. A text is looked at once for its code in a batch.
+    // The group that each of these first rows joins, or opens after all others. A text is looked at
+    // once for its code in a batch.
     fn join_each<W: Watches>(
         &self,
         alloc: Global,
@@ -75,8 +80,10 @@ impl<'t> Grouping<'t> {
     ) -> Result<Vec<usize>, AllocError>
         requires others { All (IsFirst self.now.batches.now self.now.keys.now) others.now.keys }
         requires ready { W.ready watch.old }
-        ensures found { OnOk result (map key_of firsts.new.keys ≡ insert_all same_key (map key_of firsts.old.keys) (map key_of others.now.keys)) }
-        ensures joined { IfOk result (λ groups. AreJoined (map key_of firsts.new.keys) (map key_of others.now.keys) groups.items (length (map key_of others.now.keys))) }
+        ensures found { OnOk result (map key_of firsts.new.keys
+            ≡ insert_all same_key (map key_of firsts.old.keys) (map key_of others.now.keys)) }
+        ensures joined { IfOk result (λ groups. AreJoined (map key_of firsts.new.keys)
+            (map key_of others.now.keys) groups.items (length (map key_of others.now.keys))) }
         ensures firsts { OnOk result (FirstsJoin firsts.old.keys others.now.keys firsts.new.keys) }
         ensures ready { OnOk result (W.ready watch.new) }
         ensures watched { W.watched watch.old watch.new }
@@ -94,7 +101,8 @@ impl<'t> Grouping<'t> {
     }
 }
 
-// Tells who watches of a piece of groups, where the group at this place is the last one of it. Each counts so often.
+// Tells who watches of a piece of groups, where the group at this place is the last one of it. Each
+// counts so often.
 fn tell_piece<W: Watches>(watch: &mut W, place: usize, weight: usize) -> Result<(), AllocError>
     requires ready { W.ready watch.old }
     ensures ready { OnOk result (W.ready watch.new) }
@@ -106,8 +114,8 @@ fn tell_piece<W: Watches>(watch: &mut W, place: usize, weight: usize) -> Result<
     Ok(())
 }
 
-/// Adds each of other tallies to the tally of its group, for each item. Behind each item who watches is told of as many rows as there
-/// are other groups, and may end it.
+/// Adds each of other tallies to the tally of its group, for each item. After each item who watches
+/// is told of as many rows as there are other groups, and may end it.
 ///
 /// # Errors
 ///
@@ -120,12 +128,16 @@ pub(crate) fn join_all<W: Watches>(
 ) -> Result<(), AllocError>
     requires grouped { All (λ group. group < others.now.found) others.now.groups.now }
     requires few { others.now.fed + others.now.more ≤ most_rows }
-    requires kept { (before : ℕ) × (before ≤ others.now.found) × IsKept items.now before others.now.fed (lists_of tallies.old) }
-    requires others { IsKept items.now (length others.now.groups.now) others.now.more (lists_of others.now.tallies.now) }
+    requires kept { (before : ℕ) × (before ≤ others.now.found)
+        × IsKept items.now before others.now.fed (lists_of tallies.old) }
+    requires others { IsKept items.now (length others.now.groups.now) others.now.more
+        (lists_of others.now.tallies.now) }
     requires ready { W.ready watch.old }
-    ensures joined { OnOk result (AllJoined others.now.groups.now (lists_of others.now.tallies.now) others.now.found (others.now.fed + others.now.more)
+    ensures joined { OnOk result (AllJoined others.now.groups.now
+        (lists_of others.now.tallies.now) others.now.found (others.now.fed + others.now.more)
         (lists_of tallies.old) (lists_of tallies.new) (length items.now)) }
-    ensures kept { OnOk result (IsKept items.now others.now.found (others.now.fed + others.now.more) (lists_of tallies.new)) }
+    ensures kept { OnOk result (IsKept items.now others.now.found (others.now.fed + others.now.more)
+        (lists_of tallies.new)) }
     ensures ready { OnOk result (W.ready watch.new) }
     ensures watched { W.watched watch.old watch.new }
 {
@@ -151,17 +163,22 @@ fn join_item(
     requires grouped { All (λ group. group < found) groups.now }
     requires long { length groups.now ≡ length (tallies_in others.now) }
     requires grown { length (tallies_in tallies.old) ≤ found }
-    requires few { counted_in (tallies_in tallies.old) + counted_in (tallies_in others.now) ≤ most_rows }
+    requires few { counted_in (tallies_in tallies.old) + counted_in (tallies_in others.now)
+        ≤ most_rows }
     requires small { AreWithin (counted_in (tallies_in tallies.old)) (tallies_in tallies.old) }
     requires others { AreWithin (counted_in (tallies_in others.now)) (tallies_in others.now) }
-    ensures joined { OnOk result (IsJoined groups.now (tallies_in others.now) found (tallies_in tallies.old) (tallies_in tallies.new)) }
-    ensures small { OnOk result (AreWithin (counted_in (tallies_in tallies.old) + counted_in (tallies_in others.now)) (tallies_in tallies.new)) }
+    ensures joined { OnOk result (IsJoined groups.now (tallies_in others.now) found
+        (tallies_in tallies.old) (tallies_in tallies.new)) }
+    ensures small { OnOk result
+        (AreWithin (counted_in (tallies_in tallies.old) + counted_in (tallies_in others.now))
+        (tallies_in tallies.new)) }
 {
     tallies.resize(found)?;
     join_tallies(tallies, others, groups)
 }
 
-// Adds each of other tallies to the tally of its group. Counts stay counts where nothing was summed on either side.
+// Adds each of other tallies to the tally of its group. Counts stay counts where nothing was summed
+// on either side.
 fn join_tallies(
     tallies: &mut ItemTallies,
     others: &ItemTallies,
@@ -169,11 +186,15 @@ fn join_tallies(
 ) -> Result<(), AllocError>
     requires grouped { All (λ group. group < length (tallies_in tallies.old)) groups.now }
     requires long { length groups.now ≡ length (tallies_in others.now) }
-    requires few { counted_in (tallies_in tallies.old) + counted_in (tallies_in others.now) ≤ most_rows }
+    requires few { counted_in (tallies_in tallies.old) + counted_in (tallies_in others.now)
+        ≤ most_rows }
     requires small { AreWithin (counted_in (tallies_in tallies.old)) (tallies_in tallies.old) }
     requires others { AreWithin (counted_in (tallies_in others.now)) (tallies_in others.now) }
-    ensures joined { OnOk result (tallies_in tallies.new ≡ joined groups.now (tallies_in others.now) (tallies_in tallies.old) (length groups.now)) }
-    ensures small { OnOk result (AreWithin (counted_in (tallies_in tallies.old) + counted_in (tallies_in others.now)) (tallies_in tallies.new)) }
+    ensures joined { OnOk result (tallies_in tallies.new
+        ≡ joined groups.now (tallies_in others.now) (tallies_in tallies.old) (length groups.now)) }
+    ensures small { OnOk result
+        (AreWithin (counted_in (tallies_in tallies.old) + counted_in (tallies_in others.now))
+        (tallies_in tallies.new)) }
 {
     match tallies {
         ItemTallies::Counts(counts) => match others {
@@ -203,10 +224,13 @@ fn join_tallies(
 fn join_counts(counts: &mut [u64], others: &[u64], groups: &[usize])
     requires grouped { All (λ group. group < length counts.old) groups.now }
     requires long { length groups.now ≡ length others.now }
-    requires few { counted_in (count_tallies counts.old) + counted_in (count_tallies others.now) ≤ most_rows }
+    requires few { counted_in (count_tallies counts.old) + counted_in (count_tallies others.now)
+        ≤ most_rows }
     requires small { AreWithin (counted_in (count_tallies counts.old)) (count_tallies counts.old) }
-    ensures joined { count_tallies counts.new ≡ joined groups.now (count_tallies others.now) (count_tallies counts.old) (length groups.now) }
-    ensures small { AreWithin (counted_in (count_tallies counts.old) + counted_in (count_tallies others.now)) (count_tallies counts.new) }
+    ensures joined { count_tallies counts.new ≡ joined groups.now (count_tallies others.now)
+        (count_tallies counts.old) (length groups.now) }
+    ensures small { AreWithin (counted_in (count_tallies counts.old)
+        + counted_in (count_tallies others.now)) (count_tallies counts.new) }
 {
     for k in 0..groups.len() {
         let group = groups[k];

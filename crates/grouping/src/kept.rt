@@ -1,6 +1,7 @@
 //! What is kept of the rows that were fed.
 
-ghost use Rattle.std.specs.Prelude.{◌≡◌, ◌≤◌, ◌<◌, ◌+◌, All, IfOk, IsTrue, ℕ, [], List, OnOk, length, map, nat_lt};
+ghost use Rattle.std.specs.Prelude.{◌≡◌, ◌≤◌, ◌<◌, ◌+◌, All, IfOk, IsTrue, ℕ, [], List, OnOk};
+ghost use Rattle.std.specs.Prelude.{length, map, nat_lt};
 ghost use Rattle.std.specs.List.{list_all};
 ghost use Rattle.scan_base.specs.Limits.{most_rows};
 ghost use Rattle.scan_base.specs.declared.value.Value.{Value as Cell};
@@ -34,8 +35,8 @@ const LEAST_ROWS: usize = 16;
 // Of fewer groups keys are known even where each row opens one.
 const LEAST_GROUPS: usize = 256;
 
-/// The first row of each group, for each item the tally of each group, how many rows were fed, which keys are known by a number,
-/// and which long texts of keys were seen in the last batch.
+/// The first row of each group, for each item the tally of each group, how many rows were fed,
+/// which keys are known by a number, and which long texts of keys were seen in the last batch.
 #[derive(Drop)]
 pub(crate) struct Kept<'t> {
     pub(crate) firsts: FirstRows<'t>,
@@ -56,21 +57,30 @@ pub(crate) fn add<'t>(
     kept: &mut Kept<'t>,
     chosen: &Chosen<'t, '_>,
 ) -> Result<(), AllocError>
-    requires keys { IsTrue (list_all (λ column. nat_lt column (length chosen.now.batch.now.columns)) chosen.now.columns.now) }
+    requires keys { IsTrue (list_all (λ column. nat_lt column (length chosen.now.batch.now.columns))
+        chosen.now.columns.now) }
     requires there { CanCountAll items.now chosen.now.batch.now.columns }
     requires within { All (λ row. row < chosen.now.batch.now.rows) chosen.now.rows.now }
     requires few { kept.old.count + length chosen.now.rows.now ≤ most_rows }
-    requires kept { IsKept items.now (length (found_by chosen.now.columns.now kept.old.firsts.keys)) kept.old.count (lists_of kept.old.tallies.items) }
+    requires kept { IsKept items.now (length (found_by chosen.now.columns.now kept.old.firsts.keys))
+        kept.old.count (lists_of kept.old.tallies.items) }
     requires known { AreKnown value_tagged (map key_of kept.old.firsts.keys) kept.old.known.items }
-    requires seen { AreSeenOf kept.old.firsts.texts chosen.now.batch.now chosen.now.columns.now kept.old.seen.numbers }
-    ensures grown { OnOk result (IsGrown items.now chosen.now.batch.now.columns chosen.now.columns.now chosen.now.rows.now
-        (found_by chosen.now.columns.now kept.old.firsts.keys) (found_by chosen.now.columns.now kept.new.firsts.keys)
+    requires seen { AreSeenOf kept.old.firsts.texts chosen.now.batch.now chosen.now.columns.now
+        kept.old.seen.numbers }
+    ensures grown { OnOk result
+        (IsGrown items.now chosen.now.batch.now.columns chosen.now.columns.now chosen.now.rows.now
+        (found_by chosen.now.columns.now kept.old.firsts.keys)
+        (found_by chosen.now.columns.now kept.new.firsts.keys)
         kept.old.count (lists_of kept.old.tallies.items) (lists_of kept.new.tallies.items)) }
     ensures count { OnOk result (kept.new.count ≡ kept.old.count + length chosen.now.rows.now) }
-    ensures kept { OnOk result (IsKept items.now (length (found_by chosen.now.columns.now kept.new.firsts.keys)) kept.new.count (lists_of kept.new.tallies.items)) }
+    ensures kept { OnOk result
+        (IsKept items.now (length (found_by chosen.now.columns.now kept.new.firsts.keys))
+        kept.new.count (lists_of kept.new.tallies.items)) }
     ensures firsts { OnOk result (FirstsStay chosen.now kept.old.firsts.keys kept.new.firsts.keys) }
-    ensures known { OnOk result (AreKnown value_tagged (map key_of kept.new.firsts.keys) kept.new.known.items) }
-    ensures seen { OnOk result (AreSeenOf kept.new.firsts.texts chosen.now.batch.now chosen.now.columns.now kept.new.seen.numbers) }
+    ensures known { OnOk result
+        (AreKnown value_tagged (map key_of kept.new.firsts.keys) kept.new.known.items) }
+    ensures seen { OnOk result (AreSeenOf kept.new.firsts.texts chosen.now.batch.now
+        chosen.now.columns.now kept.new.seen.numbers) }
     ensures batch { OnOk result (kept.new.seen.number ≡ kept.old.seen.number) }
 {
     let groups = place_kept(alloc, kept, chosen)?;
@@ -86,24 +96,31 @@ pub(crate) fn add<'t>(
     Ok(())
 }
 
-// The group of each of these rows, by what is known of keys. Where the key is not one column, or most rows opened a group, that is
-// left aside. Then a long text that was seen in the batch is not looked at.
+// The group of each of these rows, by what is known of keys. Where the key is not one column, or
+// most rows opened a group, that is left aside. Then a long text that was seen in the batch is not
+// looked at.
 fn place_kept<'t>(
     alloc: Global,
     kept: &mut Kept<'t>,
     chosen: &Chosen<'t, '_>,
 ) -> Result<Vec<u32>, AllocError>
-    requires keys { IsTrue (list_all (λ column. nat_lt column (length chosen.now.batch.now.columns)) chosen.now.columns.now) }
+    requires keys { IsTrue (list_all (λ column. nat_lt column (length chosen.now.batch.now.columns))
+        chosen.now.columns.now) }
     requires within { All (λ row. row < chosen.now.batch.now.rows) chosen.now.rows.now }
     requires known { AreKnown value_tagged (map key_of kept.old.firsts.keys) kept.old.known.items }
-    requires seen { AreSeenOf kept.old.firsts.texts chosen.now.batch.now chosen.now.columns.now kept.old.seen.numbers }
+    requires seen { AreSeenOf kept.old.firsts.texts chosen.now.batch.now chosen.now.columns.now
+        kept.old.seen.numbers }
     ensures found { OnOk result (found_by chosen.now.columns.now kept.new.firsts.keys
-        ≡ found_then chosen.now.columns.now (found_by chosen.now.columns.now kept.old.firsts.keys) (map (row_of chosen.now.batch.now.columns) chosen.now.rows.now)) }
-    ensures placed { IfOk result (λ groups. ArePlaced chosen.now.columns.now chosen.now.batch.now.columns (found_by chosen.now.columns.now kept.new.firsts.keys)
+        ≡ found_then chosen.now.columns.now (found_by chosen.now.columns.now kept.old.firsts.keys)
+        (map (row_of chosen.now.batch.now.columns) chosen.now.rows.now)) }
+    ensures placed { IfOk result (λ groups. ArePlaced chosen.now.columns.now
+        chosen.now.batch.now.columns (found_by chosen.now.columns.now kept.new.firsts.keys)
         chosen.now.rows.now groups.items (length chosen.now.rows.now)) }
     ensures firsts { OnOk result (FirstsStay chosen.now kept.old.firsts.keys kept.new.firsts.keys) }
-    ensures known { OnOk result (AreKnown value_tagged (map key_of kept.new.firsts.keys) kept.new.known.items) }
-    ensures seen { OnOk result (AreSeenOf kept.new.firsts.texts chosen.now.batch.now chosen.now.columns.now kept.new.seen.numbers) }
+    ensures known { OnOk result
+        (AreKnown value_tagged (map key_of kept.new.firsts.keys) kept.new.known.items) }
+    ensures seen { OnOk result (AreSeenOf kept.new.firsts.texts chosen.now.batch.now
+        chosen.now.columns.now kept.new.seen.numbers) }
     ensures batch { OnOk result (kept.new.seen.number ≡ kept.old.seen.number) }
     ensures tallies { OnOk result (kept.new.tallies ≡ kept.old.tallies) }
     ensures count { OnOk result (kept.new.count ≡ kept.old.count) }
@@ -118,10 +135,11 @@ fn place_kept<'t>(
     groups_of(alloc, &mut kept.firsts, kept.known.as_mut_slice(), chosen)
 }
 
-// Makes room for what will be known of the keys of more rows, where so many groups were found: the more groups, the more
-// entries. What is known stays until there are too few of them.
+// Makes room for what will be known of the keys of more rows, where so many groups were found: the
+// more groups, the more entries. What is known stays until there are too few of them.
 fn make_known(known: &mut Vec<Known>, found: usize, rows: usize) -> Result<(), AllocError>
-    ensures { OnOk result ((meaning : ℕ → ℕ → Cell) (found : List (List Cell)) → AreKnown meaning found known.old.items → AreKnown meaning found known.new.items) }
+    ensures { OnOk result ((meaning : ℕ → ℕ → Cell) (found : List (List Cell)) →
+        AreKnown meaning found known.old.items → AreKnown meaning found known.new.items) }
 {
     let wanted = known_count(found, rows);
     if LEAST_ROWS <= rows && known.len() < wanted {
@@ -131,7 +149,8 @@ fn make_known(known: &mut Vec<Known>, found: usize, rows: usize) -> Result<(), A
 }
 
 impl<'t> Kept<'t> {
-    /// Takes in what is kept of other rows: each group joins that of its key, or stands last. Who watches may end it.
+    /// Takes in what is kept of other rows: each group joins that of its key, or stands last. Who
+    /// watches may end it.
     ///
     /// # Errors
     ///
@@ -144,17 +163,28 @@ impl<'t> Kept<'t> {
         watch: &mut W,
     ) -> Result<(), AllocError>
         requires few { self.old.count + other.now.count ≤ most_rows }
-        requires firsts { All (IsFirst shape.now.batches.now shape.now.keys.now) other.now.firsts.keys }
-        requires kept { IsKept shape.now.items.now (length (found_by shape.now.keys.now self.old.firsts.keys)) self.old.count (lists_of self.old.tallies.items) }
-        requires other { IsKept shape.now.items.now (length (found_by shape.now.keys.now other.now.firsts.keys)) other.now.count (lists_of other.now.tallies.items) }
+        requires firsts { All (IsFirst shape.now.batches.now shape.now.keys.now)
+            other.now.firsts.keys }
+        requires kept { IsKept shape.now.items.now
+            (length (found_by shape.now.keys.now self.old.firsts.keys)) self.old.count
+            (lists_of self.old.tallies.items) }
+        requires other { IsKept shape.now.items.now
+            (length (found_by shape.now.keys.now other.now.firsts.keys)) other.now.count
+            (lists_of other.now.tallies.items) }
         requires ready { W.ready watch.old }
-        ensures merged { OnOk result (IsMerged (found_by shape.now.keys.now self.old.firsts.keys) (found_by shape.now.keys.now other.now.firsts.keys)
-            (found_by shape.now.keys.now self.new.firsts.keys) (length shape.now.items.now) (self.old.count + other.now.count)
-            (lists_of other.now.tallies.items) (lists_of self.old.tallies.items) (lists_of self.new.tallies.items)) }
+        ensures merged { OnOk result (IsMerged (found_by shape.now.keys.now self.old.firsts.keys)
+            (found_by shape.now.keys.now other.now.firsts.keys) (found_by shape.now.keys.now
+            self.new.firsts.keys) (length shape.now.items.now) (self.old.count + other.now.count)
+            (lists_of other.now.tallies.items) (lists_of self.old.tallies.items)
+            (lists_of self.new.tallies.items)) }
         ensures count { OnOk result (self.new.count ≡ self.old.count + other.now.count) }
-        ensures kept { OnOk result (IsKept shape.now.items.now (length (found_by shape.now.keys.now self.new.firsts.keys)) self.new.count (lists_of self.new.tallies.items)) }
-        ensures firsts { OnOk result (FirstsJoin self.old.firsts.keys other.now.firsts.keys self.new.firsts.keys) }
-        ensures known { OnOk result (AreKnown value_tagged (map key_of self.new.firsts.keys) self.new.known.items) }
+        ensures kept { OnOk result
+            (IsKept shape.now.items.now (length (found_by shape.now.keys.now self.new.firsts.keys))
+            self.new.count (lists_of self.new.tallies.items)) }
+        ensures firsts { OnOk result
+            (FirstsJoin self.old.firsts.keys other.now.firsts.keys self.new.firsts.keys) }
+        ensures known { OnOk result
+            (AreKnown value_tagged (map key_of self.new.firsts.keys) self.new.known.items) }
         ensures seen { OnOk result (self.new.seen.numbers.places.items ≡ []) }
         ensures ready { OnOk result (W.ready watch.new) }
         ensures watched { W.watched watch.old watch.new }
@@ -197,7 +227,8 @@ pub(crate) fn blank(
     groups: usize,
 ) -> Result<Vec<ItemTallies>, AllocError>
     ensures many { IfOk result (λ tallies. length tallies.items ≡ items) }
-    ensures blank { IfOk result (λ tallies. All (λ list. AreBlank groups (tallies_in list)) tallies.items) }
+    ensures blank { IfOk result
+        (λ tallies. All (λ list. AreBlank groups (tallies_in list)) tallies.items) }
 {
     let mut tallies = Vec::with_capacity(alloc, items)?;
     for _item in 0..items {

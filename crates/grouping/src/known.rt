@@ -1,6 +1,7 @@
 //! Keys that were found before, each by one number.
 
-ghost use Rattle.std.specs.Prelude.{◌≡◌, ◌≤◌, ◌<◌, ◌==◌, ◌&&◌, ◌∷◌, [], not, length, map, nat_lt, All, OnOk, IfOk, IfSome, IsTrue};
+ghost use Rattle.std.specs.Prelude.{◌≡◌, ◌≤◌, ◌<◌, ◌==◌, ◌&&◌, ◌∷◌, [], not, length, map, nat_lt};
+ghost use Rattle.std.specs.Prelude.{All, OnOk, IfOk, IfSome, IsTrue};
 ghost use Rattle.std.specs.List.{list_all};
 ghost use Rattle.indexmap.specs.IndexSet.{insert_key};
 ghost use Rattle.grouping.specs.Found.{place_in};
@@ -38,7 +39,8 @@ impl Known {
 
     // Whether it is of the key of a tag.
     fn is_of(self, tag: Tag) -> bool
-        ensures { result ≡ (not (tag.kind == 0) && ((self.kind == tag.kind) && (self.key == tag.key))) }
+        ensures { result
+            ≡ (not (tag.kind == 0) && ((self.kind == tag.kind) && (self.key == tag.key))) }
     {
         tag.kind != NOTHING && self.kind == tag.kind && self.key == tag.key
     }
@@ -56,8 +58,8 @@ pub(crate) fn know_nothing(known: &mut Vec<Known>, wanted: usize) -> Result<(), 
     known.resize(wanted, Known::nothing())
 }
 
-/// How many keys may be known of so many groups and rows. They are many more than the groups, since two keys that have one
-/// place take it from each other.
+/// How many keys may be known of so many groups and rows. They are many more than the groups, since
+/// two keys that have one place take it from each other.
 pub(crate) fn known_count(found: usize, rows: usize) -> usize
     ensures { 0 < result }
 {
@@ -79,9 +81,10 @@ pub(crate) fn known_count(found: usize, rows: usize) -> usize
 /// By which number keys are spread: those that follow each other have places apart.
 pub(crate) const SPREAD: u64 = 0x9E37_79B9_7F4A_7C15;
 
-/// By which number the indices of so many entries of a dictionary are spread over so many places, a power of two. Each has a place
-/// of its own where there are enough. Else a secret spreads them, so that no client can choose two that share a place: the text
-/// of each would be looked at for each of their rows.
+/// By which number the indices of so many entries of a dictionary are spread over so many places, a
+/// power of two. Each has a place of its own where there are enough. Else a secret spreads them, so
+/// that no client can choose two that share a place: the text of each would be looked at for each
+/// of their rows.
 pub(crate) fn index_spread(entries: usize, places: usize, seed: HashSeed) -> u64 {
     if entries <= places {
         let mask = places.saturating_sub(1) as u64;
@@ -106,7 +109,8 @@ pub(crate) fn index_count(entries: usize, rows: usize) -> usize
     }
 }
 
-// The place of a tag among so many entries, a power of two of them or any other number. No contract rests on it.
+// The place of a tag among so many entries, a power of two of them or any other number. No contract
+// rests on it.
 fn place_of(tag: Tag, entries: usize, spread: u64) -> usize
     requires { 0 < entries }
     ensures { result < entries }
@@ -116,8 +120,8 @@ fn place_of(tag: Tag, entries: usize, spread: u64) -> usize
     product.wrapping_shr((mask as u64).leading_zeros()) as usize & mask
 }
 
-/// The group of a row, whose key has this tag: by what is known, or else by the first rows. It is opened where the row's
-/// key is new, and known then.
+/// The group of a row, whose key has this tag: by what is known, or else by the first rows. It is
+/// opened where the row's key is new, and known then.
 ///
 /// # Errors
 ///
@@ -133,9 +137,12 @@ pub(crate) fn known_group<'t, T: Tags>(
     requires there { first.row < T.count tags.now }
     requires tagged { key_of first ≡ T.value tags.now first.row ∷ [] }
     requires known { AreKnown (T.meaning tags.now) (map key_of firsts.old.keys) known.old }
-    ensures inserted { OnOk result (firsts.new.keys ≡ insert_key same_first firsts.old.keys first.entry) }
-    ensures place { IfOk result (λ group. group ≡ place_in (map key_of firsts.old.keys) (key_of first.entry)) }
-    ensures known { OnOk result (AreKnown (T.meaning tags.now) (map key_of firsts.new.keys) known.new) }
+    ensures inserted { OnOk result
+        (firsts.new.keys ≡ insert_key same_first firsts.old.keys first.entry) }
+    ensures place { IfOk result
+        (λ group. group ≡ place_in (map key_of firsts.old.keys) (key_of first.entry)) }
+    ensures known { OnOk result
+        (AreKnown (T.meaning tags.now) (map key_of firsts.new.keys) known.new) }
     ensures long { OnOk result (length known.new ≡ length known.old) }
 {
     let tag = tags.tag(first.row as usize);
@@ -170,7 +177,8 @@ fn told_group<T: Tags>(known: &[Known], tags: &T, first: RowKey<'_>, spread: u64
     }
 }
 
-/// Adds the groups of the next rows whose keys are known, until one is not. Here no set is at hand, so that the loop is short.
+/// Adds the groups of the next rows whose keys are known, until one is not. Here no set is at hand,
+/// so that the loop is short.
 ///
 /// # Errors
 ///
@@ -182,13 +190,16 @@ pub(crate) fn push_known<T: Tags>(
     groups: &mut Vec<u32>,
 ) -> Result<(), AllocError>
     requires some { 0 < length known.now }
-    requires there { IsTrue (list_all (λ column. nat_lt column (length chosen.now.batch.now.columns)) chosen.now.columns.now) }
+    requires there { IsTrue (list_all
+        (λ column. nat_lt column (length chosen.now.batch.now.columns)) chosen.now.columns.now) }
     requires within { All (λ row. row < chosen.now.batch.now.rows) chosen.now.rows.now }
-    requires tagged { AreTagged (T.count tags.now) (T.value tags.now) chosen.now.columns.now chosen.now.batch.now }
+    requires tagged { AreTagged (T.count tags.now)
+        (T.value tags.now) chosen.now.columns.now chosen.now.batch.now }
     requires few { length groups.old.items ≤ length chosen.now.rows.now }
     ensures more { OnOk result (length groups.old.items ≤ length groups.new.items) }
     ensures few { OnOk result (length groups.new.items ≤ length chosen.now.rows.now) }
-    ensures found { OnOk result (GoOn (T.meaning tags.now) known.now chosen.now groups.old.items groups.new.items) }
+    ensures found { OnOk result
+        (GoOn (T.meaning tags.now) known.now chosen.now groups.old.items groups.new.items) }
 {
     for k in groups.len()..chosen.rows.len() {
         let first = RowKey {
@@ -215,8 +226,10 @@ pub(crate) fn short_group<'t>(
     firsts: &mut FirstRows<'t>,
     first: RowKey<'t>,
 ) -> Result<u32, AllocError>
-    ensures inserted { OnOk result (firsts.new.keys ≡ insert_key same_first firsts.old.keys first.entry) }
-    ensures place { IfOk result (λ group. group ≡ place_in (map key_of firsts.old.keys) (key_of first.entry)) }
+    ensures inserted { OnOk result
+        (firsts.new.keys ≡ insert_key same_first firsts.old.keys first.entry) }
+    ensures place { IfOk result
+        (λ group. group ≡ place_in (map key_of firsts.old.keys) (key_of first.entry)) }
 {
     let group = group_of(firsts, first)?;
     short(group)

@@ -32,7 +32,8 @@ impl SeenBatch {
     pub(crate) fn turn_to(&mut self, number: usize)
         ensures number { self.new.number ≡ number }
         ensures stays { (numbers : Value → Option ℕ) (batches : List BatchAt) (columns : List ℕ) →
-            AreNumbers numbers (batch_at batches self.old.number) columns self.old.numbers.places.items →
+            AreNumbers numbers
+            (batch_at batches self.old.number) columns self.old.numbers.places.items →
             AreNumbers numbers (batch_at batches number) columns self.new.numbers.places.items }
     {
         if number != self.number {

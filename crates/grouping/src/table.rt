@@ -23,8 +23,8 @@ use group_slots::{
 use std::alloc::{AllocError, Global};
 use std::marker::PhantomData;
 
-/// Rows of a batch, its number, the columns whose values are their keys, and by which number keys are spread over the places of
-/// those that are known. No contract rests on that one.
+/// Rows of a batch, its number, the columns whose values are their keys, and by which number keys
+/// are spread over the places of those that are known. No contract rests on that one.
 #[derive(Clone, Copy, Drop)]
 pub(crate) struct Chosen<'t, 'r> {
     pub(crate) number: usize,
@@ -34,7 +34,8 @@ pub(crate) struct Chosen<'t, 'r> {
     pub(crate) spread: u64,
 }
 
-/// The group of each of these rows, by what is known of their keys. A row whose key is new opens a group behind all others.
+/// The group of each of these rows, by what is known of their keys. A row whose key is new opens a
+/// group after all others.
 ///
 /// # Errors
 ///
@@ -45,13 +46,16 @@ pub(crate) fn groups_of<'t>(
     known: &mut [Known],
     chosen: &Chosen<'t, '_>,
 ) -> Result<Vec<u32>, AllocError>
-    requires there { IsTrue (list_all (λ column. nat_lt column (length chosen.now.batch.now.columns)) chosen.now.columns.now) }
+    requires there { IsTrue (list_all
+        (λ column. nat_lt column (length chosen.now.batch.now.columns)) chosen.now.columns.now) }
     requires within { All (λ row. row < chosen.now.batch.now.rows) chosen.now.rows.now }
     requires known { AreKnown value_tagged (map key_of firsts.old.keys) known.old }
     ensures found { OnOk result (map key_of firsts.new.keys
-        ≡ found_then chosen.now.columns.now (map key_of firsts.old.keys) (map (row_of chosen.now.batch.now.columns) chosen.now.rows.now)) }
-    ensures placed { IfOk result (λ groups. ArePlaced chosen.now.columns.now chosen.now.batch.now.columns (map key_of firsts.new.keys)
-        chosen.now.rows.now groups.items (length chosen.now.rows.now)) }
+        ≡ found_then chosen.now.columns.now (map key_of firsts.old.keys)
+        (map (row_of chosen.now.batch.now.columns) chosen.now.rows.now)) }
+    ensures placed { IfOk result
+        (λ groups. ArePlaced chosen.now.columns.now chosen.now.batch.now.columns (map key_of
+        firsts.new.keys) chosen.now.rows.now groups.items (length chosen.now.rows.now)) }
     ensures firsts { OnOk result (FirstsStay chosen.now firsts.old.keys firsts.new.keys) }
     ensures known { OnOk result (AreKnown value_tagged (map key_of firsts.new.keys) known.new) }
 {
@@ -86,15 +90,18 @@ fn groups_of_numbers<'t>(
     slots: &Slots<'_>,
     chosen: &Chosen<'t, '_>,
 ) -> Result<Vec<u32>, AllocError>
-    requires there { IsTrue (list_all (λ column. nat_lt column (length chosen.now.batch.now.columns)) chosen.now.columns.now) }
+    requires there { IsTrue (list_all
+        (λ column. nat_lt column (length chosen.now.batch.now.columns)) chosen.now.columns.now) }
     requires within { All (λ row. row < chosen.now.batch.now.rows) chosen.now.rows.now }
     requires some { 0 < length known.old }
     requires keys { AreKeys slots.now chosen.now.columns.now chosen.now.batch.now }
     requires known { AreKnown value_tagged (map key_of firsts.old.keys) known.old }
     ensures found { OnOk result (map key_of firsts.new.keys
-        ≡ found_then chosen.now.columns.now (map key_of firsts.old.keys) (map (row_of chosen.now.batch.now.columns) chosen.now.rows.now)) }
-    ensures placed { IfOk result (λ groups. ArePlaced chosen.now.columns.now chosen.now.batch.now.columns (map key_of firsts.new.keys)
-        chosen.now.rows.now groups.items (length chosen.now.rows.now)) }
+        ≡ found_then chosen.now.columns.now (map key_of firsts.old.keys)
+        (map (row_of chosen.now.batch.now.columns) chosen.now.rows.now)) }
+    ensures placed { IfOk result
+        (λ groups. ArePlaced chosen.now.columns.now chosen.now.batch.now.columns (map key_of
+        firsts.new.keys) chosen.now.rows.now groups.items (length chosen.now.rows.now)) }
     ensures firsts { OnOk result (FirstsStay chosen.now firsts.old.keys firsts.new.keys) }
     ensures known { OnOk result (AreKnown value_tagged (map key_of firsts.new.keys) known.new) }
 {
@@ -121,16 +128,19 @@ fn groups_of_kind<'t, N: Number>(
     slots: &Slots<'_>,
     chosen: &Chosen<'t, '_>,
 ) -> Result<Vec<u32>, AllocError>
-    requires there { IsTrue (list_all (λ column. nat_lt column (length chosen.now.batch.now.columns)) chosen.now.columns.now) }
+    requires there { IsTrue (list_all
+        (λ column. nat_lt column (length chosen.now.batch.now.columns)) chosen.now.columns.now) }
     requires within { All (λ row. row < chosen.now.batch.now.rows) chosen.now.rows.now }
     requires some { 0 < length known.old }
     requires kind { slots.now.kind ≡ N.kind }
     requires keys { AreKeys slots.now chosen.now.columns.now chosen.now.batch.now }
     requires known { AreKnown value_tagged (map key_of firsts.old.keys) known.old }
     ensures found { OnOk result (map key_of firsts.new.keys
-        ≡ found_then chosen.now.columns.now (map key_of firsts.old.keys) (map (row_of chosen.now.batch.now.columns) chosen.now.rows.now)) }
-    ensures placed { IfOk result (λ groups. ArePlaced chosen.now.columns.now chosen.now.batch.now.columns (map key_of firsts.new.keys)
-        chosen.now.rows.now groups.items (length chosen.now.rows.now)) }
+        ≡ found_then chosen.now.columns.now (map key_of firsts.old.keys)
+        (map (row_of chosen.now.batch.now.columns) chosen.now.rows.now)) }
+    ensures placed { IfOk result
+        (λ groups. ArePlaced chosen.now.columns.now chosen.now.batch.now.columns (map key_of
+        firsts.new.keys) chosen.now.rows.now groups.items (length chosen.now.rows.now)) }
     ensures firsts { OnOk result (FirstsStay chosen.now firsts.old.keys firsts.new.keys) }
     ensures known { OnOk result (AreKnown value_tagged (map key_of firsts.new.keys) known.new) }
 {
@@ -142,21 +152,24 @@ fn groups_of_kind<'t, N: Number>(
     groups_by(alloc, firsts, known, &tags, chosen)
 }
 
-// The group of each of these rows, where these entries of a dictionary are their keys. What is known of an index is known of
-// this batch alone, since another may have another dictionary.
+// The group of each of these rows, where these entries of a dictionary are their keys. What is
+// known of an index is known of this batch alone, since another may have another dictionary.
 fn groups_of_entries<'t>(
     alloc: Global,
     firsts: &mut FirstRows<'t>,
     entries: &Entries<'_>,
     chosen: &Chosen<'t, '_>,
 ) -> Result<Vec<u32>, AllocError>
-    requires there { IsTrue (list_all (λ column. nat_lt column (length chosen.now.batch.now.columns)) chosen.now.columns.now) }
+    requires there { IsTrue (list_all
+        (λ column. nat_lt column (length chosen.now.batch.now.columns)) chosen.now.columns.now) }
     requires within { All (λ row. row < chosen.now.batch.now.rows) chosen.now.rows.now }
     requires keys { AreEntryKeys entries.now chosen.now.columns.now chosen.now.batch.now }
     ensures found { OnOk result (map key_of firsts.new.keys
-        ≡ found_then chosen.now.columns.now (map key_of firsts.old.keys) (map (row_of chosen.now.batch.now.columns) chosen.now.rows.now)) }
-    ensures placed { IfOk result (λ groups. ArePlaced chosen.now.columns.now chosen.now.batch.now.columns (map key_of firsts.new.keys)
-        chosen.now.rows.now groups.items (length chosen.now.rows.now)) }
+        ≡ found_then chosen.now.columns.now (map key_of firsts.old.keys)
+        (map (row_of chosen.now.batch.now.columns) chosen.now.rows.now)) }
+    ensures placed { IfOk result
+        (λ groups. ArePlaced chosen.now.columns.now chosen.now.batch.now.columns (map key_of
+        firsts.new.keys) chosen.now.rows.now groups.items (length chosen.now.rows.now)) }
     ensures firsts { OnOk result (FirstsStay chosen.now firsts.old.keys firsts.new.keys) }
 {
     let mut fresh = Vec::new(alloc);
@@ -193,16 +206,20 @@ fn groups_of_indices<'t, N: Number>(
     entries: &Entries<'_>,
     chosen: &Chosen<'t, '_>,
 ) -> Result<Vec<u32>, AllocError>
-    requires there { IsTrue (list_all (λ column. nat_lt column (length chosen.now.batch.now.columns)) chosen.now.columns.now) }
+    requires there { IsTrue (list_all
+        (λ column. nat_lt column (length chosen.now.batch.now.columns)) chosen.now.columns.now) }
     requires within { All (λ row. row < chosen.now.batch.now.rows) chosen.now.rows.now }
     requires some { 0 < length known.old }
     requires kind { entries.now.slots.kind ≡ N.kind }
     requires keys { AreEntryKeys entries.now chosen.now.columns.now chosen.now.batch.now }
-    requires known { AreKnown (entry_tagged entries.now.dictionary.now) (map key_of firsts.old.keys) known.old }
+    requires known { AreKnown (entry_tagged entries.now.dictionary.now)
+        (map key_of firsts.old.keys) known.old }
     ensures found { OnOk result (map key_of firsts.new.keys
-        ≡ found_then chosen.now.columns.now (map key_of firsts.old.keys) (map (row_of chosen.now.batch.now.columns) chosen.now.rows.now)) }
-    ensures placed { IfOk result (λ groups. ArePlaced chosen.now.columns.now chosen.now.batch.now.columns (map key_of firsts.new.keys)
-        chosen.now.rows.now groups.items (length chosen.now.rows.now)) }
+        ≡ found_then chosen.now.columns.now (map key_of firsts.old.keys)
+        (map (row_of chosen.now.batch.now.columns) chosen.now.rows.now)) }
+    ensures placed { IfOk result
+        (λ groups. ArePlaced chosen.now.columns.now chosen.now.batch.now.columns (map key_of
+        firsts.new.keys) chosen.now.rows.now groups.items (length chosen.now.rows.now)) }
     ensures firsts { OnOk result (FirstsStay chosen.now firsts.old.keys firsts.new.keys) }
 {
     let tags = IndexTags::<N> {
@@ -221,17 +238,22 @@ fn groups_by<'t, T: Tags>(
     tags: &T,
     chosen: &Chosen<'t, '_>,
 ) -> Result<Vec<u32>, AllocError>
-    requires there { IsTrue (list_all (λ column. nat_lt column (length chosen.now.batch.now.columns)) chosen.now.columns.now) }
+    requires there { IsTrue (list_all
+        (λ column. nat_lt column (length chosen.now.batch.now.columns)) chosen.now.columns.now) }
     requires within { All (λ row. row < chosen.now.batch.now.rows) chosen.now.rows.now }
     requires some { 0 < length known.old }
-    requires tagged { AreTagged (T.count tags.now) (T.value tags.now) chosen.now.columns.now chosen.now.batch.now }
+    requires tagged { AreTagged (T.count tags.now)
+        (T.value tags.now) chosen.now.columns.now chosen.now.batch.now }
     requires known { AreKnown (T.meaning tags.now) (map key_of firsts.old.keys) known.old }
     ensures found { OnOk result (map key_of firsts.new.keys
-        ≡ found_then chosen.now.columns.now (map key_of firsts.old.keys) (map (row_of chosen.now.batch.now.columns) chosen.now.rows.now)) }
-    ensures placed { IfOk result (λ groups. ArePlaced chosen.now.columns.now chosen.now.batch.now.columns (map key_of firsts.new.keys)
-        chosen.now.rows.now groups.items (length chosen.now.rows.now)) }
+        ≡ found_then chosen.now.columns.now (map key_of firsts.old.keys)
+        (map (row_of chosen.now.batch.now.columns) chosen.now.rows.now)) }
+    ensures placed { IfOk result
+        (λ groups. ArePlaced chosen.now.columns.now chosen.now.batch.now.columns (map key_of
+        firsts.new.keys) chosen.now.rows.now groups.items (length chosen.now.rows.now)) }
     ensures firsts { OnOk result (FirstsStay chosen.now firsts.old.keys firsts.new.keys) }
-    ensures known { OnOk result (AreKnown (T.meaning tags.now) (map key_of firsts.new.keys) known.new) }
+    ensures known { OnOk result
+        (AreKnown (T.meaning tags.now) (map key_of firsts.new.keys) known.new) }
 {
     let mut groups = Vec::with_capacity(alloc, chosen.rows.len())?;
     'rows: while groups.len() < chosen.rows.len() {
@@ -257,12 +279,15 @@ pub(crate) fn groups_one_by_one<'t>(
     firsts: &mut FirstRows<'t>,
     chosen: &Chosen<'t, '_>,
 ) -> Result<Vec<u32>, AllocError>
-    requires there { IsTrue (list_all (λ column. nat_lt column (length chosen.now.batch.now.columns)) chosen.now.columns.now) }
+    requires there { IsTrue (list_all
+        (λ column. nat_lt column (length chosen.now.batch.now.columns)) chosen.now.columns.now) }
     requires within { All (λ row. row < chosen.now.batch.now.rows) chosen.now.rows.now }
     ensures found { OnOk result (map key_of firsts.new.keys
-        ≡ found_then chosen.now.columns.now (map key_of firsts.old.keys) (map (row_of chosen.now.batch.now.columns) chosen.now.rows.now)) }
-    ensures placed { IfOk result (λ groups. ArePlaced chosen.now.columns.now chosen.now.batch.now.columns (map key_of firsts.new.keys)
-        chosen.now.rows.now groups.items (length chosen.now.rows.now)) }
+        ≡ found_then chosen.now.columns.now (map key_of firsts.old.keys)
+        (map (row_of chosen.now.batch.now.columns) chosen.now.rows.now)) }
+    ensures placed { IfOk result
+        (λ groups. ArePlaced chosen.now.columns.now chosen.now.batch.now.columns (map key_of
+        firsts.new.keys) chosen.now.rows.now groups.items (length chosen.now.rows.now)) }
     ensures firsts { OnOk result (FirstsStay chosen.now firsts.old.keys firsts.new.keys) }
 {
     let mut groups = Vec::with_capacity(alloc, chosen.rows.len())?;
@@ -287,8 +312,10 @@ pub(crate) fn group_of<'t>(
     firsts: &mut FirstRows<'t>,
     first: RowKey<'t>,
 ) -> Result<usize, AllocError>
-    ensures inserted { OnOk result (firsts.new.keys ≡ insert_key same_first firsts.old.keys first.entry) }
-    ensures place { IfOk result (λ group. group ≡ place_in (map key_of firsts.old.keys) (key_of first.entry)) }
+    ensures inserted { OnOk result
+        (firsts.new.keys ≡ insert_key same_first firsts.old.keys first.entry) }
+    ensures place { IfOk result
+        (λ group. group ≡ place_in (map key_of firsts.old.keys) (key_of first.entry)) }
 {
     firsts.insert(first)
 }

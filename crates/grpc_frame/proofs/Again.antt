@@ -69,7 +69,7 @@ status_read code b c n rest e =
     let head : nat_lt (length (4 ∷ code ∷ b ∷ c ∷ rest)) 4 ≡ false = le-ltb _ 4 (omega arith) in
     rw (head, e) refl
 
--- ---- the content behind a head
+-- ---- the content after a head
 
 content_3 : (a b c : ℕ) (content rest : List ℕ) (n : ℕ) → length content ≡ n → (drop 3 (take (3 + n) (a ∷ b ∷ c ∷ (content ++ rest))) ≡ content) × (drop (3 + n) (a ∷ b ∷ c ∷ (content ++ rest)) ≡ rest)
 content_3 a b c content rest n l =

@@ -42,7 +42,7 @@ looked (Err e) a b c before after wrote none same = record {
   none = none;
 }
 
--- ---- one behind the other
+-- ---- one after the other
 
 -- the first of them was not sent
 pub head_not_sent : (a b : Option (List ℕ)) (before after head content : List ℕ) → NotSent a b before after head → NotSent a b before after (head ++ content)
@@ -86,5 +86,5 @@ flushed (Err e) a b c before mid bytes none p q =
 pub begun_alone : (a b : Option (List ℕ)) (before after bytes : List ℕ) → before ≡ [] → NotSent a b before after bytes → AppendsBeginning a b bytes
 begun_alone a b before after bytes none p = subst (AppendsBeginning a b) (ap (λ (l : List ℕ). l ++ bytes) none) p.begun
 
--- parts that are sent one behind the other
+-- parts that are sent one after the other
 pub ruleset sending = (written_behind, head_not_sent, sent_behind, looked)

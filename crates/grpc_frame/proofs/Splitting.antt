@@ -62,7 +62,7 @@ one_ending left (broken fault) (broken other) p q =
     let same : Faulty fault ≡ Faulty other = sym a ∙ b in
     cc
 
--- the place behind the first record
+-- the place after the first record
 record Moves (place : Place) (first : Record) (records : List Record) (after : Place) : Type 0 where
   next : Place
   first_moves : place_after place first ≡ Some next
@@ -75,7 +75,7 @@ moves_on place first records after e = by (place_after place first) refl e
     by None is e = absurd cc
     by (Some next) is e = record { next = next; first_moves = is; others_move = e }
 
--- how a list of records stands at a place, with what is left behind it
+-- how a list of records stands at a place, with what is left after it
 record Stands (place : Place) (bytes : List ℕ) (records : List Record) (left : Received) (ending : Ending) : Type 0 where
   whole : bytes ≡ flat_map spelling records ++ left.bytes
   each : AllByRecursion IsRecord records
@@ -91,7 +91,7 @@ first_leads place bytes first records left ending s m = record {
   moves = m.first_moves;
 }
 
--- the records behind the first
+-- the records after the first
 others_stand : (place : Place) (bytes : List ℕ) (first : Record) (records : List Record) (left : Received) (ending : Ending) (s : Stands place bytes (first ∷ records) left ending) (m : Moves place first records left.place)
     → Stands m.next (flat_map spelling records ++ left.bytes) records left ending
 others_stand place bytes first records left ending s m = record { whole = refl; each = s.each.1; places = m.others_move; ends = s.ends }
@@ -156,7 +156,7 @@ record SplitsSo (place : Place) (bytes : List ℕ) : Type 0 where
   ending : Ending
   stand : Stands place bytes records left ending
 
--- what is left behind some bytes
+-- what is left after some bytes
 bytes_behind : (front rest : List ℕ) → AreBytes (front ++ rest) → AreBytes rest
 bytes_behind front rest fits i = rw (← get_or-append-add front rest i 0) (fits (length front + i))
 

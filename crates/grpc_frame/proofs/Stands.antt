@@ -25,7 +25,7 @@ FrontIs left Wanting = Unit {0}
 FrontIs left (Faulty fault) = Breaks left fault
 FrontIs left (Whole found rest) = Leads found left rest
 
--- ---- the content behind a head
+-- ---- the content after a head
 
 behind_3 : (a b c : ℕ) (rest : List ℕ) (n : ℕ) → (drop 3 (take (3 + n) (a ∷ b ∷ c ∷ rest)) ≡ take n rest) × (drop (3 + n) (a ∷ b ∷ c ∷ rest) ≡ drop n rest)
 behind_3 a b c rest n = let e : 3 + n ≡ suc (suc (suc n)) = omega arith in (rw e refl, rw e refl)
@@ -36,7 +36,7 @@ behind_4 a b c d rest n = let e : 4 + n ≡ suc (suc (suc (suc n))) = omega arit
 behind_6 : (a b c d f g : ℕ) (rest : List ℕ) (n : ℕ) → (drop 6 (take (6 + n) (a ∷ b ∷ c ∷ d ∷ f ∷ g ∷ rest)) ≡ take n rest) × (drop (6 + n) (a ∷ b ∷ c ∷ d ∷ f ∷ g ∷ rest) ≡ drop n rest)
 behind_6 a b c d f g rest n = let e : 6 + n ≡ suc (suc (suc (suc (suc (suc n))))) = omega arith in (rw e refl, rw e refl)
 
--- the front behind a head: more is wanted, or the content is there
+-- the front after a head: more is wanted, or the content is there
 content_is : (place : Place) (bytes : List ℕ) (head : Head)
     → (head.len + head.content_len ≤ length bytes → FrontIs (at place bytes) (record_front place head.kind (content_in head bytes) (rest_behind head bytes)))
     → FrontIs (at place bytes) (front_by (at place bytes) (Ok (Some head)))

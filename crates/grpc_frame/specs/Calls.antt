@@ -10,14 +10,15 @@ use Rattle.grpc_frame.specs.Front.{Wanting, Faulty, Whole, front_of}
 
 -- ---- the next record, by what had come before and after the call
 
--- by the function: the record in front is taken; else nothing changes. Want of memory is answered only
--- where a record stands in front.
+-- by the function: the record in front is taken; else nothing changes. Want of memory is answered
+-- only where a record stands in front.
 abbrev pub TakesFront : Result (Option Record) Fault → Received → Received → Type 0
 TakesFront (Ok (Some found)) old new = front_of old ≡ Whole found new
 TakesFront (Ok None) old new = (front_of old ≡ Wanting) × (new ≡ old)
 TakesFront (Err fault) old new =
     (fault ≢ OutOfMemory → front_of old ≡ Faulty fault)
-    × (fault ≡ OutOfMemory → (found : Record) × (rest : Received) × (front_of old ≡ Whole found rest))
+    × (fault ≡ OutOfMemory →
+    (found : Record) × (rest : Received) × (front_of old ≡ Whole found rest))
     × (new ≡ old)
 
 -- the same in the words of the profile

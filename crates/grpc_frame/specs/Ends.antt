@@ -1,5 +1,6 @@
 -- What the calls of an end of a connection do.
-use Rattle.std.specs.Prelude.{◌≡◌, ℕ, ◌+◌, ◌<◌, List, [], ◌++◌, length, take, Option, Result, MatchResult}
+use Rattle.std.specs.Prelude.{◌≡◌, ℕ, ◌+◌, ◌<◌, List, [], ◌++◌, length, take, Option, Result}
+use Rattle.std.specs.Prelude.{MatchResult}
 use Rattle.std.specs.Io.KnownBytes.{Appends, Consumes, IsAtEnd}
 use Rattle.scan_base.specs.declared.fault.Fault.{Fault}
 use Rattle.scan_base.specs.declared.fault.Fault.TheVariants.{Transport}
@@ -22,8 +23,8 @@ TakesTurn result old new = MatchResult result (λ count. 0 < count → new < old
 
 -- ---- what is read
 
--- The tape of a reader: the bytes that its reads gave so far, in order, and those that they will give from here on, where
--- these are known.
+-- The tape of a reader: the bytes that its reads gave so far, in order, and those that they will
+-- give from here on, where these are known.
 pub record Tape : Type 0 where
   pub given : List ℕ
   pub left : Option (List ℕ)
@@ -32,15 +33,18 @@ pub record Tape : Type 0 where
 abbrev pub tape_of : List ℕ → Option (List ℕ) → Tape
 tape_of given left = record { given = given; left = left }
 
--- reads gave these bytes, and no others: where it was known what they will give, these stood in front of it
+-- reads gave these bytes, and no others: where it was known what they will give, these stood in
+-- front of it
 pub record Advances (old new : Tape) (bytes : List ℕ) : Type 0 where
   pub gave : new.given ≡ old.given ++ bytes
   pub took : Consumes old.left new.left bytes
 
--- One read gave so many bytes, to the front of the piece: none only at the end or with no room. One that failed gave none.
+-- One read gave so many bytes, to the front of the piece: none only at the end or with no room. One
+-- that failed gave none.
 abbrev pub ReadAdvances : {E : Type 0} → Result ℕ E → Tape → Tape → List ℕ → Type 0
 ReadAdvances result old new piece = MatchResult result
-    (λ count. Advances old new (take count piece) × (count ≡ 0 → 0 < length piece → IsAtEnd new.left))
+    (λ count. Advances old new (take count piece)
+    × (count ≡ 0 → 0 < length piece → IsAtEnd new.left))
     (λ _. Advances old new [])
 
 -- ---- what is written
@@ -56,6 +60,8 @@ pub record AppendsBeginning (old new : Option (List ℕ)) (bytes : List ℕ) : T
 abbrev pub GrowsAlike : Option (List ℕ) → Option (List ℕ) → List ℕ → List ℕ → Type 0
 GrowsAlike old new bytes bytes' = (more : List ℕ) × Appends old new more × (bytes' ≡ bytes ++ more)
 
--- a write put all the bytes behind the known ones, or a beginning of them where it failed
-abbrev pub Writes : {A E : Type 0} → Result A E → Option (List ℕ) → Option (List ℕ) → List ℕ → Type 0
-Writes result old new bytes = MatchResult result (λ _. Appends old new bytes) (λ _. AppendsBeginning old new bytes)
+-- a write put all the bytes after the known ones, or a beginning of them where it failed
+abbrev pub Writes : {A E : Type 0} → Result A E → Option (List ℕ) → Option (List ℕ) →
+    List ℕ → Type 0
+Writes result old new bytes =
+    MatchResult result (λ _. Appends old new bytes) (λ _. AppendsBeginning old new bytes)

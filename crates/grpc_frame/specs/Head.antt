@@ -1,5 +1,6 @@
 -- What the head of a record says, by the first bytes alone.
-use Rattle.std.specs.Prelude.{ℕ, ◌<◌, ◌≤◌, ◌==◌, nat_lt, List, length, take, drop, slice_index, Option, Some, None, Result, Ok, Err, if◌then◌else◌}
+use Rattle.std.specs.Prelude.{ℕ, ◌<◌, ◌≤◌, ◌==◌, nat_lt, List, length, take, drop, slice_index}
+use Rattle.std.specs.Prelude.{Option, Some, None, Result, Ok, Err, if◌then◌else◌}
 use Rattle.std.specs.Int.{w16, w32, from_be_bytes}
 use Rattle.scan_base.specs.Limits.{most_path_bytes, most_message_bytes}
 use Rattle.scan_base.specs.declared.fault.Fault.{Fault}
@@ -48,7 +49,8 @@ end_head = Ok (Some (record { kind = kinds.End; len = 1; content_len = 0 }))
 abbrev pub status_head : List ℕ → Result (Option Head) Fault
 status_head bytes =
     if nat_lt (length bytes) 4 then Ok None
-    else Ok (Some (record { kind = kinds.Status (slice_index bytes 1); len = 4; content_len = len16_at 2 bytes }))
+    else Ok (Some
+    (record { kind = kinds.Status (slice_index bytes 1); len = 4; content_len = len16_at 2 bytes }))
 
 -- by the kind byte
 abbrev pub head_by : Place → ℕ → List ℕ → Result (Option Head) Fault
@@ -56,8 +58,10 @@ head_by BetweenCalls kind bytes = if kind == 1 then open_head bytes else Err Bad
 head_by InsideCall kind bytes =
     if kind == 2 then message_head bytes else (if kind == 3 then end_head else Err BadFrame)
 head_by InAnswer kind bytes =
-    if kind == 2 then message_head bytes else (if kind == 4 then status_head bytes else Err BadFrame)
+    if kind == 2 then message_head bytes
+    else (if kind == 4 then status_head bytes else Err BadFrame)
 
 -- the head of the record in front
 unfoldable pub head_of : Place → List ℕ → Result (Option Head) Fault
-head_of place bytes = if length bytes == 0 then Ok None else head_by place (slice_index bytes 0) bytes
+head_of place bytes =
+    if length bytes == 0 then Ok None else head_by place (slice_index bytes 0) bytes

@@ -1,5 +1,6 @@
 -- What the records of a connection are on the wire. No code and no order of reading is in it.
-use Rattle.std.specs.Prelude.{◌≡◌, ◌≢◌, ℕ, ◌≤◌, ◌<◌, ◌^◌, ◌⊎◌, List, [], ◌∷◌, ◌++◌, length, Option, Some, None, All, IsUtf8}
+use Rattle.std.specs.Prelude.{◌≡◌, ◌≢◌, ℕ, ◌≤◌, ◌<◌, ◌^◌, ◌⊎◌, List, [], ◌∷◌, ◌++◌, length, Option}
+use Rattle.std.specs.Prelude.{Some, None, All, IsUtf8}
 use Rattle.std.specs.Int.{w16, w32, to_be_bytes}
 use Rattle.std.specs.List.{flat_map}
 use Rattle.std.specs.Option.{option_and_then}
@@ -19,8 +20,8 @@ message_head len = 2 ∷ 0 ∷ to_be_bytes w32 len
 abbrev pub status_head : ℕ → ℕ → List ℕ
 status_head code len = 4 ∷ code ∷ to_be_bytes w16 len
 
--- the bytes of a record: a kind byte, and then its parts, with lengths big-endian. A Message has a gRPC
--- length-prefixed message behind the kind byte.
+-- the bytes of a record: a kind byte, and then its parts, with lengths big-endian. A Message has a
+-- gRPC length-prefixed message after the kind byte.
 abbrev pub spelling : Record → List ℕ
 spelling (Open path) = 1 ∷ (to_be_bytes w16 (length path) ++ path)
 spelling (Message message) = message_head (length message) ++ message
@@ -34,7 +35,7 @@ IsRecord (Message message) = length message ≤ most_message_bytes
 IsRecord End = Unit {0}
 IsRecord (Status code text) = (code < 256) × (length text < 2 ^ 16) × IsUtf8 text
 
--- the place behind a record, where the record may stand at this one
+-- the place after a record, where the record may stand at this one
 abbrev pub place_after : Place → Record → Option Place
 place_after BetweenCalls (Open path) = Some InsideCall
 place_after InsideCall (Message message) = Some InsideCall
@@ -43,17 +44,18 @@ place_after InAnswer (Message message) = Some InAnswer
 place_after InAnswer (Status code text) = Some InAnswer
 place_after _ _ = None
 
--- the place behind some records
+-- the place after some records
 abbrev pub place_after_all : Place → List Record → Option Place
 place_after_all place [] = Some place
-place_after_all place (first ∷ records) = option_and_then (λ next. place_after_all next records) (place_after place first)
+place_after_all place (first ∷ records) =
+    option_and_then (λ next. place_after_all next records) (place_after place first)
 
 -- what has come and is not taken yet, and the place of the record in front
 pub record Received : Type 0 where
   pub bytes : List ℕ
   pub place : Place
 
--- what came, with more bytes behind it
+-- what came, with more bytes after it
 abbrev pub with_more : Received → List ℕ → Received
 with_more left more = record { bytes = left.bytes ++ more; place = left.place }
 
@@ -71,8 +73,8 @@ IsKindAt BetweenCalls kind = kind ≡ 1
 IsKindAt InsideCall kind = (kind ≡ 2) ⊎ (kind ≡ 3)
 IsKindAt InAnswer kind = (kind ≡ 2) ⊎ (kind ≡ 4)
 
--- what may be wrong: a kind byte out of its place, a length above its limit, a flag that is not 0, a text that is no
--- UTF-8
+-- what may be wrong: a kind byte out of its place, a length above its limit, a flag that is not 0,
+-- a text that is no UTF-8
 pub data Flaw : Type 0 where
   wrong_kind : (kind : ℕ) → Flaw
   long_path : (len : ℕ) → Flaw
@@ -116,7 +118,7 @@ pub record IsCut (left : Received) : Type 0 where
 
 -- ---- whole streams
 
--- how a stream ends behind its records
+-- how a stream ends after its records
 pub data Ending : Type 0 where
   nothing_more : Ending
   cut : Ending
@@ -128,8 +130,9 @@ Ends left nothing_more = left.bytes ≡ []
 Ends left cut = (left.bytes ≢ []) × IsCut left
 Ends left (broken fault) = Breaks left fault
 
--- what came is these records, each at its place, and what is left behind them ends so
-pub record Splits (all : Received) (records : List Record) (left : Received) (ending : Ending) : Type 0 where
+-- what came is these records, each at its place, and what is left after them ends so
+pub record Splits (all : Received) (records : List Record) (left : Received)
+    (ending : Ending) : Type 0 where
   pub whole : all.bytes ≡ flat_map spelling records ++ left.bytes
   pub each : All IsRecord records
   pub places : place_after_all all.place records ≡ Some left.place

@@ -9,12 +9,15 @@ pub record Sent (old new : Option (List ℕ)) (before after bytes : List ℕ) : 
   pub wrote : Appends old new written
   pub whole : written ++ after ≡ before ++ bytes
 
--- A write failed: a beginning of what was gathered before and of these bytes was written, and nothing is gathered now.
+-- A write failed: a beginning of what was gathered before and of these bytes was written, and
+-- nothing is gathered now.
 pub record NotSent (old new : Option (List ℕ)) (before after bytes : List ℕ) : Type 0 where
   pub begun : AppendsBeginning old new (before ++ bytes)
   pub none : after ≡ []
 
 -- the bytes were sent, or a write failed
-abbrev pub Sends : {A E : Type 0} → Result A E → Option (List ℕ) → Option (List ℕ) → List ℕ → List ℕ → List ℕ → Type 0
+abbrev pub Sends : {A E : Type 0} → Result A E → Option (List ℕ) → Option (List ℕ) → List ℕ →
+    List ℕ → List ℕ → Type 0
 Sends result old new before after bytes =
-    MatchResult result (λ _. Sent old new before after bytes) (λ _. NotSent old new before after bytes)
+    MatchResult result (λ _. Sent old new before after bytes)
+    (λ _. NotSent old new before after bytes)

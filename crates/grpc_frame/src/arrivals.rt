@@ -11,8 +11,8 @@ use crate::record::Record;
 use scan_base::Fault;
 
 impl Inbox {
-    /// Takes the next record of an input, of which pieces come in until a record is whole. Nothing where
-    /// the input ends before: what came is then left in the inbox.
+    /// Takes the next record of an input, of which pieces come in until a record is whole. Nothing
+    /// where the input ends before: what came is then left in the inbox.
     ///
     /// # Errors
     ///

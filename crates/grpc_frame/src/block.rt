@@ -1,8 +1,10 @@
 //! The block of memory that what comes is read into.
 
-ghost use Rattle.std.specs.Prelude.{◌≡◌, ◌<◌, ◌≤◌, ◌++◌, [], ℕ, List, Ok, drop, take, length, IfOk, OnOk, OnErr};
+ghost use Rattle.std.specs.Prelude.{◌≡◌, ◌<◌, ◌≤◌, ◌++◌, [], ℕ, List, Ok, drop, take, length, IfOk};
+ghost use Rattle.std.specs.Prelude.{OnOk, OnErr};
 ghost use Rattle.std.specs.Io.KnownBytes.{IsAtEnd};
-ghost use Rattle.grpc_frame.specs.Ends.{Advances, CanFail, CountsFailure, FailsByTransport, TakesTurn};
+ghost use Rattle.grpc_frame.specs.Ends.{Advances, CanFail, CountsFailure, FailsByTransport};
+ghost use Rattle.grpc_frame.specs.Ends.{TakesTurn};
 ghost use Rattle.grpc_frame.specs.inside.Reads.{ReadsIn};
 
 use crate::ends::Input;
@@ -24,10 +26,10 @@ const GROWTH: usize = 8;
 // How much of a block counts as filled, where less has come.
 const LEAST_LEN: usize = 16_384;
 
-/// Bytes that came, with room for more behind them. A contract sees the bytes and the room's length.
+/// Bytes that came, with room for more after them. A contract sees the bytes and the room's length.
 pub struct Block {
     memory: Vec<u8>,
-    // What came lies at `start..end`. The room behind it holds zeros, or what lay there before.
+    // What came lies at `start..end`. The room after it holds zeros, or what lay there before.
     start: usize,
     end: usize,
 }
@@ -49,10 +51,14 @@ impl Model for Block {
 
     ghost Value = { Filled };
 
-    ghost view = { λ block. record
-        { items = slice_range block.memory.items block.start block.end; spare = length block.memory.items - block.end } };
+    ghost view = { λ block. record {
+      items = slice_range block.memory.items block.start block.end;
+      spare =
+          length block.memory.items - block.end;
+    } };
 
-    ghost invariant = { λ block. (block.start ≤ block.end) × (block.end ≤ length block.memory.items) };
+    ghost invariant = { λ block. (block.start ≤ block.end)
+        × (block.end ≤ length block.memory.items) };
 }
 
 impl Block {
@@ -117,7 +123,8 @@ impl Block {
         self.end = end;
     }
 
-    /// Makes room for `wanted` more bytes, in a block of at most `limit` bytes where they fit in so many.
+    /// Makes room for `wanted` more bytes, in a block of at most `limit` bytes where they fit in so
+    /// many.
     ///
     /// # Errors
     ///
@@ -145,7 +152,7 @@ impl Block {
         }
     }
 
-    // Makes room behind the bytes. It writes no more zeros than the next piece needs.
+    // Makes room after the bytes. It writes no more zeros than the next piece needs.
     fn grow(&mut self, wanted: usize, limit: usize) -> Result<(), AllocError>
         ensures items { self.new.items ≡ self.old.items }
         ensures room { OnOk result (wanted ≤ self.new.spare) }
@@ -177,7 +184,8 @@ impl Block {
             × Advances (R.tape input.old) (R.tape input.new) came
             × ReadsIn result self.old.items self.new.items came }
         ensures most { IfOk result (λ count. count ≤ most) }
-        ensures end { result ≡ Ok 0 → 0 < most → 0 < self.old.spare → IsAtEnd (R.tape input.new).left }
+        ensures end { result ≡ Ok 0 → 0 < most → 0 < self.old.spare →
+            IsAtEnd (R.tape input.new).left }
         ensures counted { CountsFailure result (R.failures input.old) (R.failures input.new) }
         ensures kind { FailsByTransport result }
         ensures fewer { TakesTurn result (R.turns input.old) (R.turns input.new) }
@@ -189,8 +197,9 @@ impl Block {
         Ok(count)
     }
 
-    /// Takes the first `whole` bytes, and gives those behind the first `skipped` of them, in memory of just their
-    /// size: a large record that stands alone keeps the block, and any other is copied out of it.
+    /// Takes the first `whole` bytes, and gives those after the first `skipped` of them, in memory
+    /// of just their size: a large record that stands alone keeps the block, and any other is
+    /// copied out of it.
     ///
     /// # Errors
     ///

@@ -2,7 +2,8 @@
 
 ghost use Rattle.std.specs.Prelude.{◌≡◌, ◌<◌, ◌≤◌, ◌^◌, ◌+◌, ◌-◌, [], Some, true, false};
 ghost use Rattle.std.specs.Io.KnownBytes.{Appends};
-ghost use Rattle.grpc_frame.specs.Ends.{AppendsBeginning, CanFail, CountsFailure, FailsByTransport, GrowsAlike, Writes, tape_of};
+ghost use Rattle.grpc_frame.specs.Ends.{AppendsBeginning, CanFail, CountsFailure, FailsByTransport};
+ghost use Rattle.grpc_frame.specs.Ends.{GrowsAlike, Writes, tape_of};
 
 use crate::ends::{Input, Output};
 use crate::transcript::{Transcript, read_noted, write_noted};
@@ -93,7 +94,8 @@ impl<W: Write> Output for Counted<W> {
 
     fn write(&mut self, piece: &[u8]) -> Result<(), Fault>
         requires { CanFail self.old.failures }
-        ensures bytes { Writes result (Some self.old.taken.bytes) (Some self.new.taken.bytes) piece.now }
+        ensures bytes { Writes result (Some self.old.taken.bytes)
+            (Some self.new.taken.bytes) piece.now }
         ensures counted { CountsFailure result self.old.failures self.new.failures }
         ensures kind { FailsByTransport result }
         ensures held { GrowsAlike (W.contents self.old.end) (W.contents self.new.end)

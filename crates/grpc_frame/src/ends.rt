@@ -2,13 +2,15 @@
 
 ghost use Rattle.std.specs.Prelude.{◌≡◌, ℕ, List, None, Option};
 ghost use Rattle.std.specs.Io.{ReadsAtMost};
-ghost use Rattle.grpc_frame.specs.Ends.{CanFail, CountsFailure, FailsByTransport, ReadAdvances, TakesTurn, Tape, Writes};
+ghost use Rattle.grpc_frame.specs.Ends.{CanFail, CountsFailure, FailsByTransport, ReadAdvances};
+ghost use Rattle.grpc_frame.specs.Ends.{TakesTurn, Tape, Writes};
 
 use scan_base::Fault;
 
 /// A reader that counts its failures, and gives bytes a bounded number of times.
 pub trait Input {
-    // The bytes that reads gave so far, and those that they will give from here on, where these are known.
+    // The bytes that reads gave so far, and those that they will give from here on, where these are
+    // known.
     ghost tape: { Self → Tape };
 
     // How many reads have failed.
@@ -55,11 +57,13 @@ pub trait Output {
         ensures counted { CountsFailure result (failures self.old) (failures self.new) }
         ensures kind { FailsByTransport result };
 
-    /// Looks whether the other end is still there, where it shows. It writes nothing, and does not wait.
+    /// Looks whether the other end is still there, where it shows. It writes nothing, and does not
+    /// wait.
     ///
     /// # Errors
     ///
-    /// `Fault::Transport` where the other end is known to be gone. It is counted as a failed write is.
+    /// `Fault::Transport` where the other end is known to be gone. It is counted as a failed write
+    /// is.
     fn look(&mut self) -> Result<(), Fault>
         requires { CanFail (failures self.old) }
         ensures same { contents self.new ≡ contents self.old }

@@ -43,7 +43,7 @@ impl RecordKind {
         }
     }
 
-    /// The place behind a record of this kind.
+    /// The place after a record of this kind.
     pub fn place_behind(self, place: Place) -> Place
         ensures { result ≡ place_behind self place }
     {

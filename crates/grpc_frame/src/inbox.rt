@@ -1,6 +1,7 @@
 //! What has come, cut into records.
 
-ghost use Rattle.std.specs.Prelude.{◌≡◌, ◌++◌, ◌↔◌, ◌<◌, [], ℕ, List, Ok, OnOk, OnErr, IfOk, IfErr, IsTrue, MatchOption, length};
+ghost use Rattle.std.specs.Prelude.{◌≡◌, ◌++◌, ◌↔◌, ◌<◌, [], ℕ, List, Ok, OnOk, OnErr, IfOk, IfErr};
+ghost use Rattle.std.specs.Prelude.{IsTrue, MatchOption, length};
 ghost use Rattle.std.specs.Io.KnownBytes.{IsAtEnd};
 ghost use Rattle.grpc_frame.specs.Ends.{Advances, CanFail};
 ghost use Rattle.scan_base.specs.declared.fault.Fault.TheVariants.{OutOfMemory};
@@ -66,7 +67,7 @@ impl Inbox {
         }
     }
 
-    /// Whether nothing has come behind the last whole call: a server's input may end here.
+    /// Whether nothing has come after the last whole call: a server's input may end here.
     pub fn is_between_calls(&self) -> bool
         ensures { IsTrue result ↔ (self.now ≡ record { bytes = []; place = BetweenCalls }) }
     {
@@ -99,7 +100,8 @@ impl Inbox {
     ///
     /// Nothing has changed then, so the first two are answered from then on, whatever is fed.
     pub fn next(&mut self) -> Result<Option<Record>, Fault>
-        // By the function that reads a connection: the record in front is taken, or nothing changes.
+        // By the function that reads a connection: the record in front is taken, or nothing
+        // changes.
         ensures front { TakesFront result self.old self.new }
 
         // The same in the words of the profile, in which no order of reading is.
@@ -108,7 +110,8 @@ impl Inbox {
         self.take_front()
     }
 
-    /// The fault of the record in front, as soon as what came of it shows one: `next` answers it. It takes no memory.
+    /// The fault of the record in front, as soon as what came of it shows one: `next` answers it.
+    /// It takes no memory.
     pub fn flaw(&self) -> Option<Fault>
         ensures { MatchOption result (IsSound self.now) (λ fault. Breaks self.now fault) }
     {
@@ -132,13 +135,13 @@ impl Inbox {
 
     /// Takes in one piece of an input, and gives its length: 0 at the end.
     ///
-    /// A record of more than `BLOCK_LEN` bytes gets a block of its own, of at most its size, in which nothing else
-    /// lies: what has come of it is read no further than its end.
+    /// A record of more than `BLOCK_LEN` bytes gets a block of its own, of at most its size, in
+    /// which nothing else lies: what has come of it is read no further than its end.
     ///
     /// # Errors
     ///
-    /// `Fault::Transport` where the read failed. It is counted. `Fault::OutOfMemory` where memory for the piece is
-    /// refused: nothing is read then.
+    /// `Fault::Transport` where the read failed. It is counted. `Fault::OutOfMemory` where memory
+    /// for the piece is refused: nothing is read then.
     pub(crate) fn take_in<R: Input>(&mut self, input: &mut R) -> Result<usize, Fault>
         requires { CanFail (R.failures input.old) }
         ensures came { (came : List ℕ)

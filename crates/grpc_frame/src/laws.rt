@@ -9,7 +9,7 @@ pub fn fronts_keep_profile()
     ensures { FrontsKeepProfile }
 {}
 
-/// A record in front, or a fault, stays there whatever comes behind it.
+/// A record in front, or a fault, stays there whatever comes after it.
 pub fn fronts_stay()
     ensures { FrontsStay }
 {}

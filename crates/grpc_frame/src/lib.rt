@@ -1,7 +1,7 @@
 //! The records of a connection: read however the stream is cut, and written to ends that count
 //! their failures.
 //!
-//! A Message is a gRPC length-prefixed message behind a kind byte. The other records are this
+//! A Message is a gRPC length-prefixed message after a kind byte. The other records are this
 //! project's own. `specs/Records.antt` has the rules.
 #![tactic(auto)]
 

@@ -2,7 +2,8 @@
 
 ghost use Rattle.std.specs.Prelude.{◌≡◌, ◌<◌, ◌≤◌, [], None, Some, true, false, OnOk, IfOk, OnErr};
 ghost use Rattle.std.specs.Io.{ReadsAtMost};
-ghost use Rattle.grpc_frame.specs.Ends.{CanFail, CountsFailure, FailsByTransport, ReadAdvances, TakesTurn, tape_of};
+ghost use Rattle.grpc_frame.specs.Ends.{CanFail, CountsFailure, FailsByTransport, ReadAdvances};
+ghost use Rattle.grpc_frame.specs.Ends.{TakesTurn, tape_of};
 ghost use Rattle.grpc_frame.specs.Ends.{AppendsBeginning, Writes};
 ghost use Rattle.grpc_frame.specs.Memory.{fails_now, plan_after};
 
@@ -61,8 +62,14 @@ impl<'a> Model for MemoryInput<'a> {
 impl<'a> MemoryInput<'a> {
     /// Reads give these bytes, as many at once as are asked for, and no call fails.
     pub fn new(bytes: &'a [u8]) -> MemoryInput<'a>
-        ensures { result ≡ record
-            { given = []; bytes = bytes.now; most = 18446744073709551615; plan = None; failures = 0 } }
+        ensures { result ≡ record {
+          given = [];
+          bytes = bytes.now;
+          most = 18446744073709551615;
+          plan =
+              None;
+          failures = 0;
+        } }
     {
         MemoryInput {
             bytes,
@@ -81,7 +88,7 @@ impl<'a> MemoryInput<'a> {
         MemoryInput { most, ..self }
     }
 
-    /// So many calls go well, the next one fails, and those behind it go well again.
+    /// So many calls go well, the next one fails, and those after it go well again.
     pub fn failing_after(self, calls: u64) -> MemoryInput<'a>
         ensures { result ≡ record self.entry { plan = Some calls } }
     {
@@ -157,7 +164,7 @@ impl MemoryOutput {
         }
     }
 
-    /// So many calls go well, the next one fails with half of its bytes written, and those behind
+    /// So many calls go well, the next one fails with half of its bytes written, and those after
     /// it go well again.
     pub fn failing_after(self, calls: u64) -> MemoryOutput
         ensures { result ≡ record self { plan = Some calls } }

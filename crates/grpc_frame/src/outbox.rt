@@ -18,8 +18,8 @@ use std::marker::Model;
 /// The most bytes that an outbox gathers.
 pub const MAX_GATHERED_LEN: usize = 16_384;
 
-/// Bytes of records that are sent and not written yet, at most `MAX_GATHERED_LEN`: small records go out in one write.
-/// A contract sees those bytes.
+/// Bytes of records that are sent and not written yet, at most `MAX_GATHERED_LEN`: small records go
+/// out in one write. A contract sees those bytes.
 ///
 /// Where a write fails, nothing is gathered any more: what was is written in part or not at all.
 pub struct Outbox {
@@ -69,7 +69,7 @@ impl Outbox {
         self.send_parts(writer, &message_head(message.len()), message)
     }
 
-    /// Sends the head of a Message of so many bytes, which are to be sent behind it, in any parts.
+    /// Sends the head of a Message of so many bytes, which are to be sent after it, in any parts.
     ///
     /// # Errors
     ///
@@ -110,7 +110,7 @@ impl Outbox {
         self.send_parts(writer, &status_head(fault, text.len()), text)
     }
 
-    /// Sends two parts of a record, one behind the other.
+    /// Sends two parts of a record, one after the other.
     ///
     /// # Errors
     ///
@@ -132,8 +132,9 @@ impl Outbox {
         self.send_part(writer, second)
     }
 
-    /// Sends bytes of a record. They are gathered where there is room for all of them, else what was gathered before
-    /// is written; and more than `MAX_GATHERED_LEN`, or those for which memory is refused, are written as they lie.
+    /// Sends bytes of a record. They are gathered where there is room for all of them, else what
+    /// was gathered before is written; and more than `MAX_GATHERED_LEN`, or those for which memory
+    /// is refused, are written as they lie.
     ///
     /// # Errors
     ///
@@ -180,7 +181,8 @@ impl Outbox {
     ///
     /// # Errors
     ///
-    /// `Fault::Transport` where the write failed, or where the other end is known to be gone. It is counted.
+    /// `Fault::Transport` where the write failed, or where the other end is known to be gone. It is
+    /// counted.
     #[tactic(auto, using(crate::proofs::Sending::sending))]
     pub fn look<W: Output>(&mut self, writer: &mut W) -> Result<(), Fault>
         requires { CanFail (W.failures writer.old) }
@@ -193,7 +195,8 @@ impl Outbox {
         writer.look()
     }
 
-    // Gathers the bytes where there is room, and memory, for all of them. It answers whether it did.
+    // Gathers the bytes where there is room, and memory, for all of them. It answers whether it
+    // did.
     fn gather(&mut self, part: &[u8]) -> bool
         ensures yes { result ≡ true → self.new ≡ self.old ++ part.now }
         ensures no { result ≡ false → self.new ≡ self.old }

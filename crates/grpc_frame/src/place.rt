@@ -5,7 +5,7 @@
 pub enum Place {
     /// At a server, between two calls: an Open may come.
     BetweenCalls,
-    /// At a server, behind a call's Open: a Message or the End may come.
+    /// At a server, after a call's Open: a Message or the End may come.
     InsideCall,
     /// At a client: a Message or a Status may come, each in an answer.
     InAnswer,

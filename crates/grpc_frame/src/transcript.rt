@@ -10,8 +10,9 @@ use std::io;
 use std::io::{Read, Write};
 use std::marker::Model;
 
-/// Bytes in order. Contracts alone see them: they take no memory and no time. Only `read_noted` and `write_noted` add any. No memory
-/// holds them, so only clauses fix them, and `new` and `note` are proved by hand.
+/// Bytes in order. Contracts alone see them: they take no memory and no time. Only `read_noted` and
+/// `write_noted` add any. No memory holds them, so only clauses fix them, and `new` and `note` are
+/// proved by hand.
 #[derive(Drop)]
 pub struct Transcript {
     pub ghost bytes: { List ℕ },

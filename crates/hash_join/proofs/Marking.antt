@@ -1,4 +1,4 @@
--- Bits of numbers that are marked: the one behind them stays 0.
+-- Bits of numbers that are marked: the one after them stays 0.
 use Rattle.std.proofs.Common.{◌≡◌, ◌≢◌, ◌<◌, ◌*◌, ◌/◌, ◌%◌, ◌^◌, ◌==◌, ℕ, false, List, length, get_or, replicate, inl, inr, sym, ap, ◌∙◌, arith}
 use Rattle.std.specs.Int.{bit_at, w8}
 use Rattle.std.specs.Int.RustNames.{bit_or}
@@ -42,6 +42,6 @@ unmarked bytes count place are there =
     ap (λ (all : List ℕ). bit_of all place) are ∙ ap (λ (x : ℕ). bit_at x (place % 8) == 1) (get_or-replicate count (place / 8) 0 0 there)
     ∙ ap (λ (x : ℕ). x == 1) (bit_at-zero (place % 8))
 
--- the bit behind the others is one of the list
+-- the bit after the others is one of the list
 pub last_bit : (bytes : List ℕ) (len count : ℕ) → count < len → bit_of bytes count ≡ false → get_or (bits_of bytes 0 len) count false ≡ false
 last_bit bytes len count there none = get_or-bits_of bytes 0 len count false there ∙ ap (bit_of bytes) (omega arith) ∙ none

@@ -15,7 +15,7 @@ use Rattle.hash_join.proofs.Searching.{can_walk, passed, skipped, stopped}
 use Rattle.hash_join.proofs.Walking.{lead_same}
 
 module _ (passes : ℕ → Bool) where
-  -- the rows of two parts that pass, one part behind the other
+  -- the rows of two parts that pass, one part after the other
   pub kept_joined : (from at n : ℕ) → from ≤ at → filter passes (range_with_len from (at + n - from)) ≡ filter passes (range_with_len from (at - from)) ++ filter passes (range_with_len at n)
   kept_joined from at n le =
       let e : at + n - from ≡ at - from + n = omega (arith, le) in

@@ -61,7 +61,7 @@ module _ (search : Search) (is : IsSearch search) where
       first_left (pairs_of (build_of search.rights.now) search.left.batch.now search.left.key.now) search.left.batch.now.rows row from h
       ∙ ap (λ first. first ++ ahead_of search (probe_at (row + 1) 0)) (sym (past_is row from))
 
-  -- none are left behind the last left row
+  -- none are left after the last left row
   pub none_ahead : (row from : ℕ) → search.left.batch.now.rows ≤ row → ahead_of search (probe_at row from) ≡ []
   none_ahead row from h = let e : search.left.batch.now.rows - row ≡ 0 = omega arith in rw e refl
 

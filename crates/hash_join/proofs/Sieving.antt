@@ -115,7 +115,7 @@ place_tells : (index : ℤ) (count told : ℕ) → index_among index count ≡ t
 place_tells (pos index) count told e less = ap pos (omega (arith, e, less))
 place_tells (negsuc index) count told e less = absurd (omega (arith, e, less))
 
--- no place is behind the one behind the span's
+-- no place is after the one after the span's
 index_few : (index : ℤ) (count : ℕ) → index_among index count ≤ count
 index_few (pos index) count = omega arith
 index_few (negsuc index) count = omega arith

@@ -126,7 +126,7 @@ module _ (walk : Walk) (is : IsWalk walk) where
       ap (map (pair_at walk)) (all_miss
       ∙ ap (filter (joins_at walk)) (drop_of_length-le walk.rights.now.places.items l ∙ sym (drop_of_length-le walk.rights.now.places.items le)))
 
-  -- behind the last right row none is left
+  -- after the last right row none is left
   pub past_all : pairs_past walk (length walk.rights.now.places.items) ≡ []
   past_all = ap (λ (places : List (ℕ × ℕ)). map (pair_at walk) (filter (joins_at walk) places)) (drop_of_length-le walk.rights.now.places.items (omega arith))
 

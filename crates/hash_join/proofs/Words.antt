@@ -167,7 +167,7 @@ module _ (from left : ℕ) (some : 0 < left) (fits : left < 2 ^ 64) where
   abbrev row : ℕ
   row = from + count_trailing_zeros 64 left
 
-  -- the next row that passes, and those behind it
+  -- the next row that passes, and those after it
   pub next_row : set_bits 64 from left ≡ row ∷ rest
   next_row = lowest 64 from left some fits
 

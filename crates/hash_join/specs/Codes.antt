@@ -11,7 +11,8 @@ use Rattle.arrays.specs.Validity.{is_valid}
 
 -- the code at a place; none where it is not valid, or the slots have no codes
 abbrev pub layout_code : Layout → ℕ → Option ℤ
-layout_code (layout.Indices cells) place = if is_valid cells.validity place then Some (integer_at cells.index cells.values place) else None
+layout_code (layout.Indices cells) place =
+    if is_valid cells.validity place then Some (integer_at cells.index cells.values place) else None
 layout_code _ place = None
 
 -- the code of a slot of a column

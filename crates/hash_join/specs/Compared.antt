@@ -19,14 +19,17 @@ part_joins left right part = keeps (compared Equal (get_or left part Null) (get_
 -- of each pair of rows that are there it is kept whether they are equal in that part
 abbrev pub AreCompared : (ℕ → List Value) → ℕ → (ℕ → List Value) → ℕ → List SeenPair → Type 0
 AreCompared lefts left_count rights right_count pairs =
-    All (λ (seen : SeenPair). seen.left < left_count → seen.right < right_count → seen.equal ≡ part_joins (lefts seen.left) (rights seen.right) seen.part) pairs
+    All (λ (seen : SeenPair). seen.left < left_count → seen.right < right_count →
+    seen.equal ≡ part_joins (lefts seen.left) (rights seen.right) seen.part) pairs
 
 -- what was kept of left rows of the batch and of right rows is so
 abbrev pub HasCompared : Walk → Compared → Type 0
 HasCompared walk compared =
-    AreCompared (key_beside walk.left) walk.left.batch.now.rows (key_at walk.rights.now) (length walk.rights.now.places.items) compared.pairs.items
+    AreCompared (key_beside walk.left) walk.left.batch.now.rows (key_at walk.rights.now)
+    (length walk.rights.now.places.items) compared.pairs.items
 
 -- what was kept of two right rows is so
 abbrev pub HaveCompared : Rights → Compared → Type 0
 HaveCompared rights compared =
-    AreCompared (key_at rights) (length rights.places.items) (key_at rights) (length rights.places.items) compared.pairs.items
+    AreCompared (key_at rights) (length rights.places.items) (key_at rights)
+    (length rights.places.items) compared.pairs.items

@@ -1,5 +1,7 @@
--- Inside: the bucket of a key. It is a function of the key's values, so that equal keys have one; nothing else matters of it.
-use Rattle.std.specs.Prelude.{◌+◌, ◌-ℤ◌, ◌*◌, ◌/◌, ◌%◌, ◌^◌, ℕ, ℤ, Bool, false, List, [], ◌∷◌, Option, Some, None, unwrap_or, get_or, if◌then◌else◌, bit_and}
+-- Inside: the bucket of a key. It is a function of the key's values, so that equal keys have one;
+-- nothing else matters of it.
+use Rattle.std.specs.Prelude.{◌+◌, ◌-ℤ◌, ◌*◌, ◌/◌, ◌%◌, ◌^◌, ℕ, ℤ, Bool, false, List, [], ◌∷◌}
+use Rattle.std.specs.Prelude.{Option, Some, None, unwrap_or, get_or, if◌then◌else◌, bit_and}
 use Rattle.std.specs.Int.{w128, cast_unsigned}
 use Rattle.std.specs.List.{fold, list_any}
 use Rattle.std.specs.Option.{option_map}
@@ -39,7 +41,8 @@ fed_part begun hasher (Text text) = fold sip.write hasher (written.u64 (text_dig
 -- the hash of the parts that follow those that a hasher was fed; none where one of them is null
 abbrev pub parts_hash : DefaultHasher → DefaultHasher → List Value → Option ℕ
 parts_hash begun hasher [] = Some (sip.finish hasher)
-parts_hash begun hasher (value ∷ values) = if is_null value then None else parts_hash begun (fed_part begun hasher value) values
+parts_hash begun hasher (value ∷ values) =
+    if is_null value then None else parts_hash begun (fed_part begun hasher value) values
 
 -- the hash of a key that is one value
 abbrev pub value_hash : DefaultHasher → Value → Option ℕ
@@ -53,7 +56,8 @@ hash_of begun (value ∷ second ∷ values) = parts_hash begun begun (value ∷ 
 
 -- the bucket of a key by its hash: the last bits of it
 abbrev pub hashed_bucket : Hashing → List Value → Option ℕ
-hashed_bucket hashing key = option_map (λ hash. bit_and hash hashing.mask) (hash_of hashing.begun key)
+hashed_bucket hashing key =
+    option_map (λ hash. bit_and hash hashing.mask) (hash_of hashing.begun key)
 
 -- the number that is the key; none where it has several parts, or is no number
 abbrev pub number_of : List Value → Option ℤ
@@ -62,11 +66,13 @@ number_of _ = None
 
 -- the products of the halves of a number with the two secret ones, added in 64 bits
 abbrev pub product_sum : Product → ℕ → ℕ
-product_sum product bits = (bits % 2 ^ 64 * product.odd % 2 ^ 64 + bits / 2 ^ 64 * product.high % 2 ^ 64) % 2 ^ 64
+product_sum product bits =
+    (bits % 2 ^ 64 * product.odd % 2 ^ 64 + bits / 2 ^ 64 * product.high % 2 ^ 64) % 2 ^ 64
 
 -- the bucket of a number by that sum: the first bits of it
 abbrev pub product_at : Product → ℤ → ℕ
-product_at product number = bit_and (product_sum product (cast_unsigned w128 number) / 2 ^ product.shift) product.mask
+product_at product number =
+    bit_and (product_sum product (cast_unsigned w128 number) / 2 ^ product.shift) product.mask
 
 -- a key that is no number has the first bucket
 abbrev pub product_of : Product → Option ℤ → ℕ
@@ -75,9 +81,10 @@ product_of product None = 0
 
 -- the bucket of a key by the product of its number; none where a part of it is null
 abbrev pub product_bucket : Product → List Value → Option ℕ
-product_bucket product key = if list_any is_null key then None else Some (product_of product (number_of key))
+product_bucket product key =
+    if list_any is_null key then None else Some (product_of product (number_of key))
 
--- the place of a number among those of a span; behind the last of them where it is none of them
+-- the place of a number among those of a span; after the last of them where it is none of them
 abbrev pub place_among : Span → ℤ → ℕ
 place_among span number = index_among (number -ℤ span.least) span.count
 
@@ -87,7 +94,8 @@ is_key ranks number = get_or ranks.keys (place_among ranks.span number) false
 
 -- the bucket of a number, where no other key has it: how many right keys are before it
 abbrev pub own_bucket : Ranks → ℤ → Option ℕ
-own_bucket ranks number = if is_key ranks number then Some (rank_at ranks.keys (place_among ranks.span number)) else None
+own_bucket ranks number =
+    if is_key ranks number then Some (rank_at ranks.keys (place_among ranks.span number)) else None
 
 -- the bucket of a number: its own where it has one, and else the last
 abbrev pub bucket_among : Ranks → Option ℤ → ℕ
@@ -96,7 +104,8 @@ bucket_among ranks None = ranks.last
 
 -- the bucket of a key by its number; none where a part of it is null
 abbrev pub ranked_bucket : Ranks → List Value → Option ℕ
-ranked_bucket ranks key = if list_any is_null key then None else Some (bucket_among ranks (number_of key))
+ranked_bucket ranks key =
+    if list_any is_null key then None else Some (bucket_among ranks (number_of key))
 
 -- the bucket of a key; none where a part of it is null
 abbrev pub bucket_of : Buckets → List Value → Option ℕ

@@ -8,4 +8,5 @@ use Rattle.hash_join.specs.Hashes.{is_key, place_among}
 
 -- what the ranks tell of a number
 abbrev pub ranks_told : Ranks → ℤ → Told
-ranks_told ranks number = if is_key ranks number then known.Own (rank_at ranks.keys (place_among ranks.span number)) else known.Nothing
+ranks_told ranks number = if is_key ranks number
+    then known.Own (rank_at ranks.keys (place_among ranks.span number)) else known.Nothing

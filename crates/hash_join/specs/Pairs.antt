@@ -1,5 +1,6 @@
 -- Which rows join, and the pairs of them in the order of nested loops.
-use Rattle.std.specs.Prelude.{ℕ, ◌-◌, ◌==◌, Bool, if◌then◌else◌, List, [], length, map, drop, get_or, zip}
+use Rattle.std.specs.Prelude.{ℕ, ◌-◌, ◌==◌, Bool, if◌then◌else◌, List, [], length, map, drop}
+use Rattle.std.specs.Prelude.{get_or, zip}
 use Rattle.std.specs.List.{list_all, filter, flat_map, range_with_len}
 use Rattle.scan_base.specs.declared.comparison.Comparison.TheVariants.{Equal}
 use Rattle.scan_base.specs.declared.value.Value.{Value}
@@ -21,7 +22,8 @@ key_in key row = map (cell_in row) key
 
 -- whether each value of a key is equal to that of the other; a null is equal to nothing
 abbrev pub keys_join : List Value → List Value → Bool
-keys_join lefts rights = list_all (λ (p : Value × Value). keeps (compared Equal p.0 p.1)) (zip lefts rights)
+keys_join lefts rights =
+    list_all (λ (p : Value × Value). keeps (compared Equal p.0 p.1)) (zip lefts rights)
 
 -- the rows of batches in order, each by the number of its batch and by its own in it
 abbrev pub places : List BatchAt → List (ℕ × ℕ)
@@ -31,16 +33,19 @@ places batches =
 
 -- the row at a place
 abbrev pub row_at : List BatchAt → ℕ × ℕ → List Value
-row_at batches place = row_of (get_or batches place.0 (record { columns = []; rows = 0 })).columns place.1
+row_at batches place =
+    row_of (get_or batches place.0 (record { columns = []; rows = 0 })).columns place.1
 
--- the pairs of a left row with each right row from a number on that joins it, in the order of the right rows
+-- the pairs of a left row with each right row from a number on that joins it, in the order of the
+-- right rows
 abbrev pub pairs_of : BuildAt → BatchAt → List ℕ → ℕ → ℕ → List Pair
 pairs_of build left key row from =
     map (λ (place : ℕ × ℕ). record { left = row; batch = place.0; row = place.1 })
-    (filter (λ place. keys_join (key_in key (row_of left.columns row)) (key_in build.key (row_at build.batches place)))
-    (drop from (places build.batches)))
+    (filter (λ place. keys_join (key_in key (row_of left.columns row))
+    (key_in build.key (row_at build.batches place))) (drop from (places build.batches)))
 
--- the pairs that a probe has still to give: those of its left row from a right row on, and then those of the later left rows
+-- the pairs that a probe has still to give: those of its left row from a right row on, and then
+-- those of the later left rows
 abbrev pub pairs_ahead : BuildAt → BatchAt → List ℕ → Probe → List Pair
 pairs_ahead build left key probe =
     flat_map (λ row. pairs_of build left key row (if row == probe.left then probe.from else 0))

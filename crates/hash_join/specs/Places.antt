@@ -6,7 +6,8 @@ use Rattle.arrays.specs.Batch.{BatchAt}
 -- the places of the rows of a batch of this number, and of the batches after it
 abbrev pub places_from : ℕ → List BatchAt → List (ℕ × ℕ)
 places_from number [] = []
-places_from number (batch ∷ batches) = map (λ row. (number, row)) (range_with_len 0 batch.rows) ++ places_from (number + 1) batches
+places_from number (batch ∷ batches) =
+    map (λ row. (number, row)) (range_with_len 0 batch.rows) ++ places_from (number + 1) batches
 
 -- the place is that of a row
 pub record IsPlace (batches : List BatchAt) (place : ℕ × ℕ) : Type 0 where

@@ -1,5 +1,6 @@
 -- Inside: the rows of the right side by their numbers over all batches, as the code keeps them.
-use Rattle.std.specs.Prelude.{◌≡◌, ◌≤◌, ◌<◌, ◌^◌, ℕ, List, Option, All, IsTrue, length, get_or, nat_lt}
+use Rattle.std.specs.Prelude.{◌≡◌, ◌≤◌, ◌<◌, ◌^◌, ℕ, List, Option, All, IsTrue, length, get_or}
+use Rattle.std.specs.Prelude.{nat_lt}
 use Rattle.std.specs.List.{list_all}
 use Rattle.scan_base.specs.Limits.{most_rows}
 use Rattle.scan_base.specs.declared.value.Value.{Value}
@@ -28,9 +29,12 @@ bucket_at rights number = bucket_of rights.buckets (key_at rights number)
 abbrev pub digest_at : Rights → ℕ → ℕ → Option ℕ
 digest_at rights = key_digest rights.buckets (key_at rights)
 
--- the places are those of the rows of the batches, few enough to be counted, and each batch has the columns of the key
+-- the places are those of the rows of the batches, few enough to be counted, and each batch has the
+-- columns of the key
 pub record AreRights (rights : Rights) : Type 0 where
   pub places : rights.places.items ≡ places rights.batches.items
   pub few : length rights.places.items ≤ most_rows
-  pub columns : All (λ (batch : BatchAt). IsTrue (list_all (λ column. nat_lt column (length batch.columns)) rights.key.items)) rights.batches.items
+  pub columns : All (λ (batch : BatchAt).
+      IsTrue (list_all (λ column. nat_lt column (length batch.columns)) rights.key.items))
+      rights.batches.items
   pub last : last_of rights.buckets < 2 ^ 32

@@ -1,5 +1,6 @@
 -- Inside: a left batch whose rows look for their partners.
-use Rattle.std.specs.Prelude.{◌≡◌, ◌≤◌, ◌<◌, ◌+◌, ◌^◌, ◌++◌, ℕ, ℤ, Bool, true, false, List, [], ◌∷◌, Option, Some, None, IsTrue, length, get_or, nat_lt}
+use Rattle.std.specs.Prelude.{◌≡◌, ◌≤◌, ◌<◌, ◌+◌, ◌^◌, ◌++◌, ℕ, ℤ, Bool, true, false, List, [], ◌∷◌}
+use Rattle.std.specs.Prelude.{Option, Some, None, IsTrue, length, get_or, nat_lt}
 use Rattle.std.specs.List.{list_all}
 use Rattle.hash_join.specs.declared.build.Probe.{Probe}
 use Rattle.hash_join.specs.declared.pair.Pair.{Pair}
@@ -35,7 +36,8 @@ pub record IsBuilt (rights : Rights) (chains : Chains) : Type 0 where
 pub record IsSearch (search : Search) : Type 0 where
   pub built : IsBuilt search.rights.now search.chains.now
   pub alike : length search.left.key.now ≡ length search.rights.now.key.items
-  pub columns : IsTrue (list_all (λ column. nat_lt column (length search.left.batch.now.columns)) search.left.key.now)
+  pub columns : IsTrue (list_all (λ column. nat_lt column (length search.left.batch.now.columns))
+      search.left.key.now)
   pub small : search.left.batch.now.rows < 2 ^ 32
 
 -- a place that is looked from
@@ -44,15 +46,21 @@ probe_at left from = record { left = left; from = from }
 
 -- the pairs that are still to be given
 abbrev pub ahead_of : Search → Probe → List Pair
-ahead_of search probe = pairs_ahead (build_of search.rights.now) search.left.batch.now search.left.key.now probe
+ahead_of search probe =
+    pairs_ahead (build_of search.rights.now) search.left.batch.now search.left.key.now probe
 
 -- a left row of the batch
 abbrev pub walk_at : Search → ℕ → Walk
-walk_at search row = record { rights = search.rights; chains = search.chains; left = record { batch = search.left.batch; key = search.left.key; row = row } }
+walk_at search row = record {
+  rights = search.rights;
+  chains = search.chains;
+  left = record { batch = search.left.batch; key = search.left.key; row = row };
+}
 
 -- a left row that does not pass joins nothing
 abbrev pub Passes : Search → (ℕ → Bool) → Type 0
-Passes search passes = (row from : ℕ) → row < search.left.batch.now.rows → passes row ≡ false → pairs_past (walk_at search row) from ≡ []
+Passes search passes = (row from : ℕ) → row < search.left.batch.now.rows → passes row ≡ false →
+    pairs_past (walk_at search row) from ≡ []
 
 -- a left row has this bucket
 pub record HasBucket (search : Search) (row bucket : ℕ) : Type 0 where
@@ -77,14 +85,16 @@ head_of search (Some bucket) = get_or search.chains.now.heads.items bucket 0
 abbrev pub first_right : Search → ℕ → ℕ
 first_right search row = head_of search (bucket_left (walk_at search row))
 
--- a left row's chain begins with this right row, and where the bucket is its own it joins each row of it
+-- a left row's chain begins with this right row, and where the bucket is its own it joins each row
+-- of it
 pub record IsHead (search : Search) (own : Bool) (row head : ℕ) : Type 0 where
   pub leads : Leads (in_chain (walk_at search row)) (length search.rights.now.places.items) 0 head
   pub all : own ≡ true → JoinsChain (walk_at search row)
 
 -- the heads of the chains of left rows that pass
 abbrev pub AreHeads : Search → (ℕ → Bool) → (ℕ → ℕ) → Bool → Type 0
-AreHeads search passes head own = (row : ℕ) → row < search.left.batch.now.rows → passes row ≡ true → IsHead search own row (head row)
+AreHeads search passes head own = (row : ℕ) → row < search.left.batch.now.rows → passes row ≡ true →
+    IsHead search own row (head row)
 
 -- a left row with the head of its chain
 abbrev pub start_at : (ℕ → ℕ) → ℕ → Start
@@ -105,24 +115,31 @@ pub record IsStart (search : Search) (own : Bool) (next : ℕ) (start : Start) :
 -- the left rows from the first of these on that may join, before a row
 abbrev pub AreStarts : Search → Bool → ℕ → List Start → Type 0
 AreStarts search own to [] = Unit {0}
-AreStarts search own to (start ∷ starts) = IsStart search own (first_left to starts) start × AreStarts search own to starts
+AreStarts search own to (start ∷ starts) =
+    IsStart search own (first_left to starts) start × AreStarts search own to starts
 
 -- what is told of a number is so of each left row whose key it is
-pub record TellsNumbers (search : Search) (passes : ℤ → Bool) (told : ℤ → Told) (head : ℤ → ℕ) (own : Bool) : Type 0 where
-  pub sound : (row from : ℕ) (number : ℤ) → row < search.left.batch.now.rows → key_of (walk_at search row).left ≡ Int number ∷ [] → passes number ≡ false →
+pub record TellsNumbers (search : Search) (passes : ℤ → Bool) (told : ℤ → Told) (head : ℤ → ℕ)
+    (own : Bool) : Type 0 where
+  pub sound : (row from : ℕ) (number : ℤ) → row < search.left.batch.now.rows →
+      key_of (walk_at search row).left ≡ Int number ∷ [] → passes number ≡ false →
       pairs_past (walk_at search row) from ≡ []
-  pub holds : (row : ℕ) (number : ℤ) → row < search.left.batch.now.rows → key_of (walk_at search row).left ≡ Int number ∷ [] → IsTold search row (told number)
-  pub heads : (row : ℕ) (number : ℤ) → row < search.left.batch.now.rows → key_of (walk_at search row).left ≡ Int number ∷ [] → passes number ≡ true →
+  pub holds : (row : ℕ) (number : ℤ) → row < search.left.batch.now.rows →
+      key_of (walk_at search row).left ≡ Int number ∷ [] → IsTold search row (told number)
+  pub heads : (row : ℕ) (number : ℤ) → row < search.left.batch.now.rows →
+      key_of (walk_at search row).left ≡ Int number ∷ [] → passes number ≡ true →
       IsHead search own row (head number)
 
 -- the left key is one column of integers
 pub record AreKeysOf (search : Search) (cells : IntegersAt) (first : ℕ) : Type 0 where
   pub single : length search.left.key.now ≡ 1
-  pub slots : (other : ColumnAt) → get_or search.left.batch.now.columns (get_or search.left.key.now 0 0) other
+  pub slots : (other : ColumnAt) →
+      get_or search.left.batch.now.columns (get_or search.left.key.now 0 0) other
       ≡ record { layout = layout.Integers cells; first = first; len = search.left.batch.now.rows }
   pub there : first + search.left.batch.now.rows ≤ cells.len
 
 -- the pairs that are found, and those that are still to be found, are all
-pub record Searches (search : Search) (probe : Probe) (made whole : List Pair) (most : ℕ) : Type 0 where
+pub record Searches (search : Search) (probe : Probe) (made whole : List Pair)
+    (most : ℕ) : Type 0 where
   pub all : made ++ ahead_of search probe ≡ whole
   pub few : length made ≤ most

@@ -18,23 +18,28 @@ pub record IsSeen (buckets : ℕ → Option ℕ) (last row bucket : ℕ) : Type 
 
 -- of each row that is there the bucket was kept
 abbrev pub AreSeen : (ℕ → Option ℕ) → ℕ → ℕ → List SeenRow → Type 0
-AreSeen buckets last count rows = All (λ (seen : SeenRow). seen.row < count → IsSeen buckets last seen.row seen.bucket) rows
+AreSeen buckets last count rows =
+    All (λ (seen : SeenRow). seen.row < count → IsSeen buckets last seen.row seen.bucket) rows
 
 -- of each row that is there the digest of that part of its key was kept
 abbrev pub AreDigests : (ℕ → ℕ → Option ℕ) → ℕ → List SeenDigest → Type 0
-AreDigests digests count texts = All (λ (seen : SeenDigest). seen.row < count → digests seen.row seen.part ≡ Some seen.digest) texts
+AreDigests digests count texts = All
+    (λ (seen : SeenDigest). seen.row < count → digests seen.row seen.part ≡ Some seen.digest) texts
 
 -- what was kept of rows that were seen is so
-pub record AreKept (buckets : ℕ → Option ℕ) (last count : ℕ) (digests : ℕ → ℕ → Option ℕ) (seen : SeenRows) : Type 0 where
+pub record AreKept (buckets : ℕ → Option ℕ) (last count : ℕ) (digests : ℕ → ℕ → Option ℕ)
+    (seen : SeenRows) : Type 0 where
   pub rows : AreSeen buckets last count seen.rows.items
   pub texts : AreDigests digests count seen.digests.texts.items
 
 -- the right rows from a row on are linked, and what is kept of right rows is so
 pub record AreOpen (rights : Rights) (chains : OpenChains) (from : ℕ) : Type 0 where
   pub linked : HasLinked rights chains.heads.items chains.links.items from
-  pub seen : AreKept (bucket_at rights) (last_of rights.buckets) (length rights.places.items) (digest_at rights) chains.seen
+  pub seen : AreKept (bucket_at rights) (last_of rights.buckets) (length rights.places.items)
+      (digest_at rights) chains.seen
 
--- the rows that say so have the key of the next, and what is kept of right rows that were compared is so
+-- the rows that say so have the key of the next, and what is kept of right rows that were compared
+-- is so
 pub record AreOpenRepeats (rights : Rights) (links : List ℕ) (found : OpenRepeats) : Type 0 where
   pub repeats : AreRepeats rights links found.repeats.items
   pub compared : HaveCompared rights found.compared

@@ -1,5 +1,6 @@
 -- Inside: a left row that looks for its partners along a chain.
-use Rattle.std.specs.Prelude.{◌≡◌, ◌≤◌, ◌<◌, ◌^◌, ◌++◌, ℕ, Bool, true, List, Option, length, map, drop}
+use Rattle.std.specs.Prelude.{◌≡◌, ◌≤◌, ◌<◌, ◌^◌, ◌++◌, ℕ, Bool, true, List, Option, length, map}
+use Rattle.std.specs.Prelude.{drop}
 use Rattle.std.specs.List.{filter}
 use Rattle.hash_join.specs.declared.pair.Pair.{Pair}
 use Rattle.hash_join.specs.declared.walk.Walk.{Walk}
@@ -19,7 +20,8 @@ pair_at walk place = record { left = walk.left.row; batch = place.0; row = place
 
 -- the pairs with right rows from a row on
 abbrev pub pairs_past : Walk → ℕ → List Pair
-pairs_past walk from = map (pair_at walk) (filter (joins_at walk) (drop from walk.rights.now.places.items))
+pairs_past walk from =
+    map (pair_at walk) (filter (joins_at walk) (drop from walk.rights.now.places.items))
 
 -- the bucket of the left row
 abbrev pub bucket_left : Walk → Option ℕ
@@ -35,7 +37,8 @@ in_chain walk row = stands (bucket_left walk) (bucket_at walk.rights.now row)
 
 -- the left row joins each right row of its chain
 abbrev pub JoinsChain : Walk → Type 0
-JoinsChain walk = (row : ℕ) → row < length walk.rights.now.places.items → in_chain walk row ≡ true → joins_at walk (place_at walk.rights.now row) ≡ true
+JoinsChain walk = (row : ℕ) → row < length walk.rights.now.places.items → in_chain walk row ≡ true →
+    joins_at walk (place_at walk.rights.now row) ≡ true
 
 -- the right rows are linked, and the left row has a key of as many parts
 pub record IsWalk (walk : Walk) : Type 0 where
@@ -47,7 +50,8 @@ pub record IsWalk (walk : Walk) : Type 0 where
   pub small : walk.left.row < 2 ^ 32
   pub few : walk.left.batch.now.rows < 2 ^ 32
 
--- the pairs that are found, and those that are still to be found with right rows from a row of the chain on, are all
+-- the pairs that are found, and those that are still to be found with right rows from a row of the
+-- chain on, are all
 pub record Follows (walk : Walk) (at : ℕ) (made whole : List Pair) (most : ℕ) : Type 0 where
   pub all : made ++ pairs_past walk at ≡ whole
   pub there : at < length walk.rights.now.places.items → in_chain walk at ≡ true

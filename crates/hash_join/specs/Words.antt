@@ -10,4 +10,5 @@ passing_word passes from count = mask_l (map passes (range_with_len from count))
 -- of the lowest bits of a word, so many, the places of those that are 1, counted from a row on
 unfoldable pub set_bits : ℕ → ℕ → ℕ → List ℕ
 set_bits zero from word = []
-set_bits (suc count) from word = cond (word % 2 == 1) (from ∷ set_bits count (from + 1) (word / 2)) (set_bits count (from + 1) (word / 2))
+set_bits (suc count) from word = cond (word % 2 == 1) (from ∷ set_bits count (from + 1) (word / 2))
+    (set_bits count (from + 1) (word / 2))

@@ -68,10 +68,12 @@ impl Buckets {
         requires row { IsKeyRow row.now }
         requires parts { length row.now.key.now ≡ R.parts rows.now }
         requires key { R.key rows.now number ≡ key_of row.now }
-        requires seen { AreDigests (key_digest self.now (R.key rows.now)) (R.count rows.now) digests.old.texts.items }
+        requires seen { AreDigests (key_digest self.now (R.key rows.now))
+            (R.count rows.now) digests.old.texts.items }
         ensures bucket { result ≡ bucket_of self.now (key_of row.now) }
         ensures within { IfSome result (λ bucket. bucket ≤ last_of self.now) }
-        ensures seen { AreDigests (key_digest self.now (R.key rows.now)) (R.count rows.now) digests.new.texts.items }
+        ensures seen { AreDigests (key_digest self.now (R.key rows.now))
+            (R.count rows.now) digests.new.texts.items }
     {
         let Buckets::Hashed(hashing) = self else {
             return self.bucket(row);

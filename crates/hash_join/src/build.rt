@@ -1,6 +1,7 @@
 //! The right side of a join, and the left rows that look for theirs in it.
 
-ghost use Rattle.std.specs.Prelude.{◌≡◌, ◌≤◌, ◌<◌, ◌++◌, ◌^◌, [], All, IfOk, IsTrue, OnErr, OnOk, length, nat_lt};
+ghost use Rattle.std.specs.Prelude.{◌≡◌, ◌≤◌, ◌<◌, ◌++◌, ◌^◌, [], All, IfOk, IsTrue, OnErr, OnOk};
+ghost use Rattle.std.specs.Prelude.{length, nat_lt};
 ghost use Rattle.std.specs.List.{list_all};
 ghost use Rattle.scan_base.specs.Limits.{most_rows};
 ghost use Rattle.arrays.specs.Batch.{BatchAt};
@@ -25,8 +26,8 @@ pub struct RightSide {
     pub key: Vec<usize>,
 }
 
-/// The batches of the right side of a join, and its rows by the values of their key. A contract sees the batches and the
-/// numbers of the columns that are the key.
+/// The batches of the right side of a join, and its rows by the values of their key. A contract
+/// sees the batches and the numbers of the columns that are the key.
 pub struct Build {
     rights: Rights,
     chains: Chains,
@@ -61,8 +62,8 @@ pub struct LeftSide<'a> {
     pub key: &'a [usize],
 }
 
-/// Where a left batch has come to: the left row that looks for its partners, and the number of the right row, counted over
-/// all batches, from which on it does.
+/// Where a left batch has come to: the left row that looks for its partners, and the number of the
+/// right row, counted over all batches, from which on it does.
 #[derive(Clone, Copy, Drop)]
 pub struct Probe {
     pub left: usize,
@@ -79,8 +80,9 @@ impl Probe {
 }
 
 impl Build {
-    /// The right side of these batches, whose rows join by these of their columns. Their hashes begin with the seed. Who watches is
-    /// told of the rows, and may end it, behind each 65,536 rows at the latest. A row counts as often as the key has parts.
+    /// The right side of these batches, whose rows join by these of their columns. Their hashes
+    /// begin with the seed. Who watches is told of the rows, and may end it, after each 65,536 rows
+    /// at the latest. A row counts as often as the key has parts.
     ///
     /// # Errors
     ///
@@ -91,14 +93,18 @@ impl Build {
         right: RightSide,
         watch: &mut W,
     ) -> Result<Build, AllocError>
-        requires there { All (λ (batch : BatchAt). IsTrue (list_all (λ column. nat_lt column (length batch.columns)) right.key.items)) right.batches.items }
+        requires there { All (λ (batch : BatchAt).
+            IsTrue (list_all (λ column. nat_lt column (length batch.columns)) right.key.items))
+            right.batches.items }
         requires few { length (places right.batches.items) ≤ most_rows }
         requires counted { length right.batches.items ≤ most_rows }
         requires ready { W.ready watch.old }
-        ensures build { IfOk result (λ build. build ≡ record { batches = right.batches.items; key = right.key.items }) }
+        ensures build { IfOk result
+            (λ build. build ≡ record { batches = right.batches.items; key = right.key.items }) }
         ensures ready { OnOk result (W.ready watch.new) }
         ensures watched { W.watched watch.old watch.new }
-        ensures told { OnOk result (ToldAtLeast W.told (length (places right.batches.items)) watch.old watch.new) }
+        ensures told { OnOk result
+            (ToldAtLeast W.told (length (places right.batches.items)) watch.old watch.new) }
     {
         let RightSide { batches, key } = right;
         let rights = Rights::new(alloc, seed, batches, key)?;
@@ -114,8 +120,8 @@ impl Build {
         self.rights.batches.as_slice()
     }
 
-    /// The next pairs of a left batch, no more than `most`, in the order of nested loops, the left outermost: none where none
-    /// is left. A null joins nothing.
+    /// The next pairs of a left batch, no more than `most`, in the order of nested loops, the left
+    /// outermost: none where none is left. A null joins nothing.
     ///
     /// # Errors
     ///
@@ -128,13 +134,16 @@ impl Build {
         most: usize,
     ) -> Result<Vec<Pair>, AllocError>
         requires key { length left.now.key.now ≡ length self.now.key }
-        requires there { IsTrue (list_all (λ column. nat_lt column (length left.now.batch.now.columns)) left.now.key.now) }
+        requires there { IsTrue (list_all
+            (λ column. nat_lt column (length left.now.batch.now.columns)) left.now.key.now) }
         requires few { left.now.batch.now.rows < 2 ^ 32 }
         requires some { 0 < most }
-        ensures given { IfOk result (λ pairs. pairs.items ++ pairs_ahead self.now left.now.batch.now left.now.key.now probe.new
-            ≡ pairs_ahead self.now left.now.batch.now left.now.key.now probe.old) }
+        ensures given { IfOk result
+            (λ pairs. pairs.items ++ pairs_ahead self.now left.now.batch.now left.now.key.now
+            probe.new ≡ pairs_ahead self.now left.now.batch.now left.now.key.now probe.old) }
         ensures few { IfOk result (λ pairs. length pairs.items ≤ most) }
-        ensures some { IfOk result (λ pairs. pairs.items ≡ [] → pairs_ahead self.now left.now.batch.now left.now.key.now probe.old ≡ []) }
+        ensures some { IfOk result (λ pairs. pairs.items ≡ [] →
+            pairs_ahead self.now left.now.batch.now left.now.key.now probe.old ≡ []) }
         ensures kept { OnErr result (probe.new ≡ probe.old) }
     {
         let search = Search {

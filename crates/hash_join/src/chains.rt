@@ -13,12 +13,13 @@ use crate::seen::SeenRows;
 use std::alloc::{AllocError, Global};
 use work_watch::{Watches, tell};
 
-// Behind so many rows who watches may end the work.
+// After so many rows who watches may end the work.
 const WATCHED_ROWS: usize = 65_536;
 
-// For each bucket the first row of its chain, and for each row the next of its chain, in rising order; the number of rows
-// where there is none. A row with a null in its key stands in no chain. For each row also whether the next of its chain surely
-// has the same key, so that who walks along compares no values there.
+// For each bucket the first row of its chain, and for each row the next of its chain, in rising
+// order; the number of rows where there is none. A row with a null in its key stands in no chain.
+// For each row also whether the next of its chain surely has the same key, so that who walks along
+// compares no values there.
 pub(crate) struct Chains {
     pub(crate) heads: Vec<u32>,
     pub(crate) links: Vec<u32>,
@@ -48,7 +49,8 @@ impl Chains {
         ensures chains { IfOk result (λ chains. HasChains rights.now chains) }
         ensures ready { OnOk result (W.ready watch.new) }
         ensures watched { W.watched watch.old watch.new }
-        ensures told { OnOk result (ToldAtLeast W.told (length rights.now.places.items) watch.old watch.new) }
+        ensures told { OnOk result
+            (ToldAtLeast W.told (length rights.now.places.items) watch.old watch.new) }
     {
         let mut chains = OpenChains::new(alloc, rights)?;
         chains.link_all(rights, watch)?;
@@ -66,8 +68,8 @@ impl Chains {
     }
 }
 
-// For each row whether the one that its link names surely has the same key, watched. Only keys that are hashed are looked at: those
-// of numbers are soon compared.
+// For each row whether the one that its link names surely has the same key, watched. Only keys that
+// are hashed are looked at: those of numbers are soon compared.
 fn repeats_of<W: Watches>(
     alloc: Global,
     rights: &Rights,
@@ -116,7 +118,8 @@ impl OpenChains {
     // Chains without a row yet.
     fn new(alloc: Global, rights: &Rights) -> Result<OpenChains, AllocError>
         requires { AreRights rights.now }
-        ensures { IfOk result (λ chains. AreOpen rights.now chains (length rights.now.places.items)) }
+        ensures { IfOk result
+            (λ chains. AreOpen rights.now chains (length rights.now.places.items)) }
     {
         let rows = rights.places.len();
         let mut heads = Vec::new(alloc);
@@ -127,7 +130,8 @@ impl OpenChains {
         Ok(OpenChains { heads, links, seen })
     }
 
-    // Links all rows, from the last one down, so that each chain rises. Behind each piece of them who watches may end it.
+    // Links all rows, from the last one down, so that each chain rises. After each piece of them
+    // who watches may end it.
     fn link_all<W: Watches>(&mut self, rights: &Rights, watch: &mut W) -> Result<(), AllocError>
         requires whole { AreRights rights.now }
         requires none { AreOpen rights.now self.old (length rights.now.places.items) }
@@ -135,7 +139,8 @@ impl OpenChains {
         ensures linked { OnOk result (AreOpen rights.now self.new 0) }
         ensures ready { OnOk result (W.ready watch.new) }
         ensures watched { W.watched watch.old watch.new }
-        ensures told { OnOk result (ToldAtLeast W.told (length rights.now.places.items) watch.old watch.new) }
+        ensures told { OnOk result
+            (ToldAtLeast W.told (length rights.now.places.items) watch.old watch.new) }
     {
         let mut from = rights.places.len();
         while from > 0 {
@@ -183,7 +188,7 @@ struct OpenRepeats {
 }
 
 impl OpenRepeats {
-    // Looks at all rows. Behind each piece of them who watches may end it.
+    // Looks at all rows. After each piece of them who watches may end it.
     fn look_at_all<W: Watches>(
         &mut self,
         rights: &Rights,
@@ -197,7 +202,8 @@ impl OpenRepeats {
         ensures repeats { AreOpenRepeats rights.now links.now self.new }
         ensures ready { OnOk result (W.ready watch.new) }
         ensures watched { W.watched watch.old watch.new }
-        ensures told { OnOk result (ToldAtLeast W.told (length rights.now.places.items) watch.old watch.new) }
+        ensures told { OnOk result
+            (ToldAtLeast W.told (length rights.now.places.items) watch.old watch.new) }
     {
         let rows = rights.places.len();
         let mut to = 0;

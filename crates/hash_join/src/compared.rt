@@ -36,8 +36,9 @@ pub(crate) struct PartPair {
     pub(crate) part: usize,
 }
 
-// For each place the rows whose codes of long texts fell there last, as a pair. So it may forget a pair. Who asks looks whether
-// those rows have the same codes. It takes memory for the places once the first long texts are compared.
+// For each place the rows whose codes of long texts fell there last, as a pair. So it may forget a
+// pair. Who asks looks whether those rows have the same codes. It takes memory for the places once
+// the first long texts are compared.
 #[derive(Drop)]
 pub(crate) struct Compared {
     alloc: Global,
@@ -66,7 +67,8 @@ impl Compared {
         }
     }
 
-    // A table with a place of 16 bytes for each of so many rows, or as many places as a table has at most.
+    // A table with a place of 16 bytes for each of so many rows, or as many places as a table has
+    // at most.
     pub(crate) fn new(alloc: Global, hashing: &Hashing, rows: usize) -> Compared
         ensures { result.pairs.items ≡ [] }
     {
@@ -92,9 +94,11 @@ impl Compared {
         requires few_left { L.count lefts.now < 2 ^ 32 }
         requires few_right { R.count rights.now < 2 ^ 32 }
         requires alike { L.parts lefts.now ≡ R.parts rights.now }
-        requires seen { AreCompared (L.key lefts.now) (L.count lefts.now) (R.key rights.now) (R.count rights.now) self.old.pairs.items }
+        requires seen { AreCompared (L.key lefts.now) (L.count lefts.now) (R.key rights.now)
+            (R.count rights.now) self.old.pairs.items }
         ensures joins { result ≡ keys_join (L.key lefts.now left) (R.key rights.now right) }
-        ensures seen { AreCompared (L.key lefts.now) (L.count lefts.now) (R.key rights.now) (R.count rights.now) self.new.pairs.items }
+        ensures seen { AreCompared (L.key lefts.now) (L.count lefts.now) (R.key rights.now)
+            (R.count rights.now) self.new.pairs.items }
     {
         let parts = lefts.part_count();
         let _same = rights.part_count();
@@ -115,9 +119,12 @@ impl Compared {
         requires few_right { R.count rights.now < 2 ^ 32 }
         requires left_part { at.part < L.parts lefts.now }
         requires right_part { at.part < R.parts rights.now }
-        requires seen { AreCompared (L.key lefts.now) (L.count lefts.now) (R.key rights.now) (R.count rights.now) self.old.pairs.items }
-        ensures equal { result ≡ part_joins (L.key lefts.now at.left) (R.key rights.now at.right) at.part }
-        ensures seen { AreCompared (L.key lefts.now) (L.count lefts.now) (R.key rights.now) (R.count rights.now) self.new.pairs.items }
+        requires seen { AreCompared (L.key lefts.now) (L.count lefts.now) (R.key rights.now)
+            (R.count rights.now) self.old.pairs.items }
+        ensures equal { result
+            ≡ part_joins (L.key lefts.now at.left) (R.key rights.now at.right) at.part }
+        ensures seen { AreCompared (L.key lefts.now) (L.count lefts.now) (R.key rights.now)
+            (R.count rights.now) self.new.pairs.items }
     {
         let left = lefts.part(at.left, at.part);
         let right = rights.part(at.right, at.part);
@@ -138,8 +145,10 @@ impl Compared {
 
     // Takes memory for the places, where none was taken. If it is refused, no pair is kept.
     fn make_room(&mut self)
-        ensures { (lefts rights : ℕ → List Value) (left_count right_count : ℕ) → left_count < 2 ^ 32 →
-            AreCompared lefts left_count rights right_count self.old.pairs.items → AreCompared lefts left_count rights right_count self.new.pairs.items }
+        ensures { (lefts rights : ℕ → List Value) (left_count right_count : ℕ) →
+            left_count < 2 ^ 32 →
+            AreCompared lefts left_count rights right_count self.old.pairs.items →
+            AreCompared lefts left_count rights right_count self.new.pairs.items }
     {
         if self.places == 0 || !self.pairs.is_empty() {
             return;
@@ -185,8 +194,10 @@ impl Compared {
         requires right { at.right < R.count rights.now }
         requires left_part { at.part < L.parts lefts.now }
         requires right_part { at.part < R.parts rights.now }
-        requires seen { AreCompared (L.key lefts.now) (L.count lefts.now) (R.key rights.now) (R.count rights.now) self.now.pairs.items }
-        ensures { IfSome result (λ equal. equal ≡ part_joins (L.key lefts.now at.left) (R.key rights.now at.right) at.part) }
+        requires seen { AreCompared (L.key lefts.now) (L.count lefts.now) (R.key rights.now)
+            (R.count rights.now) self.now.pairs.items }
+        ensures { IfSome result (λ equal. equal
+            ≡ part_joins (L.key lefts.now at.left) (R.key rights.now at.right) at.part) }
     {
         if place >= self.pairs.len() {
             return None;
@@ -212,8 +223,10 @@ impl Compared {
     fn keep(&mut self, place: usize, at: PartPair, equal: bool)
         requires left { at.left < 2 ^ 32 }
         requires right { at.right < 2 ^ 32 }
-        ensures { (lefts rights : ℕ → List Value) (left_count right_count : ℕ) → equal ≡ part_joins (lefts at.left) (rights at.right) at.part →
-            AreCompared lefts left_count rights right_count self.old.pairs.items → AreCompared lefts left_count rights right_count self.new.pairs.items }
+        ensures { (lefts rights : ℕ → List Value) (left_count right_count : ℕ) →
+            equal ≡ part_joins (lefts at.left) (rights at.right) at.part →
+            AreCompared lefts left_count rights right_count self.old.pairs.items →
+            AreCompared lefts left_count rights right_count self.new.pairs.items }
     {
         let Ok(part) = u32::try_from(at.part) else {
             return;

@@ -1,6 +1,7 @@
 //! Digests of texts that are parts of keys, by the codes of the texts.
 
-ghost use Rattle.std.specs.Prelude.{◌≡◌, ◌≤◌, ◌<◌, ◌+◌, ◌^◌, ℕ, [], All, IfOk, IfSome, Option, Some, length};
+ghost use Rattle.std.specs.Prelude.{◌≡◌, ◌≤◌, ◌<◌, ◌+◌, ◌^◌, ℕ, [], All, IfOk, IfSome, Option};
+ghost use Rattle.std.specs.Prelude.{Some, length};
 ghost use Rattle.hash_join.specs.declared.buckets.Buckets.{Buckets as BucketsAt};
 ghost use Rattle.hash_join.specs.declared.buckets.Buckets.TheVariants as parted;
 ghost use Rattle.hash_join.specs.Hashes.{hash_of, key_digest};
@@ -17,7 +18,8 @@ use std::hash::{Hash, Hasher};
 // No table has more places: 16 MB.
 const MOST_DIGESTS: usize = 1_048_576;
 
-// A table begins with no more places, 16 KB, and grows as texts are met. So who looks at few rows pays for few.
+// A table begins with no more places, 16 KB, and grows as texts are met. So who looks at few rows
+// pays for few.
 const FIRST_DIGESTS: usize = 1_024;
 
 // A table that grows has so many times the places that it had.
@@ -31,9 +33,9 @@ pub(crate) struct SeenDigest {
     pub(crate) digest: u64,
 }
 
-// For each place the row whose part, of a code of a dictionary, fell there last. A code has a place of its own where there are
-// places for all. Else a product tells its place, and the table may forget a row. Who asks looks whether that row has the same
-// code.
+// For each place the row whose part, of a code of a dictionary, fell there last. A code has a place
+// of its own where there are places for all. Else a product tells its place, and the table may
+// forget a row. Who asks looks whether that row has the same code.
 #[derive(Drop)]
 pub(crate) struct Digests {
     alloc: Global,
@@ -71,15 +73,16 @@ impl Digests {
         }
     }
 
-    // A table that grows to a place of 16 bytes for each of so many codes in each of so many parts, or to as many places as a table
-    // has at most.
+    // A table that grows to a place of 16 bytes for each of so many codes in each of so many parts,
+    // or to as many places as a table has at most.
     pub(crate) fn new(
         alloc: Global,
         hashing: &Hashing,
         parts: usize,
         codes: usize,
     ) -> Result<Digests, AllocError>
-        ensures { IfOk result (λ digests. All (λ (at : SeenDigest). 2 ^ 32 ≤ at.row + 1) digests.texts.items) }
+        ensures { IfOk result
+            (λ digests. All (λ (at : SeenDigest). 2 ^ 32 ≤ at.row + 1) digests.texts.items) }
     {
         if codes == 0 {
             return Ok(Digests::none(alloc));
@@ -97,9 +100,11 @@ impl Digests {
         })
     }
 
-    // Makes more places where half of them were taken. They know nothing yet. Where memory is refused, there are none from then on.
+    // Makes more places where half of them were taken. They know nothing yet. Where memory is
+    // refused, there are none from then on.
     fn make_room(&mut self, hashing: &Hashing)
-        ensures { (digests : ℕ → ℕ → Option ℕ) (count : ℕ) → count < 2 ^ 32 → AreDigests digests count self.old.texts.items →
+        ensures { (digests : ℕ → ℕ → Option ℕ) (count : ℕ) → count < 2 ^ 32 →
+            AreDigests digests count self.old.texts.items →
             AreDigests digests count self.new.texts.items }
     {
         let places = self.texts.len();
@@ -115,7 +120,8 @@ impl Digests {
         }
     }
 
-    // The hash of a row's key; none where a part of it is null. The text of a code that was seen is not looked at.
+    // The hash of a row's key; none where a part of it is null. The text of a code that was seen is
+    // not looked at.
     pub(crate) fn hash<R: PartRows>(
         &mut self,
         hashing: &Hashing,
@@ -128,9 +134,11 @@ impl Digests {
         requires at { IsKeyRow at.now }
         requires parts { length at.now.key.now ≡ R.parts rows.now }
         requires key { R.key rows.now row ≡ key_of at.now }
-        requires seen { AreDigests (key_digest (parted.Hashed hashing.now) (R.key rows.now)) (R.count rows.now) self.old.texts.items }
+        requires seen { AreDigests (key_digest (parted.Hashed hashing.now) (R.key rows.now))
+            (R.count rows.now) self.old.texts.items }
         ensures hash { result ≡ hash_of hashing.now.begun (key_of at.now) }
-        ensures seen { AreDigests (key_digest (parted.Hashed hashing.now) (R.key rows.now)) (R.count rows.now) self.new.texts.items }
+        ensures seen { AreDigests (key_digest (parted.Hashed hashing.now) (R.key rows.now))
+            (R.count rows.now) self.new.texts.items }
     {
         if self.texts.is_empty() || at.key.len() == 1 {
             return at.hash_from(hashing.begun);
@@ -162,9 +170,13 @@ impl Digests {
         requires row { row < R.count rows.now }
         requires few { R.count rows.now < 2 ^ 32 }
         requires part { part < R.parts rows.now }
-        requires seen { AreDigests (key_digest (parted.Hashed hashing.now) (R.key rows.now)) (R.count rows.now) self.old.texts.items }
-        ensures digest { IfSome result (λ digest. key_digest (parted.Hashed hashing.now) (R.key rows.now) row part ≡ Some digest) }
-        ensures seen { AreDigests (key_digest (parted.Hashed hashing.now) (R.key rows.now)) (R.count rows.now) self.new.texts.items }
+        requires seen { AreDigests (key_digest (parted.Hashed hashing.now) (R.key rows.now))
+            (R.count rows.now) self.old.texts.items }
+        ensures digest { IfSome result
+            (λ digest. key_digest (parted.Hashed hashing.now) (R.key rows.now) row part
+            ≡ Some digest) }
+        ensures seen { AreDigests (key_digest (parted.Hashed hashing.now) (R.key rows.now))
+            (R.count rows.now) self.new.texts.items }
     {
         let Some(code) = rows.part_code(row, part) else {
             return None;
@@ -196,7 +208,8 @@ impl Digests {
     fn digest_at<R: PartRows>(&self, rows: &R, place: usize, row: usize, part: usize) -> Option<u64>
         requires row { row < R.count rows.now }
         requires part { part < R.parts rows.now }
-        ensures { (buckets : BucketsAt) → AreDigests (key_digest buckets (R.key rows.now)) (R.count rows.now) self.now.texts.items →
+        ensures { (buckets : BucketsAt) → AreDigests (key_digest buckets (R.key rows.now))
+            (R.count rows.now) self.now.texts.items →
             IfSome result (λ digest. key_digest buckets (R.key rows.now) row part ≡ Some digest) }
     {
         if place >= self.texts.len() {
@@ -217,7 +230,8 @@ impl Digests {
     // Keeps the digest of a part of a row's key at a place, in the stead of what was there.
     fn keep(&mut self, place: usize, row: usize, part: usize, digest: u64)
         requires row { row < 2 ^ 32 }
-        ensures { (digests : ℕ → ℕ → Option ℕ) (count : ℕ) → digests row part ≡ Some digest → AreDigests digests count self.old.texts.items →
+        ensures { (digests : ℕ → ℕ → Option ℕ) (count : ℕ) → digests row part ≡ Some digest →
+            AreDigests digests count self.old.texts.items →
             AreDigests digests count self.new.texts.items }
     {
         let Ok(number) = u32::try_from(part) else {

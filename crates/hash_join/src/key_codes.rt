@@ -6,7 +6,8 @@ ghost use Rattle.scan_base.specs.Value.{value_of};
 ghost use Rattle.arrays.specs.Batch.{BatchAt};
 ghost use Rattle.arrays.specs.Column.{slot_of};
 ghost use Rattle.arrays.specs.declared.layout.Layout.TheVariants as layout;
-ghost use Rattle.hash_join.specs.Codes.{column_code, column_number, layout_code, value_number, AreOne};
+ghost use Rattle.hash_join.specs.Codes.{column_code, column_number, layout_code, value_number};
+ghost use Rattle.hash_join.specs.Codes.{AreOne};
 
 use crate::key_element::{is_known, packed_number};
 use arrays::{Batch, Cells, Column, Indices, Layout};
@@ -24,8 +25,8 @@ pub(crate) fn code_at(column: &Column, row: usize) -> Option<i128>
     }
 }
 
-// The same, and the number at the row where the column has numbers or truth values: none where it is null, or a text that lies in
-// the column itself.
+// The same, and the number at the row where the column has numbers or truth values: none where it
+// is null, or a text that lies in the column itself.
 pub(crate) fn number_at(column: &Column, row: usize) -> Option<i128>
     requires { row < column.now.len }
     ensures { result ≡ column_number column.now row }
@@ -90,7 +91,8 @@ fn are_one(code: Option<i128>, other: Option<i128>) -> bool
     }
 }
 
-// Whether rows may be told by their codes: a column of the key has codes, and none has texts of its own.
+// Whether rows may be told by their codes: a column of the key has codes, and none has texts of its
+// own.
 pub(crate) fn has_codes(batch: &Batch, key: &[usize]) -> bool
     requires { IsTrue (list_all (λ column. nat_lt column (length batch.now.columns)) key.now) }
 {
@@ -127,7 +129,8 @@ pub(crate) fn any_codes(batch: &Batch, key: &[usize]) -> bool
     largest(batch, key) > 0
 }
 
-// How many values the largest dictionary has of those that several parts have; none where the key has one part.
+// How many values the largest dictionary has of those that several parts have; none where the key
+// has one part.
 pub(crate) fn most_codes(batch: &Batch, key: &[usize]) -> usize
     requires { IsTrue (list_all (λ column. nat_lt column (length batch.now.columns)) key.now) }
 {
@@ -140,7 +143,8 @@ pub(crate) fn most_codes(batch: &Batch, key: &[usize]) -> usize
 
 // The same of the largest of these batches.
 pub(crate) fn any_most_codes(batches: &[Batch], key: &[usize]) -> usize
-    requires { All (λ (batch : BatchAt). IsTrue (list_all (λ column. nat_lt column (length batch.columns)) key.now)) batches.now }
+    requires { All (λ (batch : BatchAt).
+        IsTrue (list_all (λ column. nat_lt column (length batch.columns)) key.now)) batches.now }
 {
     let mut most = 0;
     for batch in batches {
@@ -151,7 +155,8 @@ pub(crate) fn any_most_codes(batches: &[Batch], key: &[usize]) -> usize
 
 // Whether a part of the key has a dictionary with a value in one of these batches.
 pub(crate) fn any_batch_codes(batches: &[Batch], key: &[usize]) -> bool
-    requires { All (λ (batch : BatchAt). IsTrue (list_all (λ column. nat_lt column (length batch.columns)) key.now)) batches.now }
+    requires { All (λ (batch : BatchAt).
+        IsTrue (list_all (λ column. nat_lt column (length batch.columns)) key.now)) batches.now }
 {
     for batch in batches {
         if any_codes(batch, key) {
@@ -163,7 +168,8 @@ pub(crate) fn any_batch_codes(batches: &[Batch], key: &[usize]) -> bool
 
 // Whether rows of one of these batches may be told by their codes.
 pub(crate) fn any_has_codes(batches: &[Batch], key: &[usize]) -> bool
-    requires { All (λ (batch : BatchAt). IsTrue (list_all (λ column. nat_lt column (length batch.columns)) key.now)) batches.now }
+    requires { All (λ (batch : BatchAt).
+        IsTrue (list_all (λ column. nat_lt column (length batch.columns)) key.now)) batches.now }
 {
     for batch in batches {
         if has_codes(batch, key) {

@@ -110,8 +110,8 @@ pub(crate) fn known_word(validity: &Bits, from: usize, count: usize) -> u64
     }
 }
 
-/// A bit for each of up to 64 packed numbers from one on, the first lowest: 1 where the number may be a right key. It writes
-/// nothing to memory, so what never changes is read once.
+/// A bit for each of up to 64 packed numbers from one on, the first lowest: 1 where the number may
+/// be a right key. It writes nothing to memory, so what never changes is read once.
 pub(crate) fn number_word<E: KeyElement, L: Look>(
     look: &L,
     values: &[u8],
@@ -120,7 +120,8 @@ pub(crate) fn number_word<E: KeyElement, L: Look>(
 ) -> u64
     requires within { byte_width E.kind * (from + count) ≤ length values.now }
     requires few { count ≤ 64 }
-    ensures { result ≡ passing_word (λ place. L.passes look.now (integer_at E.kind values.now place)) from count }
+    ensures { result ≡ passing_word
+        (λ place. L.passes look.now (integer_at E.kind values.now place)) from count }
 {
     let mut word = 0u64;
     for taken in 0..count {

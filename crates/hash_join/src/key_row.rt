@@ -8,7 +8,8 @@ ghost use Rattle.scan_base.specs.Value.{value_of, is_null};
 ghost use Rattle.scan_base.specs.declared.comparison.Comparison.TheVariants.{Equal};
 ghost use Rattle.scan_base.specs.declared.value.Value.TheVariants.{Null};
 ghost use Rattle.hash_join.specs.Pairs.{keys_join};
-ghost use Rattle.hash_join.specs.Hashes.{fed, fed_part, hash_of, number_of, text_digest, value_hash};
+ghost use Rattle.hash_join.specs.Hashes.{fed, fed_part, hash_of, number_of, text_digest};
+ghost use Rattle.hash_join.specs.Hashes.{value_hash};
 ghost use Rattle.hash_join.specs.KeyRows.{key_beside, key_of, IsKeyRow};
 
 use crate::key_codes::{code_at, have_one_code, have_one_number, number_at};
@@ -16,7 +17,8 @@ use arrays::{Batch, Cells};
 use scan_base::{Comparison, Truth, ValueRef};
 use std::hash::{DefaultHasher, Hash, Hasher};
 
-// What the code of a part weighs against that of the next one, so that both halves of a sum tell of both. No contract rests on it.
+// What the code of a part weighs against that of the next one, so that both halves of a sum tell of
+// both. No contract rests on it.
 pub(crate) const PART_WEIGHT: i128 = 0x1_9E37_79B9_7F4A_7C15;
 
 // A row of a batch, and the numbers of the columns that are its key.
@@ -39,7 +41,8 @@ impl<'a> KeyRow<'a> {
 
     // The same in another row of the batch.
     pub(crate) fn part_in(&self, row: usize, number: usize) -> ValueRef<'a>
-        requires columns { IsTrue (list_all (λ column. nat_lt column (length self.now.batch.now.columns)) self.now.key.now) }
+        requires columns { IsTrue (list_all
+            (λ column. nat_lt column (length self.now.batch.now.columns)) self.now.key.now) }
         requires row { row < self.now.batch.now.rows }
         requires there { number < length self.now.key.now }
         ensures { value_of result ≡ get_or (key_beside self.now row) number Null }
@@ -75,8 +78,9 @@ impl<'a> KeyRow<'a> {
         }
     }
 
-    // A number that rows of a batch with the same codes have, and others may have too. It is the code that is the key, or a sum of
-    // the codes and the numbers of several parts; none where it is no code, or a part has neither.
+    // A number that rows of a batch with the same codes have, and others may have too. It is the
+    // code that is the key, or a sum of the codes and the numbers of several parts; none where it
+    // is no code, or a part has neither.
     pub(crate) fn code(&self) -> Option<i128>
         requires { IsKeyRow self.now }
     {
@@ -102,8 +106,8 @@ impl<'a> KeyRow<'a> {
         Some(sum)
     }
 
-    // Whether another row of the batch surely has the same key, without a look at a text: the same code of one dictionary, or in
-    // each of several parts the same code or number.
+    // Whether another row of the batch surely has the same key, without a look at a text: the same
+    // code of one dictionary, or in each of several parts the same code or number.
     pub(crate) fn has_code_of(&self, other: usize) -> bool
         requires row { IsKeyRow self.now }
         requires other { other < self.now.batch.now.rows }
@@ -144,7 +148,8 @@ impl<'a> KeyRow<'a> {
         requires row { IsKeyRow self.now }
         requires there { part < length self.now.key.now }
         requires other { other < self.now.batch.now.rows }
-        ensures { result ≡ true → get_or (key_of self.now) part Null ≡ get_or (key_beside self.now other) part Null }
+        ensures { result ≡ true →
+            get_or (key_of self.now) part Null ≡ get_or (key_beside self.now other) part Null }
     {
         let columns = self.batch.columns();
         have_one_number(&columns[self.key[part]], self.row, other)

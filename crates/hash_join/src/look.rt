@@ -61,7 +61,8 @@ impl<'a> Look for RankHeads<'a> {
 
     ghost told = { λ all number. ranks_told all.ranks.now number };
 
-    ghost head = { λ all number. get_or all.heads.now (bucket_among all.ranks.now (Some number)) 0 };
+    ghost head = { λ all number. get_or all.heads.now
+        (bucket_among all.ranks.now (Some number)) 0 };
 
     ghost own = { λ _. true };
 
@@ -99,7 +100,8 @@ impl<'a> Look for ProductHeads<'a> {
     ghost use Rattle.hash_join.specs.declared.look.Told.TheVariants as known;
     ghost use Rattle.hash_join.specs.Hashes.{product_at};
 
-    ghost passes = { λ all number. nat_lt (get_or all.heads.now (product_at all.product number) 0) all.count };
+    ghost passes = { λ all number. nat_lt (get_or all.heads.now (product_at all.product number) 0)
+        all.count };
 
     ghost told = { λ all number. known.Shared (product_at all.product number) };
 

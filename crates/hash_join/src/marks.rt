@@ -9,7 +9,8 @@ use bitmap::Bits;
 use bytes::Bytes;
 use std::alloc::{AllocError, Global};
 
-// A bit for each number of a span, and more up to a whole word. The one behind the span's is there, and is 0.
+// A bit for each number of a span, and more up to a whole word. The one after the span's is there,
+// and is 0.
 #[derive(Drop)]
 pub(crate) struct Marks {
     pub(crate) span: Span,
@@ -29,7 +30,7 @@ impl Marks {
         Ok(Marks { span, bytes })
     }
 
-    // The bits, for each number whether it is marked, and those behind them.
+    // The bits, for each number whether it is marked, and those after them.
     pub(crate) fn into_bits(self) -> Result<Bits, AllocError>
         ensures long { IfOk result (λ bits. length bits ≡ 64 * (self.span.count / 64 + 1)) }
         ensures end { IfOk result (λ bits. get_or bits self.span.count false ≡ false) }

@@ -24,7 +24,8 @@ struct Slots<'a> {
 
 // Gives the keys of a batch, without nulls, to a taker; false where these are no integers.
 pub(crate) fn take_numbers<T: TakesNumbers>(batch: &Batch, key: &[usize], taker: &mut T) -> bool
-    requires there { IsTrue (list_all (λ column. nat_lt column (length batch.now.columns)) key.now) }
+    requires there { IsTrue
+        (list_all (λ column. nat_lt column (length batch.now.columns)) key.now) }
     requires single { length key.now ≡ 1 }
 {
     match slots_of(key_column(batch, key)) {
@@ -38,7 +39,8 @@ pub(crate) fn take_numbers<T: TakesNumbers>(batch: &Batch, key: &[usize], taker:
 
 // Whether the keys of these batches are integers of one column.
 pub(crate) fn are_numbers(batches: &[Batch], key: &[usize]) -> bool
-    requires { All (λ (batch : BatchAt). IsTrue (list_all (λ column. nat_lt column (length batch.columns)) key.now)) batches.now }
+    requires { All (λ (batch : BatchAt).
+        IsTrue (list_all (λ column. nat_lt column (length batch.columns)) key.now)) batches.now }
 {
     if key.len() != 1 {
         return false;
@@ -53,7 +55,8 @@ pub(crate) fn are_numbers(batches: &[Batch], key: &[usize]) -> bool
 
 // The column that is the key.
 fn key_column<'a>(batch: &'a Batch, key: &[usize]) -> &'a Column
-    requires there { IsTrue (list_all (λ column. nat_lt column (length batch.now.columns)) key.now) }
+    requires there { IsTrue
+        (list_all (λ column. nat_lt column (length batch.now.columns)) key.now) }
     requires single { length key.now ≡ 1 }
 {
     let columns = batch.columns();

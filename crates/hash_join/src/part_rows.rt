@@ -46,7 +46,8 @@ pub(crate) trait PartRows {
         requires row { row < count self.now }
         requires other { other < count self.now }
         requires part { part < parts self.now }
-        ensures { result ≡ true → get_or (key self.now row) part Null ≡ get_or (key self.now other) part Null };
+        ensures { result ≡ true →
+            get_or (key self.now row) part Null ≡ get_or (key self.now other) part Null };
 }
 
 // The rows of one batch, by the key of one of them.

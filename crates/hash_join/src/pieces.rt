@@ -1,8 +1,10 @@
 //! Left rows that look for their partners, piece by piece.
 
-ghost use Rattle.std.specs.Prelude.{◌≡◌, ◌≤◌, ◌<◌, ◌+◌, ◌-◌, ◌++◌, ◌^◌, [], All, IfOk, OnOk, length, map, take, true};
+ghost use Rattle.std.specs.Prelude.{◌≡◌, ◌≤◌, ◌<◌, ◌+◌, ◌-◌, ◌++◌, ◌^◌, [], All, IfOk, OnOk};
+ghost use Rattle.std.specs.Prelude.{length, map, take, true};
 ghost use Rattle.std.specs.List.{filter, range_with_len};
-ghost use Rattle.hash_join.specs.Searches.{ahead_of, probe_at, start_at, first_left, walk_at, AreHeads, AreStarts, IsSearch, Passes};
+ghost use Rattle.hash_join.specs.Searches.{ahead_of, probe_at, start_at, first_left, walk_at};
+ghost use Rattle.hash_join.specs.Searches.{AreHeads, AreStarts, IsSearch, Passes};
 ghost use Rattle.hash_join.specs.Compared.{HasCompared};
 ghost use Rattle.hash_join.specs.Seen.{AreKept};
 ghost use Rattle.hash_join.specs.Words.{set_bits};
@@ -16,12 +18,14 @@ use crate::sieve::Sieve;
 use crate::walk::Walk;
 use std::alloc::AllocError;
 
-// No piece has more rows. Those that pass are kept, then the heads of their chains are found, and last their pairs. Each
-// step is a loop of its own, so that its reads of memory do not wait for one another.
+// No piece has more rows. Those that pass are kept, then the heads of their chains are found, and
+// last their pairs. Each step is a loop of its own, so that its reads of memory do not wait for one
+// another.
 const PIECE_ROWS: usize = 4_096;
 
-// So many rows make the first piece of a call, and each further one has twice as many as the one before. A call may end in any
-// piece, and the next one looks for the heads of the rows behind anew.
+// So many rows make the first piece of a call, and each further one has twice as many as the one
+// before. A call may end in any piece, and the next one looks for the heads of the rows after
+// again.
 const FIRST_ROWS: usize = 64;
 
 // A left row, and the first right row of its chain: the number of right rows where it has none.
@@ -42,8 +46,8 @@ pub(crate) struct Piece<'a> {
 // So many rows are looked at with no write in between: a word has a bit for each of them.
 const LOOKED_ROWS: usize = 64;
 
-// Writes the rows whose bits in a word are 1, counted from one on, behind so many others, and gives how many they are with
-// these.
+// Writes the rows whose bits in a word are 1, counted from one on, after so many others, and gives
+// how many they are with these.
 fn keep_rows(from: usize, word: u64, kept: &mut [u32], count: usize) -> usize
     requires small { All (λ row. row < 2 ^ 32) (set_bits 64 from word) }
     requires room { count + length (set_bits 64 from word) ≤ length kept.old }
@@ -61,7 +65,8 @@ fn keep_rows(from: usize, word: u64, kept: &mut [u32], count: usize) -> usize
     next
 }
 
-// Writes the rows from one up to, not with, another that pass, one behind another, and gives how many they are.
+// Writes the rows from one up to, not with, another that pass, one after another, and gives how
+// many they are.
 fn keep_passing<S: Sieve>(sieve: &S, from: usize, to: usize, kept: &mut [u32]) -> usize
     requires ordered { from ≤ to }
     requires within { to ≤ S.count sieve.now }
@@ -69,7 +74,8 @@ fn keep_passing<S: Sieve>(sieve: &S, from: usize, to: usize, kept: &mut [u32]) -
     requires room { to ≤ from + length kept.old }
     ensures few { result ≤ length kept.new }
     ensures long { length kept.new ≡ length kept.old }
-    ensures kept { take result kept.new ≡ filter (S.passes sieve.now) (range_with_len from (to - from)) }
+    ensures kept { take result kept.new
+        ≡ filter (S.passes sieve.now) (range_with_len from (to - from)) }
 {
     let (mut count, mut at) = (0, from);
     'looks: while at < to {
@@ -89,9 +95,11 @@ fn find_heads<S: Sieve>(
 ) -> Result<(), AllocError>
     requires rows { All (λ row. row < S.count sieve.now) rows.now }
     requires passes { All (λ row. S.passes sieve.now row ≡ true) rows.now }
-    requires seen { AreKept (S.bucket sieve.now) (S.last sieve.now) (S.count sieve.now) (S.digest sieve.now) seen.old }
+    requires seen { AreKept (S.bucket sieve.now) (S.last sieve.now) (S.count sieve.now)
+        (S.digest sieve.now) seen.old }
     ensures starts { OnOk result (starts.new.items ≡ map (start_at (S.head sieve.now)) rows.now) }
-    ensures seen { AreKept (S.bucket sieve.now) (S.last sieve.now) (S.count sieve.now) (S.digest sieve.now) seen.new }
+    ensures seen { AreKept (S.bucket sieve.now) (S.last sieve.now) (S.count sieve.now)
+        (S.digest sieve.now) seen.new }
 {
     starts.clear();
     for row in rows {
@@ -103,8 +111,8 @@ fn find_heads<S: Sieve>(
 }
 
 impl<'a> Search<'a> {
-    // Adds the pairs of the rows from one on until there are `most`, and gives where it stopped: before the last pair only
-    // where there are. Rows that do not pass join nothing.
+    // Adds the pairs of the rows from one on until there are `most`, and gives where it stopped:
+    // before the last pair only where there are. Rows that do not pass join nothing.
     pub(crate) fn push_rows<S: Sieve>(
         &self,
         sieve: &S,
@@ -116,12 +124,15 @@ impl<'a> Search<'a> {
         requires row { from ≤ (self.now).left.batch.now.rows }
         requires all { (self.now).left.batch.now.rows ≤ S.count sieve.now }
         requires sound { Passes self.now (S.passes sieve.now) }
-        requires heads { AreHeads self.now (S.passes sieve.now) (S.head sieve.now) (S.own sieve.now) }
+        requires heads { AreHeads self.now (S.passes sieve.now) (S.head sieve.now)
+            (S.own sieve.now) }
         requires few { length made.old.pairs.items ≤ most }
         requires compared { HasCompared (walk_at self.now 0) made.old.compared }
-        ensures given { IfOk result (λ stop. made.new.pairs.items ++ ahead_of self.now stop ≡ made.old.pairs.items ++ ahead_of self.now (probe_at from 0)) }
+        ensures given { IfOk result (λ stop. made.new.pairs.items ++ ahead_of self.now stop
+            ≡ made.old.pairs.items ++ ahead_of self.now (probe_at from 0)) }
         ensures few { IfOk result (λ _. length made.new.pairs.items ≤ most) }
-        ensures ended { IfOk result (λ stop. length made.new.pairs.items < most → ahead_of self.now stop ≡ []) }
+        ensures ended { IfOk result
+            (λ stop. length made.new.pairs.items < most → ahead_of self.now stop ≡ []) }
     {
         let rows = self.left.batch.rows();
         let room = (rows - from).min(PIECE_ROWS);
@@ -152,8 +163,8 @@ impl<'a> Search<'a> {
         Ok(at)
     }
 
-    // Adds the pairs of the rows of a piece until there are `most`, and gives where it stopped: before the end of the piece only
-    // where there are.
+    // Adds the pairs of the rows of a piece until there are `most`, and gives where it stopped:
+    // before the end of the piece only where there are.
     fn push_piece(
         &self,
         piece: &Piece<'_>,
@@ -165,10 +176,12 @@ impl<'a> Search<'a> {
         requires few { length made.old.pairs.items ≤ most }
         requires compared { HasCompared (walk_at self.now 0) made.old.compared }
         ensures given { IfOk result (λ stop. made.new.pairs.items ++ ahead_of self.now stop
-            ≡ made.old.pairs.items ++ ahead_of self.now (probe_at (first_left piece.now.to piece.now.starts.now) 0)) }
+            ≡ made.old.pairs.items
+            ++ ahead_of self.now (probe_at (first_left piece.now.to piece.now.starts.now) 0)) }
         ensures few { IfOk result (λ _. length made.new.pairs.items ≤ most) }
         ensures compared { IfOk result (λ _. HasCompared (walk_at self.now 0) made.new.compared) }
-        ensures ended { IfOk result (λ stop. length made.new.pairs.items < most → stop ≡ probe_at piece.now.to 0) }
+        ensures ended { IfOk result
+            (λ stop. length made.new.pairs.items < most → stop ≡ probe_at piece.now.to 0) }
     {
         for start in piece.starts {
             let left = start.left as usize;

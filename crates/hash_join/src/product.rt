@@ -6,8 +6,8 @@ use crate::key_row::KeyRow;
 use hash_seed::HashSeed;
 use std::hash::{BuildHasher, DefaultHasher, Hasher};
 
-// Buckets by the first bits of a sum: of the products of a number's halves with two secret numbers. Keys that are no number share
-// the first.
+// Buckets by the first bits of a sum: of the products of a number's halves with two secret numbers.
+// Keys that are no number share the first.
 #[derive(Clone, Copy, Drop)]
 pub(crate) struct Product {
     pub(crate) odd: u64,

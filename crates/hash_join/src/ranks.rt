@@ -1,6 +1,7 @@
 //! Buckets by the number that is the key.
 
-ghost use Rattle.std.specs.Prelude.{◌≡◌, ◌≤◌, ◌<◌, ◌+◌, ◌*◌, ◌/◌, ◌^◌, All, IfOk, IfSome, IsTrue, Some, count_by, false, get_or, length, nat_lt, true};
+ghost use Rattle.std.specs.Prelude.{◌≡◌, ◌≤◌, ◌<◌, ◌+◌, ◌*◌, ◌/◌, ◌^◌, All, IfOk, IfSome, IsTrue};
+ghost use Rattle.std.specs.Prelude.{Some, count_by, false, get_or, length, nat_lt, true};
 ghost use Rattle.hash_join.specs.Ranks.{rank_at, AreCounts};
 
 use crate::key_row::KeyRow;
@@ -11,9 +12,9 @@ use arrays::Batch;
 use bitmap::Bits;
 use std::alloc::{AllocError, Global};
 
-// Which numbers of a span are right keys, and for each 64 of them how many right keys are before them. Each right key has a
-// bucket by how many are before it; all other keys share the last. The bit behind the span's is 0: it is that of all other
-// numbers. There are bits up to a whole word.
+// Which numbers of a span are right keys, and for each 64 of them how many right keys are before
+// them. Each right key has a bucket by how many are before it; all other keys share the last. The
+// bit after the span's is 0: it is that of all other numbers. There are bits up to a whole word.
 #[derive(Drop)]
 pub(crate) struct Ranks {
     pub(crate) span: Span,
@@ -29,7 +30,8 @@ pub(crate) struct Ranks {
 impl Ranks {
     ghost use Rattle.std.specs.List.{list_all};
     ghost use Rattle.arrays.specs.Batch.{BatchAt};
-    ghost use Rattle.hash_join.specs.Hashes.{bucket_among, is_key, number_of, own_bucket, ranked_bucket};
+    ghost use Rattle.hash_join.specs.Hashes.{bucket_among, is_key, number_of, own_bucket};
+    ghost use Rattle.hash_join.specs.Hashes.{ranked_bucket};
     ghost use Rattle.hash_join.specs.KeyRows.{key_of, IsKeyRow};
 
     // The ranks of the keys of these batches among the numbers of a span.
@@ -39,7 +41,8 @@ impl Ranks {
         batches: &[Batch],
         key: &[usize],
     ) -> Result<Ranks, AllocError>
-        requires there { All (λ (batch : BatchAt). IsTrue (list_all (λ column. nat_lt column (length batch.columns)) key.now)) batches.now }
+        requires there { All (λ (batch : BatchAt). IsTrue
+            (list_all (λ column. nat_lt column (length batch.columns)) key.now)) batches.now }
         requires single { length key.now ≡ 1 }
         requires few { span.count < 2 ^ 30 }
         ensures { IfOk result (λ ranks. ranks.last < 2 ^ 31) }

@@ -1,6 +1,7 @@
 //! The rows of the right side of a join, by their numbers over all batches.
 
-ghost use Rattle.std.specs.Prelude.{◌≡◌, ◌≤◌, ◌<◌, ◌++◌, ◌^◌, ℕ, [], All, IfOk, IfSome, IsTrue, OnOk, get_or, length, map, nat_lt, true};
+ghost use Rattle.std.specs.Prelude.{◌≡◌, ◌≤◌, ◌<◌, ◌++◌, ◌^◌, ℕ, [], All, IfOk, IfSome, IsTrue};
+ghost use Rattle.std.specs.Prelude.{OnOk, get_or, length, map, nat_lt, true};
 ghost use Rattle.std.specs.List.{list_all, range_with_len};
 ghost use Rattle.scan_base.specs.Limits.{most_rows};
 ghost use Rattle.arrays.specs.Batch.{BatchAt};
@@ -8,7 +9,8 @@ ghost use Rattle.hash_join.specs.Pairs.{places};
 ghost use Rattle.hash_join.specs.Hashes.{last_of};
 ghost use Rattle.hash_join.specs.KeyRows.{key_beside, key_of, IsKeyRow};
 ghost use Rattle.scan_base.specs.declared.value.Value.TheVariants.{Null};
-ghost use Rattle.hash_join.specs.Rights.{key_at, key_from, bucket_at, digest_at, place_at, AreRights};
+ghost use Rattle.hash_join.specs.Rights.{key_at, key_from, bucket_at, digest_at, place_at};
+ghost use Rattle.hash_join.specs.Rights.{AreRights};
 ghost use Rattle.hash_join.specs.Compared.{HaveCompared};
 ghost use Rattle.hash_join.specs.Seen.{AreKept};
 
@@ -27,8 +29,8 @@ use hash_seed::HashSeed;
 use std::alloc::{AllocError, Global};
 use std::hash::BuildHasher;
 
-// The batches of the right side, the numbers of the columns that are the key, and for the number of each row, counted over
-// all batches, its place: the number of its batch and its own in it.
+// The batches of the right side, the numbers of the columns that are the key, and for the number of
+// each row, counted over all batches, its place: the number of its batch and its own in it.
 pub(crate) struct Rights {
     pub(crate) batches: Vec<Batch>,
     pub(crate) key: Vec<usize>,
@@ -49,15 +51,17 @@ impl Drop for Rights {
 }
 
 impl Rights {
-    // The rows of these batches, parted into buckets: by rank where the keys are numbers that lie close together, and else by
-    // a product or a hash into more than there are rows, up to twice as many.
+    // The rows of these batches, parted into buckets: by rank where the keys are numbers that lie
+    // close together, and else by a product or a hash into more than there are rows, up to twice as
+    // many.
     pub(crate) fn new(
         alloc: Global,
         seed: HashSeed,
         batches: Vec<Batch>,
         key: Vec<usize>,
     ) -> Result<Rights, AllocError>
-        requires there { All (λ (batch : BatchAt). IsTrue (list_all (λ column. nat_lt column (length batch.columns)) key.items)) batches.items }
+        requires there { All (λ (batch : BatchAt). IsTrue
+            (list_all (λ column. nat_lt column (length batch.columns)) key.items)) batches.items }
         requires few { length (places batches.items) ≤ most_rows }
         requires counted { length batches.items ≤ most_rows }
         ensures batches { IfOk result (λ rights. rights.batches.items ≡ batches.items) }
@@ -88,8 +92,10 @@ impl Rights {
         requires within { number < length self.now.places.items }
         ensures row { IsKeyRow result }
         ensures key { key_of result ≡ key_at self.now number }
-        ensures others { (row : ℕ) → key_beside result row ≡ key_from self.now ((place_at self.now number).0, row) }
-        ensures rows { result.batch.now.rows ≡ (get_or self.now.batches.items (place_at self.now number).0 (record { columns = []; rows = 0 })).rows }
+        ensures others { (row : ℕ) →
+            key_beside result row ≡ key_from self.now ((place_at self.now number).0, row) }
+        ensures rows { result.batch.now.rows ≡ (get_or self.now.batches.items
+            (place_at self.now number).0 (record { columns = []; rows = 0 })).rows }
         ensures parts { length result.key.now ≡ length self.now.key.items }
     {
         let (batch, row) = self.places[number];
@@ -108,18 +114,20 @@ impl Rights {
         }
     }
 
-    // What so many rows count as where they are hashed: a row counts once for each part of its key, and once at least.
+    // What so many rows count as where they are hashed: a row counts once for each part of its key,
+    // and once at least.
     pub(crate) fn weighted_rows(&self, rows: usize) -> usize
         ensures { rows ≤ result }
     {
         rows.saturating_mul(self.key.len().max(1))
     }
 
-    // Tables for the buckets and the digests of rows that are seen, without a row yet. They have places where keys are hashed, and
-    // some batch has codes.
+    // Tables for the buckets and the digests of rows that are seen, without a row yet. They have
+    // places where keys are hashed, and some batch has codes.
     pub(crate) fn seen_rows(&self, alloc: Global) -> Result<SeenRows, AllocError>
         requires { AreRights self.now }
-        ensures { IfOk result (λ seen. AreKept (bucket_at self.now) (last_of self.now.buckets) (length self.now.places.items) (digest_at self.now) seen) }
+        ensures { IfOk result (λ seen. AreKept (bucket_at self.now) (last_of self.now.buckets)
+            (length self.now.places.items) (digest_at self.now) seen) }
     {
         let Buckets::Hashed(hashing) = &self.buckets else {
             return Ok(SeenRows::none(alloc));
@@ -134,8 +142,8 @@ impl Rights {
         SeenRows::new(alloc, hashing, wanted)
     }
 
-    // Whether another row is there and surely has the same key: the same codes of dictionaries, which takes no look at their
-    // texts, or the same values.
+    // Whether another row is there and surely has the same key: the same codes of dictionaries,
+    // which takes no look at their texts, or the same values.
     pub(crate) fn is_repeat(&self, number: usize, other: usize, compared: &mut Compared) -> bool
         requires whole { AreRights self.now }
         requires within { number < length self.now.places.items }
@@ -153,7 +161,8 @@ impl Rights {
         compared.keys_join(&rows, &rows, number, other)
     }
 
-    // A table for what is compared of two rows, without a pair yet. It has places where keys are hashed, and some batch has codes.
+    // A table for what is compared of two rows, without a pair yet. It has places where keys are
+    // hashed, and some batch has codes.
     pub(crate) fn compared(&self, alloc: Global) -> Compared
         requires { AreRights self.now }
         ensures { HaveCompared self.now result }
@@ -166,7 +175,8 @@ impl Rights {
         }
     }
 
-    // Whether two rows of one batch have a key of the same code, or of several parts with the same codes and numbers.
+    // Whether two rows of one batch have a key of the same code, or of several parts with the same
+    // codes and numbers.
     pub(crate) fn have_one_code(&self, number: usize, other: usize) -> bool
         requires whole { AreRights self.now }
         requires within { number < length self.now.places.items }
@@ -186,7 +196,8 @@ impl Rights {
         requires within { number < length self.now.places.items }
         requires other { other < length self.now.places.items }
         requires part { part < length self.now.key.items }
-        ensures { result ≡ true → get_or (key_at self.now number) part Null ≡ get_or (key_at self.now other) part Null }
+        ensures { result ≡ true →
+            get_or (key_at self.now number) part Null ≡ get_or (key_at self.now other) part Null }
     {
         let (batch, _) = self.places[number];
         let (other_batch, row) = self.places[other];
@@ -223,7 +234,8 @@ fn places_of(alloc: Global, batches: &[Batch]) -> Result<Vec<(u32, u32)>, AllocE
 // Adds the places of the rows of one batch.
 fn push_places(all: &mut Vec<(u32, u32)>, batch: u32, rows: usize) -> Result<(), AllocError>
     requires { rows < 2 ^ 32 }
-    ensures { OnOk result (all.new.items ≡ all.old.items ++ map (λ row. (batch, row)) (range_with_len 0 rows)) }
+    ensures { OnOk result
+        (all.new.items ≡ all.old.items ++ map (λ row. (batch, row)) (range_with_len 0 rows)) }
 {
     for row in 0..rows {
         all.push((batch, row as u32))?;

@@ -6,7 +6,8 @@ ghost use Rattle.hash_join.specs.Hashes.{last_of};
 ghost use Rattle.hash_join.specs.KeyRows.{IsKeyRow};
 ghost use Rattle.hash_join.specs.Compared.{HasCompared};
 ghost use Rattle.hash_join.specs.Walks.{pairs_past};
-ghost use Rattle.hash_join.specs.Searches.{ahead_of, walk_at, AreHeads, AreKeysOf, IsSearch, Passes, Tells, TellsNumbers};
+ghost use Rattle.hash_join.specs.Searches.{ahead_of, walk_at, AreHeads, AreKeysOf, IsSearch};
+ghost use Rattle.hash_join.specs.Searches.{Passes, Tells, TellsNumbers};
 
 use crate::all_rows::AllRows;
 use crate::buckets::Buckets;
@@ -44,7 +45,8 @@ pub(crate) struct NumberKeys<'a, L: Look> {
 }
 
 impl<'a> Search<'a> {
-    // Adds the next pairs until there are `most`, and gives where it stopped: before the last pair only where there are.
+    // Adds the next pairs until there are `most`, and gives where it stopped: before the last pair
+    // only where there are.
     pub(crate) fn push_pairs(
         &self,
         probe: &Probe,
@@ -53,9 +55,11 @@ impl<'a> Search<'a> {
     ) -> Result<Probe, AllocError>
         requires whole { IsSearch self.now }
         requires few { length made.old.pairs.items ≤ most }
-        ensures given { IfOk result (λ stop. made.new.pairs.items ++ ahead_of self.now stop ≡ made.old.pairs.items ++ ahead_of self.now probe.now) }
+        ensures given { IfOk result (λ stop. made.new.pairs.items ++ ahead_of self.now stop
+            ≡ made.old.pairs.items ++ ahead_of self.now probe.now) }
         ensures few { IfOk result (λ _. length made.new.pairs.items ≤ most) }
-        ensures ended { IfOk result (λ stop. length made.new.pairs.items < most → ahead_of self.now stop ≡ []) }
+        ensures ended { IfOk result
+            (λ stop. length made.new.pairs.items < most → ahead_of self.now stop ≡ []) }
     {
         match &self.rights.buckets {
             Buckets::Ranked(ranks) if self.has_one_part() && self.is_empty(ranks.last) => {
@@ -79,7 +83,8 @@ impl<'a> Search<'a> {
     fn is_empty(&self, bucket: usize) -> bool
         requires whole { IsSearch self.now }
         requires within { bucket ≤ last_of (self.now).rights.now.buckets }
-        ensures { result ≡ nat_le (length (self.now).rights.now.places.items) (get_or (self.now).chains.now.heads.items bucket 0) }
+        ensures { result ≡ nat_le (length (self.now).rights.now.places.items)
+            (get_or (self.now).chains.now.heads.items bucket 0) }
     {
         self.chains.heads[bucket] as usize >= self.rights.places.len()
     }
@@ -88,15 +93,18 @@ impl<'a> Search<'a> {
     fn push_all(&self, probe: &Probe, most: usize, made: &mut Made) -> Result<Probe, AllocError>
         requires whole { IsSearch self.now }
         requires few { length made.old.pairs.items ≤ most }
-        ensures given { IfOk result (λ stop. made.new.pairs.items ++ ahead_of self.now stop ≡ made.old.pairs.items ++ ahead_of self.now probe.now) }
+        ensures given { IfOk result (λ stop. made.new.pairs.items ++ ahead_of self.now stop
+            ≡ made.old.pairs.items ++ ahead_of self.now probe.now) }
         ensures few { IfOk result (λ _. length made.new.pairs.items ≤ most) }
-        ensures ended { IfOk result (λ stop. length made.new.pairs.items < most → ahead_of self.now stop ≡ []) }
+        ensures ended { IfOk result
+            (λ stop. length made.new.pairs.items < most → ahead_of self.now stop ≡ []) }
     {
         let sieve = AllRows { search: *self };
         self.push_pieces(&sieve, probe, most, made)
     }
 
-    // The same, where the right keys are parted by ranks, the left key is one column, and all right keys have their own bucket.
+    // The same, where the right keys are parted by ranks, the left key is one column, and all right
+    // keys have their own bucket.
     fn push_ranks(
         &self,
         ranks: &Ranks,
@@ -106,12 +114,15 @@ impl<'a> Search<'a> {
     ) -> Result<Probe, AllocError>
         requires whole { IsSearch self.now }
         requires parted { (self.now).rights.now.buckets ≡ parted.Ranked ranks.now }
-        requires own { length (self.now).rights.now.places.items ≤ get_or (self.now).chains.now.heads.items ranks.now.last 0 }
+        requires own { length (self.now).rights.now.places.items
+            ≤ get_or (self.now).chains.now.heads.items ranks.now.last 0 }
         requires single { length (self.now).left.key.now ≡ 1 }
         requires few { length made.old.pairs.items ≤ most }
-        ensures given { IfOk result (λ stop. made.new.pairs.items ++ ahead_of self.now stop ≡ made.old.pairs.items ++ ahead_of self.now probe.now) }
+        ensures given { IfOk result (λ stop. made.new.pairs.items ++ ahead_of self.now stop
+            ≡ made.old.pairs.items ++ ahead_of self.now probe.now) }
         ensures few { IfOk result (λ _. length made.new.pairs.items ≤ most) }
-        ensures ended { IfOk result (λ stop. length made.new.pairs.items < most → ahead_of self.now stop ≡ []) }
+        ensures ended { IfOk result
+            (λ stop. length made.new.pairs.items < most → ahead_of self.now stop ≡ []) }
     {
         let heads = RankHeads {
             ranks,
@@ -132,9 +143,11 @@ impl<'a> Search<'a> {
         requires parted { (self.now).rights.now.buckets ≡ parted.Multiplied product }
         requires single { length (self.now).left.key.now ≡ 1 }
         requires few { length made.old.pairs.items ≤ most }
-        ensures given { IfOk result (λ stop. made.new.pairs.items ++ ahead_of self.now stop ≡ made.old.pairs.items ++ ahead_of self.now probe.now) }
+        ensures given { IfOk result (λ stop. made.new.pairs.items ++ ahead_of self.now stop
+            ≡ made.old.pairs.items ++ ahead_of self.now probe.now) }
         ensures few { IfOk result (λ _. length made.new.pairs.items ≤ most) }
-        ensures ended { IfOk result (λ stop. length made.new.pairs.items < most → ahead_of self.now stop ≡ []) }
+        ensures ended { IfOk result
+            (λ stop. length made.new.pairs.items < most → ahead_of self.now stop ≡ []) }
     {
         let heads = ProductHeads {
             product,
@@ -153,12 +166,15 @@ impl<'a> Search<'a> {
         made: &mut Made,
     ) -> Result<Probe, AllocError>
         requires whole { IsSearch self.now }
-        requires look { TellsNumbers self.now (L.passes look.now) (L.told look.now) (L.head look.now) (L.own look.now) }
+        requires look { TellsNumbers self.now (L.passes look.now) (L.told look.now)
+            (L.head look.now) (L.own look.now) }
         requires single { length (self.now).left.key.now ≡ 1 }
         requires few { length made.old.pairs.items ≤ most }
-        ensures given { IfOk result (λ stop. made.new.pairs.items ++ ahead_of self.now stop ≡ made.old.pairs.items ++ ahead_of self.now probe.now) }
+        ensures given { IfOk result (λ stop. made.new.pairs.items ++ ahead_of self.now stop
+            ≡ made.old.pairs.items ++ ahead_of self.now probe.now) }
         ensures few { IfOk result (λ _. length made.new.pairs.items ≤ most) }
-        ensures ended { IfOk result (λ stop. length made.new.pairs.items < most → ahead_of self.now stop ≡ []) }
+        ensures ended { IfOk result
+            (λ stop. length made.new.pairs.items < most → ahead_of self.now stop ≡ []) }
     {
         let column = &self.left.batch.columns()[self.left.key[0]];
         let _count = column.len();
@@ -185,11 +201,14 @@ impl<'a> Search<'a> {
     ) -> Result<Probe, AllocError>
         requires whole { IsSearch self.now }
         requires keys { AreKeysOf self.now keys.cells keys.first }
-        requires look { TellsNumbers self.now (L.passes keys.look.now) (L.told keys.look.now) (L.head keys.look.now) (L.own keys.look.now) }
+        requires look { TellsNumbers self.now (L.passes keys.look.now) (L.told keys.look.now)
+            (L.head keys.look.now) (L.own keys.look.now) }
         requires few { length made.old.pairs.items ≤ most }
-        ensures given { IfOk result (λ stop. made.new.pairs.items ++ ahead_of self.now stop ≡ made.old.pairs.items ++ ahead_of self.now probe.now) }
+        ensures given { IfOk result (λ stop. made.new.pairs.items ++ ahead_of self.now stop
+            ≡ made.old.pairs.items ++ ahead_of self.now probe.now) }
         ensures few { IfOk result (λ _. length made.new.pairs.items ≤ most) }
-        ensures ended { IfOk result (λ stop. length made.new.pairs.items < most → ahead_of self.now stop ≡ []) }
+        ensures ended { IfOk result
+            (λ stop. length made.new.pairs.items < most → ahead_of self.now stop ≡ []) }
     {
         match keys.cells.integer_type() {
             IntegerType::Int8 => self.push_as::<i8, L>(keys, probe, most, made),
@@ -213,12 +232,15 @@ impl<'a> Search<'a> {
     ) -> Result<Probe, AllocError>
         requires whole { IsSearch self.now }
         requires keys { AreKeysOf self.now keys.cells keys.first }
-        requires look { TellsNumbers self.now (L.passes keys.look.now) (L.told keys.look.now) (L.head keys.look.now) (L.own keys.look.now) }
+        requires look { TellsNumbers self.now (L.passes keys.look.now) (L.told keys.look.now)
+            (L.head keys.look.now) (L.own keys.look.now) }
         requires kind { E.kind ≡ keys.cells.integer }
         requires few { length made.old.pairs.items ≤ most }
-        ensures given { IfOk result (λ stop. made.new.pairs.items ++ ahead_of self.now stop ≡ made.old.pairs.items ++ ahead_of self.now probe.now) }
+        ensures given { IfOk result (λ stop. made.new.pairs.items ++ ahead_of self.now stop
+            ≡ made.old.pairs.items ++ ahead_of self.now probe.now) }
         ensures few { IfOk result (λ _. length made.new.pairs.items ≤ most) }
-        ensures ended { IfOk result (λ stop. length made.new.pairs.items < most → ahead_of self.now stop ≡ []) }
+        ensures ended { IfOk result
+            (λ stop. length made.new.pairs.items < most → ahead_of self.now stop ≡ []) }
     {
         let sieve: NumberRows<'_, E, L> = NumberRows {
             cells: keys.cells,
@@ -230,8 +252,8 @@ impl<'a> Search<'a> {
         self.push_pieces(&sieve, probe, most, made)
     }
 
-    // The same, where rows that a sieve stops join nothing. The row where the probe is may be within its chain; all later
-    // ones are at the head of theirs.
+    // The same, where rows that a sieve stops join nothing. The row where the probe is may be
+    // within its chain; all later ones are at the head of theirs.
     fn push_pieces<S: Sieve>(
         &self,
         sieve: &S,
@@ -243,11 +265,14 @@ impl<'a> Search<'a> {
         requires all { (self.now).left.batch.now.rows ≤ S.count sieve.now }
         requires sound { Passes self.now (S.passes sieve.now) }
         requires told { Tells self.now (S.told sieve.now) }
-        requires heads { AreHeads self.now (S.passes sieve.now) (S.head sieve.now) (S.own sieve.now) }
+        requires heads { AreHeads self.now (S.passes sieve.now) (S.head sieve.now)
+            (S.own sieve.now) }
         requires few { length made.old.pairs.items ≤ most }
-        ensures given { IfOk result (λ stop. made.new.pairs.items ++ ahead_of self.now stop ≡ made.old.pairs.items ++ ahead_of self.now probe.now) }
+        ensures given { IfOk result (λ stop. made.new.pairs.items ++ ahead_of self.now stop
+            ≡ made.old.pairs.items ++ ahead_of self.now probe.now) }
         ensures few { IfOk result (λ _. length made.new.pairs.items ≤ most) }
-        ensures ended { IfOk result (λ stop. length made.new.pairs.items < most → ahead_of self.now stop ≡ []) }
+        ensures ended { IfOk result
+            (λ stop. length made.new.pairs.items < most → ahead_of self.now stop ≡ []) }
     {
         if probe.left >= self.left.batch.rows() {
             return Ok(*probe);
@@ -263,8 +288,8 @@ impl<'a> Search<'a> {
         self.push_rows(sieve, probe.left + 1, most, made)
     }
 
-    // Adds the pairs of one left row with right rows from one on, until there are `most`, and gives the right row where it
-    // stopped: before the last row only where there are.
+    // Adds the pairs of one left row with right rows from one on, until there are `most`, and gives
+    // the right row where it stopped: before the last row only where there are.
     fn push_row<S: Sieve>(
         &self,
         sieve: &S,
@@ -279,11 +304,13 @@ impl<'a> Search<'a> {
         requires told { Tells self.now (S.told sieve.now) }
         requires few { length made.old.pairs.items ≤ most }
         requires compared { HasCompared (walk_at self.now 0) made.old.compared }
-        ensures given { IfOk result (λ stop. made.new.pairs.items ++ pairs_past (walk_at self.now probe.now.left) stop
+        ensures given { IfOk result
+            (λ stop. made.new.pairs.items ++ pairs_past (walk_at self.now probe.now.left) stop
             ≡ made.old.pairs.items ++ pairs_past (walk_at self.now probe.now.left) probe.now.from) }
         ensures few { IfOk result (λ _. length made.new.pairs.items ≤ most) }
         ensures compared { IfOk result (λ _. HasCompared (walk_at self.now 0) made.new.compared) }
-        ensures stop { IfOk result (λ stop. stop < length (self.now).rights.now.places.items → most ≤ length made.new.pairs.items) }
+        ensures stop { IfOk result (λ stop. stop < length (self.now).rights.now.places.items →
+            most ≤ length made.new.pairs.items) }
     {
         if !sieve.passes(probe.left) {
             return Ok(self.rights.places.len());

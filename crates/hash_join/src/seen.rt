@@ -1,6 +1,7 @@
 //! Buckets of rows that were seen, by the codes of their keys.
 
-ghost use Rattle.std.specs.Prelude.{◌≡◌, ◌≤◌, ◌<◌, ◌+◌, ◌^◌, [], ℕ, All, IfOk, IfSome, Option, length, true};
+ghost use Rattle.std.specs.Prelude.{◌≡◌, ◌≤◌, ◌<◌, ◌+◌, ◌^◌, [], ℕ, All, IfOk, IfSome, Option};
+ghost use Rattle.std.specs.Prelude.{length, true};
 ghost use Rattle.hash_join.specs.Seen.{AreDigests, AreKept, AreSeen, IsSeen};
 
 use crate::buckets::Hashing;
@@ -18,8 +19,9 @@ pub(crate) struct SeenRow {
     pub(crate) bucket: u32,
 }
 
-// For each place the row whose code fell there last. So it forgets rows, and has no place for each value of a dictionary. Who
-// asks looks whether that row has the same code. Beside it are the digests of texts that are parts of keys.
+// For each place the row whose code fell there last. So it forgets rows, and has no place for each
+// value of a dictionary. Who asks looks whether that row has the same code. Next to it are the
+// digests of texts that are parts of keys.
 #[derive(Drop)]
 pub(crate) struct SeenRows {
     product: Product,
@@ -27,7 +29,8 @@ pub(crate) struct SeenRows {
     pub(crate) digests: Digests,
 }
 
-// For what tables have places: for so many rows whose keys have codes, and for so many codes in each of so many parts.
+// For what tables have places: for so many rows whose keys have codes, and for so many codes in
+// each of so many parts.
 #[derive(Clone, Copy, Drop)]
 pub(crate) struct Wanted {
     pub(crate) rows: usize,
@@ -49,7 +52,8 @@ pub(crate) trait BucketRows {
     fn count(&self) -> usize
         ensures { result ≡ count self.now };
 
-    // A number that rows with the same codes have, and others may have too; none where the key has a part without a code.
+    // A number that rows with the same codes have, and others may have too; none where the key has
+    // a part without a code.
     fn code(&self, row: usize) -> Option<i128>
         requires { row < count self.now };
 
@@ -59,7 +63,8 @@ pub(crate) trait BucketRows {
         requires other { other < count self.now }
         ensures { result ≡ true → bucket self.now row ≡ bucket self.now other };
 
-    // The bucket of a row's key, by its values; none where a part of it is null. A text whose digest is known is not looked at.
+    // The bucket of a row's key, by its values; none where a part of it is null. A text whose
+    // digest is known is not looked at.
     fn bucket(&self, row: usize, digests: &mut Digests) -> Option<usize>
         requires row { row < count self.now }
         requires few { count self.now < 2 ^ 32 }
@@ -82,15 +87,18 @@ impl SeenRows {
         }
     }
 
-    // Tables that have seen no row. That of keys takes four bytes for each row, or less, and eight at least.
+    // Tables that have seen no row. That of keys takes four bytes for each row, or less, and eight
+    // at least.
     pub(crate) fn new(
         alloc: Global,
         hashing: &Hashing,
         wanted: Wanted,
     ) -> Result<SeenRows, AllocError>
         requires { wanted.rows < 2 ^ 32 }
-        ensures rows { IfOk result (λ seen. All (λ (at : SeenRow). 2 ^ 32 ≤ at.row + 1) seen.rows.items) }
-        ensures texts { IfOk result (λ seen. All (λ (at : SeenDigest). 2 ^ 32 ≤ at.row + 1) seen.digests.texts.items) }
+        ensures rows { IfOk result
+            (λ seen. All (λ (at : SeenRow). 2 ^ 32 ≤ at.row + 1) seen.rows.items) }
+        ensures texts { IfOk result
+            (λ seen. All (λ (at : SeenDigest). 2 ^ 32 ≤ at.row + 1) seen.digests.texts.items) }
     {
         let digests = Digests::new(alloc, hashing, wanted.parts, wanted.codes)?;
         if wanted.rows == 0 {
@@ -113,15 +121,18 @@ impl SeenRows {
         })
     }
 
-    // The bucket of a row's key. Its values are not looked at where the row that was seen last at its place has the same code.
+    // The bucket of a row's key. Its values are not looked at where the row that was seen last at
+    // its place has the same code.
     pub(crate) fn bucket<R: BucketRows>(&mut self, rows: &R, row: usize) -> Option<usize>
         requires row { row < R.count rows.now }
         requires few { R.count rows.now < 2 ^ 32 }
         requires last { R.last rows.now < 2 ^ 32 }
-        requires seen { AreKept (R.bucket rows.now) (R.last rows.now) (R.count rows.now) (R.digest rows.now) self.old }
+        requires seen { AreKept (R.bucket rows.now) (R.last rows.now) (R.count rows.now)
+            (R.digest rows.now) self.old }
         ensures bucket { result ≡ R.bucket rows.now row }
         ensures within { IfSome result (λ bucket. bucket ≤ R.last rows.now) }
-        ensures seen { AreKept (R.bucket rows.now) (R.last rows.now) (R.count rows.now) (R.digest rows.now) self.new }
+        ensures seen { AreKept (R.bucket rows.now) (R.last rows.now) (R.count rows.now)
+            (R.digest rows.now) self.new }
     {
         if self.rows.is_empty() {
             return rows.bucket(row, &mut self.digests);
@@ -143,8 +154,10 @@ impl SeenRows {
     // The bucket of a row's key, where the row at a place has the same code.
     fn bucket_at<R: BucketRows>(&self, rows: &R, place: usize, row: usize) -> Option<usize>
         requires row { row < R.count rows.now }
-        requires seen { AreSeen (R.bucket rows.now) (R.last rows.now) (R.count rows.now) self.now.rows.items }
-        ensures { IfSome result (λ bucket. IsSeen (R.bucket rows.now) (R.last rows.now) row bucket) }
+        requires seen { AreSeen (R.bucket rows.now) (R.last rows.now)
+            (R.count rows.now) self.now.rows.items }
+        ensures { IfSome result
+            (λ bucket. IsSeen (R.bucket rows.now) (R.last rows.now) row bucket) }
     {
         if place >= self.rows.len() {
             return None;
@@ -162,7 +175,8 @@ impl SeenRows {
     fn keep(&mut self, place: usize, row: usize, bucket: usize)
         requires row { row < 2 ^ 32 }
         requires bucket { bucket < 2 ^ 32 }
-        ensures rows { (buckets : ℕ → Option ℕ) (last count : ℕ) → IsSeen buckets last row bucket → AreSeen buckets last count self.old.rows.items →
+        ensures rows { (buckets : ℕ → Option ℕ) (last count : ℕ) → IsSeen buckets last row bucket →
+            AreSeen buckets last count self.old.rows.items →
             AreSeen buckets last count self.new.rows.items }
         ensures texts { self.new.digests.texts.items ≡ self.old.digests.texts.items }
     {

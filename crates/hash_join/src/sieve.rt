@@ -1,6 +1,7 @@
 //! Left rows, of which those that join nothing are mostly told by one look.
 
-ghost use Rattle.std.specs.Prelude.{◌≡◌, ◌≤◌, ◌<◌, ◌+◌, ◌&&◌, ℕ, [], Bool, IfOk, None, Option, if◌then◌else◌, true};
+ghost use Rattle.std.specs.Prelude.{◌≡◌, ◌≤◌, ◌<◌, ◌+◌, ◌&&◌, ℕ, [], Bool, IfOk, None, Option};
+ghost use Rattle.std.specs.Prelude.{if◌then◌else◌, true};
 ghost use Rattle.arrays.specs.Integers.{AreIntegers};
 ghost use Rattle.arrays.specs.Number.{integer_at};
 ghost use Rattle.arrays.specs.Validity.{is_valid};
@@ -40,7 +41,8 @@ pub(crate) trait Sieve {
         requires { row < count self.now }
         ensures { result ≡ passes self.now row };
 
-    // A bit for each of up to 64 rows from one on, the first lowest: 1 where the row may join a right row.
+    // A bit for each of up to 64 rows from one on, the first lowest: 1 where the row may join a
+    // right row.
     fn word(&self, from: usize, rows: usize) -> u64
         requires within { from + rows ≤ count self.now }
         requires few { rows ≤ 64 }
@@ -53,19 +55,23 @@ pub(crate) trait Sieve {
 
     // Tables for the buckets and the digests of rows that are seen, without a row yet.
     fn seen_rows(&self, alloc: Global) -> Result<SeenRows, AllocError>
-        ensures { IfOk result (λ seen. AreKept (bucket self.now) (last self.now) (count self.now) (digest self.now) seen) };
+        ensures { IfOk result (λ seen. AreKept (bucket self.now) (last self.now) (count self.now)
+            (digest self.now) seen) };
 
     // A table for what is compared of left and right rows, without a pair yet.
     fn compared(&self, alloc: Global) -> Compared
         ensures { result.pairs.items ≡ [] };
 
-    // The first right row of the chain of a row that passes; the number of right rows where it has none.
+    // The first right row of the chain of a row that passes; the number of right rows where it has
+    // none.
     fn head(&self, row: usize, seen: &mut SeenRows) -> u32
         requires row { row < count self.now }
         requires passes { passes self.now row ≡ true }
-        requires seen { AreKept (bucket self.now) (last self.now) (count self.now) (digest self.now) seen.old }
+        requires seen { AreKept (bucket self.now) (last self.now) (count self.now)
+            (digest self.now) seen.old }
         ensures head { result ≡ head self.now row }
-        ensures seen { AreKept (bucket self.now) (last self.now) (count self.now) (digest self.now) seen.new };
+        ensures seen { AreKept (bucket self.now) (last self.now) (count self.now)
+            (digest self.now) seen.new };
 
     // Whether a row that passes joins each right row of its chain.
     fn is_own(&self) -> bool
@@ -91,9 +97,11 @@ impl<'a, E: KeyElement, L: Look> Sieve for NumberRows<'a, E, L> {
         && L.passes rows.look.now (integer_at E.kind rows.cells.values (rows.first + row)) };
 
     ghost told = { λ rows row. if is_valid rows.cells.validity (rows.first + row)
-        then L.told rows.look.now (integer_at E.kind rows.cells.values (rows.first + row)) else known.Nothing };
+        then L.told rows.look.now (integer_at E.kind rows.cells.values (rows.first + row))
+        else known.Nothing };
 
-    ghost head = { λ rows row. L.head rows.look.now (integer_at E.kind rows.cells.values (rows.first + row)) };
+    ghost head = { λ rows row. L.head rows.look.now
+        (integer_at E.kind rows.cells.values (rows.first + row)) };
 
     ghost own = { λ rows. L.own rows.look.now };
 

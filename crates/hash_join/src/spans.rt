@@ -1,6 +1,7 @@
 //! Numbers that lie close together.
 
-ghost use Rattle.std.specs.Prelude.{◌≡◌, ◌≤◌, ◌<◌, ◌+ℤ◌, ◌-ℤ◌, ◌≤ℤ◌, ◌^◌, pos, All, IfSome, IsTrue, length, nat_lt};
+ghost use Rattle.std.specs.Prelude.{◌≡◌, ◌≤◌, ◌<◌, ◌+ℤ◌, ◌-ℤ◌, ◌≤ℤ◌, ◌^◌, pos, All, IfSome, IsTrue};
+ghost use Rattle.std.specs.Prelude.{length, nat_lt};
 ghost use Rattle.std.specs.List.{list_all};
 ghost use Rattle.scan_base.specs.Limits.{most_rows};
 ghost use Rattle.arrays.specs.Batch.{BatchAt};
@@ -9,7 +10,8 @@ ghost use Rattle.hash_join.specs.Indices.{index_among};
 use crate::numbers::{TakesNumbers, take_numbers};
 use arrays::Batch;
 
-// So many numbers for each row may lie from the least key to the greatest, and so many more, that each has a bit.
+// So many numbers for each row may lie from the least key to the greatest, and so many more, that
+// each has a bit.
 const MOST_NUMBERS_A_ROW: usize = 16;
 
 const MORE_NUMBERS: usize = 1_024;
@@ -38,7 +40,8 @@ impl Ends {
         }
     }
 
-    // From the least to the greatest, where 64 bits with a sign hold both, and they are no more than so many numbers.
+    // From the least to the greatest, where 64 bits with a sign hold both, and they are no more
+    // than so many numbers.
     fn span(self, most: usize) -> Option<Span>
         ensures { IfSome result (λ span. span.count ≤ most) }
     {
@@ -68,10 +71,11 @@ impl TakesNumbers for Ends {
 impl Span {
     ghost use Rattle.hash_join.specs.Hashes.{place_among};
 
-    // The span of the keys of these batches, which have so many rows: none where these are no integers of one column, or lie
-    // far apart.
+    // The span of the keys of these batches, which have so many rows: none where these are no
+    // integers of one column, or lie far apart.
     pub(crate) fn of(batches: &[Batch], key: &[usize], rows: usize) -> Option<Span>
-        requires there { All (λ (batch : BatchAt). IsTrue (list_all (λ column. nat_lt column (length batch.columns)) key.now)) batches.now }
+        requires there { All (λ (batch : BatchAt). IsTrue
+            (list_all (λ column. nat_lt column (length batch.columns)) key.now)) batches.now }
         requires few { rows ≤ most_rows }
         ensures few { IfSome result (λ span. span.count < 2 ^ 30) }
         ensures single { IfSome result (λ span. length key.now ≡ 1) }
@@ -88,7 +92,7 @@ impl Span {
         ends.span(MOST_NUMBERS_A_ROW * rows + MORE_NUMBERS)
     }
 
-    // The place of a number; behind the last of them where it is none of them.
+    // The place of a number; after the last of them where it is none of them.
     pub(crate) fn place(&self, number: i128) -> usize
         ensures place { result ≡ place_among self.now number }
         ensures within { result ≤ self.now.count }
@@ -100,8 +104,9 @@ impl Span {
     }
 }
 
-// The place of a number of 64 bits among so many from the least on; behind the last of them where it is none of them. It
-// takes no step in 128 bits, and no branch: below the least the difference wraps past all places.
+// The place of a number of 64 bits among so many from the least on; after the last of them where it
+// is none of them. It takes no step in 128 bits, and no branch: below the least the difference
+// wraps past all places.
 fn near_place(number: i64, least: i64, count: usize) -> usize
     requires { (least +ℤ pos count) ≤ℤ pos (2 ^ 63) }
     ensures place { result ≡ index_among (number -ℤ least) count }
@@ -111,7 +116,8 @@ fn near_place(number: i64, least: i64, count: usize) -> usize
     (index as usize).min(count)
 }
 
-// The place of a number among so many from the least on; behind the last of them where it is none of them.
+// The place of a number among so many from the least on; after the last of them where it is none of
+// them.
 fn place_from(number: i128, least: i128, count: usize) -> usize
     ensures place { result ≡ index_among (number -ℤ least) count }
     ensures within { result ≤ count }
@@ -122,7 +128,8 @@ fn place_from(number: i128, least: i128, count: usize) -> usize
     }
 }
 
-// The place of a number, counted from the first of so many; behind the last of them where it is none of them.
+// The place of a number, counted from the first of so many; after the last of them where it is none
+// of them.
 fn index_among(index: i128, count: usize) -> usize
     ensures place { result ≡ index_among index count }
     ensures within { result ≤ count }

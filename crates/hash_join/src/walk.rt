@@ -1,11 +1,13 @@
 //! A left row that looks for its partners.
 
-ghost use Rattle.std.specs.Prelude.{◌≡◌, ◌≤◌, ◌<◌, ◌++◌, [], ◌∷◌, IfOk, OnOk, Some, get_or, if◌then◌else◌, length, true};
+ghost use Rattle.std.specs.Prelude.{◌≡◌, ◌≤◌, ◌<◌, ◌++◌, [], ◌∷◌, IfOk, OnOk, Some, get_or};
+ghost use Rattle.std.specs.Prelude.{if◌then◌else◌, length, true};
 ghost use Rattle.hash_join.specs.Rights.{place_at};
 ghost use Rattle.hash_join.specs.Hashes.{last_of};
 ghost use Rattle.hash_join.specs.Chains.{Leads};
 ghost use Rattle.hash_join.specs.Compared.{HasCompared};
-ghost use Rattle.hash_join.specs.Walks.{bucket_left, in_chain, joins_at, pair_at, pairs_past, IsWalk, JoinsChain};
+ghost use Rattle.hash_join.specs.Walks.{bucket_left, in_chain, joins_at, pair_at, pairs_past};
+ghost use Rattle.hash_join.specs.Walks.{IsWalk, JoinsChain};
 
 use crate::chains::Chains;
 use crate::compared::{Compared, Made};
@@ -25,8 +27,8 @@ pub(crate) struct Walk<'a> {
 }
 
 impl<'a> Walk<'a> {
-    // Adds the pairs with right rows from one on, until there are `most`, and gives the right row where it stopped: before
-    // the last row only where there are.
+    // Adds the pairs with right rows from one on, until there are `most`, and gives the right row
+    // where it stopped: before the last row only where there are.
     pub(crate) fn push_pairs(
         &self,
         from: usize,
@@ -36,10 +38,12 @@ impl<'a> Walk<'a> {
         requires whole { IsWalk self.now }
         requires few { length made.old.pairs.items ≤ most }
         requires compared { HasCompared self.now made.old.compared }
-        ensures given { IfOk result (λ stop. made.new.pairs.items ++ pairs_past self.now stop ≡ made.old.pairs.items ++ pairs_past self.now from) }
+        ensures given { IfOk result (λ stop. made.new.pairs.items ++ pairs_past self.now stop
+            ≡ made.old.pairs.items ++ pairs_past self.now from) }
         ensures few { IfOk result (λ _. length made.new.pairs.items ≤ most) }
         ensures compared { IfOk result (λ _. HasCompared self.now made.new.compared) }
-        ensures stop { IfOk result (λ stop. stop < length (self.now).rights.now.places.items → most ≤ length made.new.pairs.items) }
+        ensures stop { IfOk result (λ stop. stop < length (self.now).rights.now.places.items →
+            most ≤ length made.new.pairs.items) }
     {
         match self.rights.buckets.bucket(&self.left) {
             None => Ok(self.rights.places.len()),
@@ -60,20 +64,24 @@ impl<'a> Walk<'a> {
         requires within { bucket ≤ last_of (self.now).rights.now.buckets }
         requires few { length made.old.pairs.items ≤ most }
         requires compared { HasCompared self.now made.old.compared }
-        ensures given { IfOk result (λ stop. made.new.pairs.items ++ pairs_past self.now stop ≡ made.old.pairs.items ++ pairs_past self.now from) }
+        ensures given { IfOk result (λ stop. made.new.pairs.items ++ pairs_past self.now stop
+            ≡ made.old.pairs.items ++ pairs_past self.now from) }
         ensures few { IfOk result (λ _. length made.new.pairs.items ≤ most) }
         ensures compared { IfOk result (λ _. HasCompared self.now made.new.compared) }
-        ensures stop { IfOk result (λ stop. stop < length (self.now).rights.now.places.items → most ≤ length made.new.pairs.items) }
+        ensures stop { IfOk result (λ stop. stop < length (self.now).rights.now.places.items →
+            most ≤ length made.new.pairs.items) }
     {
         self.follow(self.first_in(bucket, from), most, made)
     }
 
-    // The first right row from one on that stands in the left row's chain. Where a walk has stopped, that is the row itself.
+    // The first right row from one on that stands in the left row's chain. Where a walk has
+    // stopped, that is the row itself.
     fn first_in(&self, bucket: usize, from: usize) -> usize
         requires whole { IsWalk self.now }
         requires bucket { bucket_left self.now ≡ Some bucket }
         requires within { bucket ≤ last_of (self.now).rights.now.buckets }
-        ensures { Leads (in_chain self.now) (length (self.now).rights.now.places.items) from result }
+        ensures { Leads (in_chain self.now)
+            (length (self.now).rights.now.places.items) from result }
     {
         if from == 0 {
             return self.chains.heads[bucket] as usize;
@@ -98,9 +106,9 @@ impl<'a> Walk<'a> {
         }
     }
 
-    // Adds the pairs with the rows of the chain from one of them on, until there are `most`. Where the left row has its own
-    // bucket, it joins each of them. Only a copy of the walk is lent where keys are compared, so that this one need not lie in
-    // memory.
+    // Adds the pairs with the rows of the chain from one of them on, until there are `most`. Where
+    // the left row has its own bucket, it joins each of them. Only a copy of the walk is lent where
+    // keys are compared, so that this one need not lie in memory.
     pub(crate) fn push_from(
         &self,
         own: bool,
@@ -110,13 +118,16 @@ impl<'a> Walk<'a> {
     ) -> Result<usize, AllocError>
         requires whole { IsWalk self.now }
         requires all { own ≡ true → JoinsChain self.now }
-        requires there { first < length (self.now).rights.now.places.items → in_chain self.now first ≡ true }
+        requires there { first < length (self.now).rights.now.places.items →
+            in_chain self.now first ≡ true }
         requires few { length made.old.pairs.items ≤ most }
         requires compared { HasCompared self.now made.old.compared }
-        ensures given { IfOk result (λ stop. made.new.pairs.items ++ pairs_past self.now stop ≡ made.old.pairs.items ++ pairs_past self.now first) }
+        ensures given { IfOk result (λ stop. made.new.pairs.items ++ pairs_past self.now stop
+            ≡ made.old.pairs.items ++ pairs_past self.now first) }
         ensures few { IfOk result (λ _. length made.new.pairs.items ≤ most) }
         ensures compared { IfOk result (λ _. HasCompared self.now made.new.compared) }
-        ensures stop { IfOk result (λ stop. stop < length (self.now).rights.now.places.items → most ≤ length made.new.pairs.items) }
+        ensures stop { IfOk result (λ stop. stop < length (self.now).rights.now.places.items →
+            most ≤ length made.new.pairs.items) }
     {
         if own {
             self.take_chain(first, most, &mut made.pairs)
@@ -126,17 +137,21 @@ impl<'a> Walk<'a> {
         }
     }
 
-    // Adds the pairs with the rows of the chain from one of them on, where the two join, until there are `most`. Of right rows
-    // one behind another with the same key only the first is compared.
+    // Adds the pairs with the rows of the chain from one of them on, where the two join, until
+    // there are `most`. Of right rows one after another with the same key only the first is
+    // compared.
     fn follow(&self, first: usize, most: usize, made: &mut Made) -> Result<usize, AllocError>
         requires whole { IsWalk self.now }
-        requires there { first < length (self.now).rights.now.places.items → in_chain self.now first ≡ true }
+        requires there { first < length (self.now).rights.now.places.items →
+            in_chain self.now first ≡ true }
         requires few { length made.old.pairs.items ≤ most }
         requires compared { HasCompared self.now made.old.compared }
-        ensures given { IfOk result (λ stop. made.new.pairs.items ++ pairs_past self.now stop ≡ made.old.pairs.items ++ pairs_past self.now first) }
+        ensures given { IfOk result (λ stop. made.new.pairs.items ++ pairs_past self.now stop
+            ≡ made.old.pairs.items ++ pairs_past self.now first) }
         ensures few { IfOk result (λ _. length made.new.pairs.items ≤ most) }
         ensures compared { IfOk result (λ _. HasCompared self.now made.new.compared) }
-        ensures stop { IfOk result (λ stop. stop < length (self.now).rights.now.places.items → most ≤ length made.new.pairs.items) }
+        ensures stop { IfOk result (λ stop. stop < length (self.now).rights.now.places.items →
+            most ≤ length made.new.pairs.items) }
     {
         let mut at = first;
         let mut joins = self.joins(at, &mut made.compared);
@@ -162,14 +177,17 @@ impl<'a> Walk<'a> {
         requires within { bucket ≤ last_of (self.now).rights.now.buckets }
         requires all { JoinsChain self.now }
         requires few { length pairs.old.items ≤ most }
-        ensures given { IfOk result (λ stop. pairs.new.items ++ pairs_past self.now stop ≡ pairs.old.items ++ pairs_past self.now from) }
+        ensures given { IfOk result (λ stop. pairs.new.items ++ pairs_past self.now stop
+            ≡ pairs.old.items ++ pairs_past self.now from) }
         ensures few { IfOk result (λ _. length pairs.new.items ≤ most) }
-        ensures stop { IfOk result (λ stop. stop < length (self.now).rights.now.places.items → most ≤ length pairs.new.items) }
+        ensures stop { IfOk result (λ stop. stop < length (self.now).rights.now.places.items →
+            most ≤ length pairs.new.items) }
     {
         self.take_chain(self.first_in(bucket, from), most, pairs)
     }
 
-    // Adds the pairs with the rows of the chain from one of them on, all of which join, until there are `most`.
+    // Adds the pairs with the rows of the chain from one of them on, all of which join, until there
+    // are `most`.
     fn take_chain(
         &self,
         first: usize,
@@ -178,11 +196,14 @@ impl<'a> Walk<'a> {
     ) -> Result<usize, AllocError>
         requires whole { IsWalk self.now }
         requires all { JoinsChain self.now }
-        requires there { first < length (self.now).rights.now.places.items → in_chain self.now first ≡ true }
+        requires there { first < length (self.now).rights.now.places.items →
+            in_chain self.now first ≡ true }
         requires few { length pairs.old.items ≤ most }
-        ensures given { IfOk result (λ stop. pairs.new.items ++ pairs_past self.now stop ≡ pairs.old.items ++ pairs_past self.now first) }
+        ensures given { IfOk result (λ stop. pairs.new.items ++ pairs_past self.now stop
+            ≡ pairs.old.items ++ pairs_past self.now first) }
         ensures few { IfOk result (λ _. length pairs.new.items ≤ most) }
-        ensures stop { IfOk result (λ stop. stop < length (self.now).rights.now.places.items → most ≤ length pairs.new.items) }
+        ensures stop { IfOk result (λ stop. stop < length (self.now).rights.now.places.items →
+            most ≤ length pairs.new.items) }
     {
         let mut at = first;
         'chain: while at < self.rights.places.len() && pairs.len() < most {
@@ -210,13 +231,15 @@ impl<'a> Walk<'a> {
     fn joins(&self, at: usize, compared: &mut Compared) -> bool
         requires whole { IsWalk self.now }
         requires compared { HasCompared self.now compared.old }
-        ensures joins { at < length (self.now).rights.now.places.items → result ≡ joins_at self.now (place_at (self.now).rights.now at) }
+        ensures joins { at < length (self.now).rights.now.places.items →
+            result ≡ joins_at self.now (place_at (self.now).rights.now at) }
         ensures compared { HasCompared self.now compared.new }
     {
         at < self.rights.places.len() && self.joins_row(at, compared)
     }
 
-    // Whether the left row joins a right row that is there. Texts are compared where they lie if the table is to have no place.
+    // Whether the left row joins a right row that is there. Texts are compared where they lie if
+    // the table is to have no place.
     fn joins_row(&self, at: usize, compared: &mut Compared) -> bool
         requires whole { IsWalk self.now }
         requires within { at < length (self.now).rights.now.places.items }
@@ -234,15 +257,16 @@ impl<'a> Walk<'a> {
         compared.keys_join(&lefts, &rights, self.left.row, at)
     }
 
-    // Whether the left row joins the next right row of a chain, where it is known whether it joins this one. The values of a
-    // next row that has the same key are not compared.
+    // Whether the left row joins the next right row of a chain, where it is known whether it joins
+    // this one. The values of a next row that has the same key are not compared.
     fn joins_next(&self, joins: bool, at: usize, next: usize, compared: &mut Compared) -> bool
         requires whole { IsWalk self.now }
         requires within { at < length (self.now).rights.now.places.items }
         requires next { next ≡ get_or (self.now).chains.now.links.items at next }
         requires told { joins ≡ joins_at self.now (place_at (self.now).rights.now at) }
         requires compared { HasCompared self.now compared.old }
-        ensures joins { next < length (self.now).rights.now.places.items → result ≡ joins_at self.now (place_at (self.now).rights.now next) }
+        ensures joins { next < length (self.now).rights.now.places.items →
+            result ≡ joins_at self.now (place_at (self.now).rights.now next) }
         ensures compared { HasCompared self.now compared.new }
     {
         if next >= self.rights.places.len() {
@@ -261,7 +285,8 @@ impl<'a> Walk<'a> {
         requires within { at < length (self.now).rights.now.places.items }
         requires told { joins ≡ joins_at self.now (place_at (self.now).rights.now at) }
         ensures { OnOk result (pairs.new.items ≡ pairs.old.items
-            ++ (if joins_at self.now (place_at (self.now).rights.now at) then pair_at self.now (place_at (self.now).rights.now at) ∷ [] else [])) }
+            ++ (if joins_at self.now (place_at (self.now).rights.now at)
+            then pair_at self.now (place_at (self.now).rights.now at) ∷ [] else [])) }
     {
         if joins {
             pairs.push(self.pair(at))?;

@@ -4,8 +4,9 @@ use std::hash::{BuildHasher, DefaultHasher, Hasher};
 use std::io;
 use std::random::RandomSource;
 
-/// A secret, drawn once, with which each hash of a client's key begins: a client that does not know it can't choose keys
-/// whose hashes are alike. The hash is SipHash-1-3. No contract speaks of hashes: whatever they are, answers are the same.
+/// A secret, drawn once, with which each hash of a client's key begins: a client that does not know
+/// it can't choose keys whose hashes are alike. The hash is SipHash-1-3. No contract speaks of
+/// hashes: whatever they are, answers are the same.
 #[derive(Clone, Copy, Drop)]
 pub struct HashSeed {
     // What has taken in the secret.

@@ -44,7 +44,7 @@ placed body place buffer e = by (nat_le (place.offset + place.length) (length bo
     by true e = refl
     by false e = absurd (let no : ⊥ = cc in no)
 
--- the first of the places, and those behind it
+-- the first of the places, and those after it
 pub record First (body : List ℕ) (places : List BufferPlace) (buffer : List ℕ) (buffers : List (List ℕ)) : Type 0 where
   pub place : BufferPlace
   pub more : List BufferPlace
@@ -208,7 +208,7 @@ pub record IsWritable (rows : ℕ) (column : ColumnAt) : Type 0 where
   pub stands : IsColumn column
   pub short : HasShortTexts column
 
--- columns with the same values, one beside another
+-- columns with the same values, one next to another
 abbrev pub SameValues : List ColumnAt → List ColumnAt → Type 0
 SameValues [] [] = Unit {0}
 SameValues (one ∷ more) (other ∷ others) = (values_of one ≡ values_of other) × SameValues more others

@@ -16,7 +16,7 @@ use Rattle.ipc_batch.specs.Columns.{FrontAt, front_of, columns_from}
 from_one : {X : Type 0} (xs : List X) (i : ℕ) (x : X) → i < length xs → drop i xs ≡ get_or xs i x ∷ drop (i + 1) xs
 from_one xs i x low = rw (add-one, drop-cons xs i x low) refl
 
--- columns behind one more are that one and those, behind the ones before
+-- columns after one more are that one and those, after the ones before
 behind_more : (done : List ColumnAt) (column : ColumnAt) (rest : Result (List ColumnAt) Fault) →
     behind (done ++ column ∷ []) rest ≡ behind done (rest >>= λ others. Ok (column ∷ others))
 behind_more done column (Ok rest) = ap Ok (append_assoc done (column ∷ []) rest)

@@ -167,7 +167,7 @@ texts_read body column (a ∷ b ∷ c ∷ more) front =
       many = ap (λ (xs : List BufferPlace). length (a ∷ b ∷ c ∷ xs)) none;
     }
 
--- what comes behind a condition, and then a value
+-- what comes after a condition, and then a value
 demand_first : {A B C : Type 0} (holds : Bool) (fault : Fault) (x : A) (next : A → Result B Fault) (last : B → Result C Fault) (rest : Result C Fault) →
     (next x >>= last) ≡ rest → (((demand holds fault >>= λ _. fine x) >>= next) >>= last) ≡ (demand holds fault >>= λ _. rest)
 demand_first true fault x next last rest e = e
@@ -188,7 +188,7 @@ sent_again known message body d said one three = rw said (by (list_any (leads_to
     by true = rw (eq-eqb (length d.parts.nodes) 1 one, eq-eqb (length d.parts.places) 3 three) refl
     by false = refl
 
--- the values with those of read texts behind them
+-- the values with those of read texts after them
 extended_again : (old : List Value) (texts : TextsAt) (values : List Value) → texts_values texts ≡ values →
     extended_by old texts ≡ (demand (nat_le (length (old ++ values)) most_values) LimitReached >>= λ _. fine (old ++ values))
 unfolding extended_by
@@ -236,7 +236,7 @@ tells id values is_delta batch header body low same fits header_is body_is =
       subst (λ (x : Sent). SaysValues x id (texts_values values) is_delta) is (dictionary_said id values is_delta low fits2),
     )
 
--- ---- what is known behind it
+-- ---- what is known after it
 
 led_own : (dictionaries : Dictionaries) (id : ℕ) (values : List Value) (data_type : DataType) → has_id id data_type ≡ true → values_led_to data_type (with_values id values dictionaries) ≡ values
 led_own dictionaries id values (Dictionary encoding) is = rw (eqb-true encoding.id id is) (under_set dictionaries id values)

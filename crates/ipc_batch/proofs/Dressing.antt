@@ -1,4 +1,4 @@
--- Messages of batches behind their dictionaries say the batches' rows.
+-- Messages of batches after their dictionaries say the batches' rows.
 use Rattle.std.proofs.Common.{◌≡◌, ◌≤◌, ◌<◌, ℕ, ◌+◌, Bool, true, false, List, [], ◌∷◌, ◌++◌, length, map, slice_get, unwrap_or, option_map, Option, Some, None, Ok, if◌then◌else◌, refl, sym, ap, subst, ◌∙◌, arith, append_assoc}
 use Rattle.std.specs.List.{flat_map, list_any, range_with_len, AllZip, AllByRecursion}
 use Rattle.std.proofs.lemmas.Bool.{ne_eqb, le-leb}
@@ -22,7 +22,7 @@ use Rattle.ipc_batch.specs.News.{leads_to}
 use Rattle.ipc_batch.specs.Written.{SaysValues, dictionary_news}
 use Rattle.ipc_batch.proofs.Entries.{under_set, under_other}
 
--- the dictionaries behind the messages of these columns
+-- the dictionaries after the messages of these columns
 abbrev pub set_all : List ℕ → Rows → Dictionaries → Dictionaries
 set_all [] rows dictionaries = dictionaries
 set_all (number ∷ numbers) rows dictionaries =
@@ -55,7 +55,7 @@ sets n (field ∷ fields) rows dictionaries = by (is_coded field.data_type) (set
         (lower (n + 1) fields rows own n (omega arith) ∙ under_set dictionaries n (map Text (firsts (cells_in n rows))), rest own)
     by false rest = rest dictionaries
 
--- what is said behind them is said from them on
+-- what is said after them is said from them on
 goes : (schema : Schema) (numbers : List ℕ) (rows : Rows) (messages : List Sent) → AllZip (λ number sent. SaysWhole schema number (firsts (cells_in number rows)) sent) numbers messages →
     (known : Known) → known.schema ≡ schema → (more : List Sent) (end : State) (said : Rows) →
     Follows (Some (record known { dictionaries = set_all numbers rows known.dictionaries })) more end said → Follows (Some known) (messages ++ more) end said
@@ -66,7 +66,7 @@ goes schema (number ∷ numbers) rows (sent ∷ messages) all known is more end 
     let own : Known = record known { dictionaries = with_values number (map Text (firsts (cells_in number rows))) known.dictionaries } in
     (record { state = Some own; batch = None }, said, all.0 known is, refl, goes schema numbers rows messages all.1 own is more end said follows)
 
--- one batch behind another
+-- one batch after another
 say : (schema : Schema) (dressings : List Dressing) → AllByRecursion (IsDressed schema) dressings → (known : Known) → known.schema ≡ schema →
     (end : Known) × (end.schema ≡ schema)
     × Follows (Some known) (flat_map (λ (d : Dressing). d.dictionaries ++ d.batch ∷ []) dressings) (Some end) (flat_map (λ (d : Dressing). d.rows) dressings)

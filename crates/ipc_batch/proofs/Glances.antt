@@ -23,7 +23,7 @@ met fault = Err fault
 same_fault : {A B : Type 0} (one other : Fault) → met {A = A} one ≡ Err other → met {A = B} one ≡ Err other
 same_fault one other e = let same : one ≡ other = cc in ap (λ (fault : Fault). Err fault) same
 
--- a reading stops the whole of which it is the first part, or a check behind it does
+-- a reading stops the whole of which it is the first part, or a check after it does
 stops : {A B : Type 0} (read : Result A Fault) (check : A → Result (Unit {0}) Fault) (whole : Result B Fault) (fault : Fault) → (read >>= check) ≡ Err fault →
     ((one : Fault) → read ≡ Err one → whole ≡ Err one) → ((x : A) → read ≡ Ok x → check x ≡ Err fault → whole ≡ Err fault) → whole ≡ Err fault
 stops (Ok x) check whole fault e at_once behind = behind x refl e

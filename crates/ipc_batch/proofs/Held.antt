@@ -90,7 +90,7 @@ validity_read body node place (Some bits) says = by (node.null_count == 0) refl
 abbrev pub source_of : ℕ → List ℕ → Dictionaries → BatchBody
 source_of rows body dictionaries = record { rows = rows; body = body; dictionaries = values_under dictionaries }
 
--- a column over the buffers at the front, and those behind it
+-- a column over the buffers at the front, and those after it
 pub record AtFront (source : BatchBody) (t : DataType) (node : FieldNode) (places : List BufferPlace) (front : FrontAt) : Type 0 where
   pub column : HoldsColumn source t node (slice_get places) (whole front.layout)
   pub behind : front.behind ≡ drop (buffer_count t) places
@@ -230,7 +230,7 @@ front_read (Dictionary encoding) rows body dictionaries node places column h = v
 
 -- ---- all columns
 
--- the items behind n others
+-- the items after n others
 get_behind : {A : Type 0} (n : ℕ) (xs : List A) (k : ℕ) → slice_get (drop n xs) k ≡ slice_get xs (n + k)
 get_behind zero xs k = let e : k ≡ 0 + k = omega arith in ap (slice_get xs) e
 get_behind (suc n) [] k = refl
@@ -240,7 +240,7 @@ get_behind (suc n) (x ∷ xs) k = let e : suc (n + k) ≡ suc n + k = omega arit
 own_first : (fields : List Field) (places : List BufferPlace) → own_buffer fields places 0 ≡ slice_get places
 own_first fields places = fun_ext (λ k. (let e : 0 + k ≡ k = omega arith in ap (slice_get places) e))
 
--- the buffers of those behind it stand behind them
+-- the buffers of those after it stand after them
 own_next : (field : Field) (fields : List Field) (places : List BufferPlace) (index : ℕ) →
     own_buffer fields (drop (buffer_count field.data_type) places) index ≡ own_buffer (field ∷ fields) places (suc index)
 own_next field fields places index = fun_ext (λ k.

@@ -1,4 +1,4 @@
--- What messages leave behind, and the rows that they bring, are what they say.
+-- What messages leave after, and the rows that they bring, are what they say.
 use Rattle.std.proofs.Common.{◌∷◌, ◌≡◌, ◌≢◌, ◌≤◌, ℕ, ◌+◌, ◌==◌, not, nat_le, Bool, true, false, List, [], ◌++◌, length, Option, Some, None, Ok, refl, arith, sym, ap, ◌∙◌, subst}
 use Rattle.std.specs.Prelude.{option_map}
 use Rattle.std.specs.List.{list_any, AllByRecursion}
@@ -121,7 +121,7 @@ sets_once before id values one other p q = fun_ext (λ n. by n (n == id) refl)
     by n true e = let is = eqb-true n id e in ap one is ∙ p.0 ∙ sym q.0 ∙ ap other (sym is)
     by n false e = p.1 n (apart n e) ∙ sym (q.1 n (apart n e))
 
--- how many values there are with those of texts behind them
+-- how many values there are with those of texts after them
 length_behind : (old : List Value) (cells : TextsAt) → length old + cells.len ≡ length (old ++ texts_values cells)
 length_behind old cells =
     let long = length-append old (texts_values cells) in
@@ -228,7 +228,7 @@ dictionary_told known sent message after is said kind e =
       sets = subst (λ (vs : List Value). Sets (values_under known.dictionaries) (a.0).id vs (values_under (with_values (a.0).id g.0 known.dictionaries))) values.0 (set_so known.dictionaries (a.0).id g.0);
     })
 
--- what is known behind a dictionary that a message brings
+-- what is known after a dictionary that a message brings
 record Learns (known : Known) (message : MessageAt) (body : List ℕ) (after : Context) : Type 0 where
   found : Known
   read : known_after known message body ≡ Ok found
@@ -365,7 +365,7 @@ read_is_brought state sent after batch is = (
   λ says. news_read state sent after batch is says,
 )
 
--- ---- messages, one behind another
+-- ---- messages, one after another
 
 abbrev HasBytes : Sent → Type 0
 HasBytes sent = IsBytes sent.header
@@ -376,7 +376,7 @@ follows_told state [] end rows all p = (ap (option_map context_of) p.0, p.1)
 follows_told state (sent ∷ more) end rows all p =
     (option_map context_of p.0.state, p.0.batch, p.1, news_told state sent p.0 all.0 p.2, p.3, follows_told p.0.state more end p.1 all.1 p.4)
 
--- messages that bring rows are read so, and leave behind what is known
+-- messages that bring rows are read so, and leave after what is known
 record AreRead (state : State) (messages : List Sent) (end : Option Context) (rows : Rows) : Type 0 where
   last : State
   same : option_map context_of last ≡ end

@@ -24,7 +24,7 @@ pub on_ok : {A E : Type 0} {P Q : A → Type 0} (result : Result A E) → ((x : 
 on_ok (Ok x) more holds = more x holds
 on_ok (Err e) more holds = tt
 
--- what comes behind a condition, where both give a value
+-- what comes after a condition, where both give a value
 pub demanded : {B : Type 0} (test : Bool) (fault : Fault) (next : Result B Fault) (y : B) → (demand test fault >>= λ _. next) ≡ Ok y → next ≡ Ok y
 demanded true fault next y e = e
 demanded false fault next y e = cc

@@ -30,7 +30,7 @@ joined a (x ∷ xs) ys b c r s p q =
     let e : r ++ s ≡ rows_in p.0.batch ++ (p.1 ++ s) = ap (λ (t : Rows). t ++ s) p.3 ∙ append_assoc (rows_in p.0.batch) p.1 s in
     (p.0, p.1 ++ s, p.2, e, joined p.0.state xs ys b c p.1 s p.4 q)
 
--- the front of the messages, and those behind it
+-- the front of the messages, and those after it
 pub split : (a : State) (xs ys : List Sent) (c : State) (t : Rows) → Follows a (xs ++ ys) c t →
     (b : State) × (r : Rows) × (s : Rows) × Follows a xs b r × Follows b ys c s × (t ≡ r ++ s)
 split a [] ys c t p = (a, [], t, (refl, refl), p, refl)

@@ -248,7 +248,7 @@ read_placed (field ∷ fields) dictionaries rows body (node ∷ nodes) places co
 
 -- ---- so those that are not are refused
 
--- what a test says, and what is read behind it
+-- what a test says, and what is read after it
 by_test : {A : Type 0} (placed : Bool) (read : Result A Fault) (fault : Fault) → demand placed BadBatch ≡ Err fault → Only IsBad read → ((x : A) → read ≡ Ok x → placed ≡ true) → read ≡ Err fault
 by_test true read fault e bad ok = absurd (let no : ⊥ = cc in no)
 by_test false (Ok x) fault e bad ok = absurd (let no = ok x refl in let none : ⊥ = cc in none)

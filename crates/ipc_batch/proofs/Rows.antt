@@ -49,7 +49,7 @@ dictionary_a = record {
       0 ∷ 0 ∷ 0 ∷ 0 ∷ 1 ∷ 0 ∷ 0 ∷ 0 ∷ 97 ∷ 0 ∷ 0 ∷ 0 ∷ 0 ∷ 0 ∷ 0 ∷ 0 ∷ [];
 }
 
--- behind them: b
+-- after them: b
 abbrev dictionary_delta_b : Sent
 dictionary_delta_b = record {
   header =
@@ -118,7 +118,7 @@ indices_1 = record {
       1 ∷ 0 ∷ 0 ∷ 0 ∷ 0 ∷ 0 ∷ 0 ∷ 0 ∷ [];
 }
 
--- the rows that messages add, one behind another, or the first fault
+-- the rows that messages add, one after another, or the first fault
 abbrev rows_read : State → List Sent → Result Rows Fault
 rows_read state [] = Ok []
 rows_read state (sent ∷ more) = news_of state sent >>= λ news. (rows_read news.state more >>= λ rows. Ok (rows_in news.batch ++ rows))

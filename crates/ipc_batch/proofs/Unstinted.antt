@@ -147,7 +147,7 @@ date table =
     only_then IsOther (scalar_of 2 table 0 1) _ (scalar 2 table 0 1)
     (λ unit. only_then IsOther (demand (unit == 0) UnsupportedArrow) _ (only_demand IsOther (unit == 0) UnsupportedArrow unsupported) (λ _. tt))
 
--- what is read behind a value, or behind the rest
+-- what is read after a value, or after the rest
 chosen : {A B : Type 0} (here : Bool) (x : A) (rest : Result A Fault) (next : A → Result B Fault) → Only IsOther (next x) → Only IsOther (rest >>= next) → Only IsOther ((if here then Ok x else rest) >>= next)
 chosen true x rest next one other = one
 chosen false x rest next one other = other

@@ -18,7 +18,7 @@ use Rattle.arrays.specs.Written.{texts_joined, text_bytes, offsets_from}
 use Rattle.ipc_batch.specs.Written.{place_bytes, body_of, places_from, buffers_written}
 use Rattle.ipc_batch.proofs.Lengths.{length_with_zeros}
 
--- the columns from one on are that one and those behind it
+-- the columns from one on are that one and those after it
 pub dropped : (columns : List ColumnAt) (i : ℕ) (column : ColumnAt) → i < length columns → column ≡ get_or columns i column → drop i columns ≡ column ∷ drop (i + 1) columns
 dropped columns i column low is =
     rw (add-one, drop-cons columns i column) (ap (λ (x : ColumnAt). x ∷ drop (suc i) columns) (sym is))

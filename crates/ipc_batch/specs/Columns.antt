@@ -1,5 +1,6 @@
 -- The columns of a record batch: nodes and buffers stand in the order of the fields.
-use Rattle.std.specs.Prelude.{ℕ, ◌==◌, ◌&&◌, List, [], ◌∷◌, length, Option, Some, None, Result, Ok, Err, if◌then◌else◌}
+use Rattle.std.specs.Prelude.{ℕ, ◌==◌, ◌&&◌, List, [], ◌∷◌, length, Option, Some, None, Result, Ok}
+use Rattle.std.specs.Prelude.{Err, if◌then◌else◌}
 use Rattle.std.specs.Prelude.{sum_by}
 use Rattle.std.specs.List.{list_all}
 use Rattle.scan_base.specs.declared.fault.Fault.{Fault}
@@ -19,13 +20,13 @@ use Rattle.ipc_batch.specs.declared.parts.BufferPlace.{BufferPlace}
 use Rattle.ipc_batch.specs.Parts.{PartsAt, lies_in, placed_in, buffer_at}
 use Rattle.ipc_batch.specs.State.{Dictionaries, values_under}
 
--- the layout at the front, and where the buffers behind it lie
+-- the layout at the front, and where the buffers after it lie
 pub record FrontAt : Type 0 where
   pub layout : Layout
   pub behind : List BufferPlace
 
--- The validity bits of a column. Where its node counts no null there are none: the buffer is not read, and
--- yet lies within the body. A count of some nulls is not compared with the bits.
+-- The validity bits of a column. Where its node counts no null there are none: the buffer is not
+-- read, and yet lies within the body. A count of some nulls is not compared with the bits.
 unfoldable pub validity_at : List ℕ → FieldNode → BufferPlace → Result (Option (List ℕ)) Fault
 validity_at body node place =
     if node.null_count == 0 then (placed_in body place >>= λ _. Ok None)
@@ -37,7 +38,8 @@ values_led_to (Dictionary encoding) dictionaries = values_under dictionaries enc
 values_led_to _ dictionaries = []
 
 -- the texts whose validity bits, offsets and bytes lie in these buffers
-unfoldable pub texts_at : ℕ → List ℕ → FieldNode → BufferPlace → BufferPlace → BufferPlace → Result TextsAt Fault
+unfoldable pub texts_at : ℕ → List ℕ → FieldNode → BufferPlace → BufferPlace → BufferPlace →
+    Result TextsAt Fault
 texts_at rows body node validity offsets bytes = do
   _ ← demand (node.length == rows) BadBatch
   bits ← validity_at body node validity
@@ -57,25 +59,30 @@ values_at data_type dictionary rows body node validity values = do
 -- a column of texts, over the buffers at the front
 abbrev pub texts_front : ℕ → List ℕ → FieldNode → List BufferPlace → Result FrontAt Fault
 texts_front rows body node (validity ∷ offsets ∷ bytes ∷ behind) =
-    texts_at rows body node validity offsets bytes >>= λ cells. Ok (record { layout = Texts cells; behind = behind })
+    texts_at rows body node validity offsets bytes
+    >>= λ cells. Ok (record { layout = Texts cells; behind = behind })
 texts_front rows body node _ = Err BadBatch
 
 -- a column of another type, over the buffers at the front
-abbrev pub values_front : DataType → List Value → ℕ → List ℕ → FieldNode → List BufferPlace → Result FrontAt Fault
+abbrev pub values_front : DataType → List Value → ℕ → List ℕ → FieldNode → List BufferPlace →
+    Result FrontAt Fault
 values_front data_type dictionary rows body node (validity ∷ values ∷ behind) =
     values_at data_type dictionary rows body node validity values >>=
     λ layout. Ok (record { layout = layout; behind = behind })
 values_front data_type dictionary rows body node _ = Err BadBatch
 
 -- the layout of a type, over the buffers at the front
-unfoldable pub front_of : DataType → Dictionaries → ℕ → List ℕ → FieldNode → List BufferPlace → Result FrontAt Fault
+unfoldable pub front_of : DataType → Dictionaries → ℕ → List ℕ → FieldNode → List BufferPlace →
+    Result FrontAt Fault
 front_of Utf8 dictionaries rows body node places = texts_front rows body node places
 front_of data_type dictionaries rows body node places =
     values_front data_type (values_led_to data_type dictionaries) rows body node places
 
--- the columns of fields that have a node each, from the first on: of each its node, and then its buffers
+-- the columns of fields that have a node each, from the first on: of each its node, and then its
+-- buffers
 abbrev pub columns_from :
-    List Field → Dictionaries → ℕ → List ℕ → List FieldNode → List BufferPlace → Result (List ColumnAt) Fault
+    List Field → Dictionaries → ℕ → List ℕ → List FieldNode → List BufferPlace →
+    Result (List ColumnAt) Fault
 columns_from [] dictionaries rows body nodes places = Ok []
 columns_from (field ∷ fields) dictionaries rows body [] places = Err BadBatch
 columns_from (field ∷ fields) dictionaries rows body (node ∷ nodes) places = do
@@ -87,19 +94,23 @@ columns_from (field ∷ fields) dictionaries rows body (node ∷ nodes) places =
 abbrev pub buffers_wanted : List Field → ℕ
 buffers_wanted fields = sum_by (λ field. buffer_count field.data_type) fields
 
--- A batch has so many nodes and buffers, and none is left over. They are counted before any is looked at.
+-- A batch has so many nodes and buffers, and none is left over. They are counted before any is
+-- looked at.
 unfoldable pub counts_agree : ℕ → ℕ → PartsAt → Result (Unit {0}) Fault
 counts_agree nodes buffers parts = do
   _ ← demand (length parts.nodes == nodes) BadBatch
   demand (length parts.places == buffers) BadBatch
 
--- Each node has as many slots as there are rows, and each buffer lies within the body. Columns of which this is not so
--- are refused (F8), whatever else they hold: so it may be looked at before any column is.
+-- Each node has as many slots as there are rows, and each buffer lies within the body. Columns of
+-- which this is not so are refused (F8), whatever else they hold: so it may be looked at before any
+-- column is.
 unfoldable pub columns_placed : List ℕ → PartsAt → Result (Unit {0}) Fault
 columns_placed body parts =
-    demand (list_all (λ node. node.length == parts.rows) parts.nodes && list_all (lies_in body) parts.places) BadBatch
+    demand (list_all (λ node. node.length == parts.rows) parts.nodes
+    && list_all (lies_in body) parts.places) BadBatch
 
 -- the one column of texts that these nodes and buffers make
 abbrev pub one_texts : ℕ → List ℕ → List FieldNode → List BufferPlace → Result TextsAt Fault
-one_texts rows body (node ∷ []) (validity ∷ offsets ∷ bytes ∷ []) = texts_at rows body node validity offsets bytes
+one_texts rows body (node ∷ []) (validity ∷ offsets ∷ bytes ∷ []) =
+    texts_at rows body node validity offsets bytes
 one_texts rows body _ _ = Err BadBatch

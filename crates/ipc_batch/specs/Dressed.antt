@@ -1,5 +1,6 @@
--- Batches behind the dictionaries of their own texts.
-use Rattle.std.specs.Prelude.{◌≡◌, ℕ, ◌+◌, Bool, true, false, List, [], ◌∷◌, ◌++◌, map, Some, None, Ok, if◌then◌else◌, All}
+-- Batches after the dictionaries of their own texts.
+use Rattle.std.specs.Prelude.{◌≡◌, ℕ, ◌+◌, Bool, true, false, List, [], ◌∷◌, ◌++◌, map, Some, None}
+use Rattle.std.specs.Prelude.{Ok, if◌then◌else◌, All}
 use Rattle.std.specs.List.{flat_map, AllZip, AllByRecursion}
 use Rattle.scan_base.specs.declared.value.Value.{Value}
 use Rattle.scan_base.specs.declared.value.Value.TheVariants.{Text}
@@ -22,27 +23,36 @@ is_coded _ = false
 abbrev pub coded_from : ℕ → List Field → List ℕ
 coded_from number [] = []
 coded_from number (field ∷ fields) =
-    if is_coded field.data_type then number ∷ coded_from (number + 1) fields else coded_from (number + 1) fields
+    if is_coded field.data_type then number ∷ coded_from (number + 1) fields
+    else coded_from (number + 1) fields
 
 -- the cells of a column of rows
 abbrev pub cells_in : ℕ → Rows → List Value
 cells_in number rows = map (λ row. cell_in row number) rows
 
--- A message says, to whoever has the schema, all of a dictionary: these texts of this id, in the place of what it had. A
--- delta would say so to those alone who had nothing.
+-- A message says, to whoever has the schema, all of a dictionary: these texts of this id, in the
+-- place of what it had. A delta would say so to those alone who had nothing.
 abbrev pub SaysWhole : Schema → ℕ → List (List ℕ) → Sent → Type 0
 SaysWhole schema id texts sent = (known : Known) → known.schema ≡ schema → news_of (Some known) sent
-    ≡ Ok (record { state = Some (record known { dictionaries = with_values id (map Text texts) known.dictionaries }); batch = None })
+    ≡ Ok (record {
+      state =
+          Some (record known { dictionaries = with_values id (map Text texts) known.dictionaries });
+      batch = None;
+    })
 
 -- what each such column leads into: the texts among its cells, each once
 abbrev pub HasTexts : List ℕ → Rows → Dictionaries → Type 0
 HasTexts numbers rows dictionaries =
-    AllByRecursion (λ number. values_under dictionaries number ≡ map Text (firsts (cells_in number rows))) numbers
+    AllByRecursion
+    (λ number. values_under dictionaries number ≡ map Text (firsts (cells_in number rows))) numbers
 
--- a message is a record batch that adds these rows, to whoever has the schema and those dictionaries
+-- a message is a record batch that adds these rows, to whoever has the schema and those
+-- dictionaries
 abbrev pub AddsRows : Schema → Rows → Sent → Type 0
-AddsRows schema rows sent = (known : Known) → known.schema ≡ schema → HasTexts (coded_from 0 schema.fields) rows known.dictionaries →
-    (batch : BatchAt) × (news_of (Some known) sent ≡ Ok (record { state = Some known; batch = Some batch })) × (rows_of batch ≡ rows)
+AddsRows schema rows sent = (known : Known) → known.schema ≡ schema →
+    HasTexts (coded_from 0 schema.fields) rows known.dictionaries → (batch : BatchAt)
+    × (news_of (Some known) sent ≡ Ok (record { state = Some known; batch = Some batch }))
+    × (rows_of batch ≡ rows)
 
 -- a batch, the dictionaries right before it, and its rows
 pub record Dressing : Type 0 where
@@ -50,13 +60,15 @@ pub record Dressing : Type 0 where
   pub batch : Sent
   pub rows : Rows
 
--- for each column that is a dictionary, in their order, its id is the column's number, and its values the texts of the batch
+-- for each column that is a dictionary, in their order, its id is the column's number, and its
+-- values the texts of the batch
 pub record IsDressed (schema : Schema) (dressing : Dressing) : Type 0 where
-  pub coded : AllZip (λ number sent. SaysWhole schema number (firsts (cells_in number dressing.rows)) sent)
+  pub coded :
+      AllZip (λ number sent. SaysWhole schema number (firsts (cells_in number dressing.rows)) sent)
       (coded_from 0 schema.fields) dressing.dictionaries
   pub adds : AddsRows schema dressing.rows dressing.batch
 
--- the messages behind a schema are such batches, one behind another, with these rows in all
+-- the messages after a schema are such batches, one after another, with these rows in all
 pub record AreDressed (schema : Schema) (messages : List Sent) (rows : Rows) : Type 0 where
   pub dressings : List Dressing
   pub are : messages ≡ flat_map (λ (d : Dressing). d.dictionaries ++ d.batch ∷ []) dressings
@@ -65,6 +77,6 @@ pub record AreDressed (schema : Schema) (messages : List Sent) (rows : Rows) : T
 
 -- to whoever has the schema such messages say their rows
 abbrev pub DressedMessagesSay : Type 0
-DressedMessagesSay = (schema : Schema) (messages : List Sent) (rows : Rows) → AreDressed schema messages rows →
-    (known : Known) → known.schema ≡ schema →
+DressedMessagesSay = (schema : Schema) (messages : List Sent) (rows : Rows) →
+    AreDressed schema messages rows → (known : Known) → known.schema ≡ schema →
     (end : Known) × (end.schema ≡ schema) × Follows (Some known) messages (Some end) rows

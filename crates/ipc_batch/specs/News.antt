@@ -1,5 +1,7 @@
--- What one message says, in the order in which it is read: the first thing that is not so gives the fault.
-use Rattle.std.specs.Prelude.{ℕ, ◌==◌, Bool, true, false, List, [], length, Option, Some, None, Result, Ok, Err}
+-- What one message says, in the order in which it is read: the first thing that is not so gives the
+-- fault.
+use Rattle.std.specs.Prelude.{ℕ, ◌==◌, Bool, true, false, List, [], length, Option, Some, None}
+use Rattle.std.specs.Prelude.{Result, Ok, Err}
 use Rattle.std.specs.List.{list_any}
 use Rattle.scan_base.specs.declared.fault.Fault.{Fault}
 use Rattle.scan_base.specs.declared.fault.Fault.TheVariants.{BadBatch}
@@ -14,8 +16,10 @@ use Rattle.arrow_schema.specs.declared.schema.Schema.{Schema}
 use Rattle.arrow_schema.specs.Header.{MessageAt, message_of, header_of, schema_in}
 use Rattle.arrays.specs.Dictionary.{extended_by}
 use Rattle.arrays.specs.Batch.{BatchAt}
-use Rattle.ipc_batch.specs.Parts.{PartsAt, DictionaryParts, body_claimed, parts_of, dictionary_parts}
-use Rattle.ipc_batch.specs.Columns.{buffers_wanted, columns_from, counts_agree, columns_placed, one_texts}
+use Rattle.ipc_batch.specs.Parts.{PartsAt, DictionaryParts, body_claimed, parts_of}
+use Rattle.ipc_batch.specs.Parts.{dictionary_parts}
+use Rattle.ipc_batch.specs.Columns.{buffers_wanted, columns_from, counts_agree, columns_placed}
+use Rattle.ipc_batch.specs.Columns.{one_texts}
 use Rattle.ipc_batch.specs.State.{Known, State, values_under, with_values}
 
 -- a message as it comes: its header and its body
@@ -23,14 +27,15 @@ pub record Sent : Type 0 where
   pub header : List ℕ
   pub body : List ℕ
 
--- what a message says: what it leaves behind, and a batch or none
+-- what a message says: what it leaves after, and a batch or none
 pub record News : Type 0 where
   pub state : State
   pub batch : Option BatchAt
 
 -- the schema of a message
 unfoldable pub schema_sent : MessageAt → List ℕ → Result Schema Fault
-schema_sent message body = schema_in message >>= λ schema. body_claimed message body >>= λ _. Ok schema
+schema_sent message body =
+    schema_in message >>= λ schema. body_claimed message body >>= λ _. Ok schema
 
 -- the parts of a record batch: a node for each field, and the buffers of its type
 unfoldable pub batch_parts : Known → MessageAt → List ℕ → Result PartsAt Fault
@@ -44,7 +49,8 @@ batch_parts known message body = do
 unfoldable pub batch_sent : Known → MessageAt → List ℕ → Result BatchAt Fault
 batch_sent known message body = do
   parts ← batch_parts known message body
-  columns ← columns_from known.schema.fields known.dictionaries parts.rows body parts.nodes parts.places
+  columns ←
+      columns_from known.schema.fields known.dictionaries parts.rows body parts.nodes parts.places
   Ok (record { columns = columns; rows = parts.rows })
 
 -- whether a type's dictionary has this id
@@ -56,8 +62,8 @@ has_id id _ = false
 abbrev pub leads_to : ℕ → Field → Bool
 leads_to id field = has_id id field.data_type
 
--- the parts of a dictionary: its id is one that a field has, and its values are one column of texts, which has
--- one node and three buffers
+-- the parts of a dictionary: its id is one that a field has, and its values are one column of
+-- texts, which has one node and three buffers
 unfoldable pub dictionary_sent : Known → MessageAt → List ℕ → Result DictionaryParts Fault
 dictionary_sent known message body = do
   sent ← dictionary_parts message body
@@ -70,8 +76,8 @@ abbrev pub kept_of : Bool → List Value → List Value
 kept_of true old = old
 kept_of false old = []
 
--- What is known after a dictionary message. A delta puts its values behind those that the dictionary has. Any
--- other sets them in their place.
+-- What is known after a dictionary message. A delta puts its values after those that the dictionary
+-- has. Any other sets them in their place.
 unfoldable pub known_after : Known → MessageAt → List ℕ → Result Known Fault
 known_after known message body = do
   sent ← dictionary_sent known message body
@@ -84,10 +90,11 @@ abbrev pub first_schema : HeaderKind → MessageAt → List ℕ → Result Schem
 first_schema header.Schema message body = schema_sent message body
 first_schema _ message body = Err BadBatch
 
--- what a message behind the schema says; a second schema is F8
+-- what a message after the schema says; a second schema is F8
 abbrev pub next_news : HeaderKind → Known → MessageAt → List ℕ → Result News Fault
 next_news header.RecordBatch known message body =
-    batch_sent known message body >>= λ batch. Ok (record { state = Some known; batch = Some batch })
+    batch_sent known message body
+    >>= λ batch. Ok (record { state = Some known; batch = Some batch })
 next_news header.DictionaryBatch known message body =
     known_after known message body >>= λ after. Ok (record { state = Some after; batch = None })
 next_news header.Schema known message body = Err BadBatch
@@ -99,23 +106,26 @@ news_in None message body = do
   Ok (record { state = Some (record { schema = schema; dictionaries = [] }); batch = None })
 news_in (Some known) message body = next_news message.kind known message body
 
--- what a message says, after those that left this behind
+-- what a message says, after those that left this after
 unfoldable pub news_of : State → Sent → Result News Fault
 news_of state sent = message_of sent.header >>= λ message. news_in state message sent.body
 
--- What is looked at of a message before anything grows or is cut: of a first one all that it says, ..
+-- What is looked at of a message before anything grows or is cut: of a first one all that it says,
+-- ..
 abbrev pub first_glance : HeaderKind → MessageAt → List ℕ → Result (Unit {0}) Fault
 first_glance kind message body = first_schema kind message body >>= λ _. Ok tt
 
 -- .. of a record batch its parts, the length of each node and the place of each buffer, ..
 abbrev pub batch_glance : Known → MessageAt → List ℕ → Result (Unit {0}) Fault
-batch_glance known message body = batch_parts known message body >>= λ parts. columns_placed body parts
+batch_glance known message body =
+    batch_parts known message body >>= λ parts. columns_placed body parts
 
 -- .. and of a dictionary its id too
 abbrev pub dictionary_glance : Known → MessageAt → List ℕ → Result (Unit {0}) Fault
-dictionary_glance known message body = dictionary_sent known message body >>= λ sent. columns_placed body sent.parts
+dictionary_glance known message body =
+    dictionary_sent known message body >>= λ sent. columns_placed body sent.parts
 
--- the same of a message behind the schema
+-- the same of a message after the schema
 abbrev pub next_glance : HeaderKind → Known → MessageAt → List ℕ → Result (Unit {0}) Fault
 next_glance header.RecordBatch known message body = batch_glance known message body
 next_glance header.DictionaryBatch known message body = dictionary_glance known message body

@@ -1,11 +1,13 @@
--- What a RecordBatch table says before any type is looked at: how many rows there are, and the nodes and
--- buffers that the columns are made of. The first thing that is not so gives the fault, in the order of the
--- lines.
-use Rattle.std.specs.Prelude.{ℕ, ◌+◌, ◌*◌, ◌/◌, ◌==◌, Bool, not, nat_le, List, length, map, take, drop, is_none, Result, Ok}
+-- What a RecordBatch table says before any type is looked at: how many rows there are, and the
+-- nodes and buffers that the columns are made of. The first thing that is not so gives the fault,
+-- in the order of the lines.
+use Rattle.std.specs.Prelude.{ℕ, ◌+◌, ◌*◌, ◌/◌, ◌==◌, Bool, not, nat_le, List, length, map, take}
+use Rattle.std.specs.Prelude.{drop, is_none, Result, Ok}
 use Rattle.std.specs.List.{range_with_len}
 use Rattle.byteorder.specs.Endian.{little_from}
 use Rattle.scan_base.specs.declared.fault.Fault.{Fault}
-use Rattle.scan_base.specs.declared.fault.Fault.TheVariants.{BadFlatbuffer, UnsupportedArrow, BadBatch}
+use Rattle.scan_base.specs.declared.fault.Fault.TheVariants.{BadFlatbuffer, UnsupportedArrow}
+use Rattle.scan_base.specs.declared.fault.Fault.TheVariants.{BadBatch}
 use Rattle.scan_base.specs.Reading.{◌>>=◌, demand, wanted}
 use Rattle.flatbuf.specs.Place.{TableAt, scalar_of, table_of, structs_of}
 use Rattle.arrow_schema.specs.Header.{MessageAt, body_length_of, header_of, table_wanted}
@@ -22,13 +24,16 @@ pub record PartsAt : Type 0 where
 unfoldable pub word_at : List ℕ → ℕ → ℕ
 word_at bytes at = little_from at 8 bytes
 
--- node j of packed structs, each of two numbers of eight bytes; a negative one reads as 2 ^ 63 or more
+-- node j of packed structs, each of two numbers of eight bytes; a negative one reads as 2 ^ 63 or
+-- more
 abbrev pub node_at : List ℕ → ℕ → FieldNode
-node_at structs j = record { length = word_at structs (16 * j); null_count = word_at structs (16 * j + 8) }
+node_at structs j =
+    record { length = word_at structs (16 * j); null_count = word_at structs (16 * j + 8) }
 
 -- place j of packed structs, the same way
 abbrev pub place_at : List ℕ → ℕ → BufferPlace
-place_at structs j = record { offset = word_at structs (16 * j); length = word_at structs (16 * j + 8) }
+place_at structs j =
+    record { offset = word_at structs (16 * j); length = word_at structs (16 * j + 8) }
 
 -- how many there are
 abbrev pub struct_count : List ℕ → ℕ
@@ -58,9 +63,11 @@ placed_in body place = demand (lies_in body place) BadBatch
 unfoldable pub buffer_at : List ℕ → BufferPlace → Result (List ℕ) Fault
 buffer_at body place = placed_in body place >>= λ _. Ok (take place.length (drop place.offset body))
 
--- A message claims no longer body than it has. It may claim a shorter one, and that binds nothing else.
+-- A message claims no longer body than it has. It may claim a shorter one, and that binds nothing
+-- else.
 unfoldable pub body_claimed : MessageAt → List ℕ → Result (Unit {0}) Fault
-body_claimed message body = body_length_of message >>= λ claimed. demand (nat_le claimed (length body)) BadBatch
+body_claimed message body =
+    body_length_of message >>= λ claimed. demand (nat_le claimed (length body)) BadBatch
 
 -- what a RecordBatch table of a message with this body says
 unfoldable pub parts_of : MessageAt → TableAt → List ℕ → Result PartsAt Fault
@@ -73,8 +80,8 @@ parts_of message table body = do
   _ ← body_claimed message body
   Ok (record { rows = rows; nodes = nodes_in nodes; places = places_in places })
 
--- what a DictionaryBatch table says: an id, the parts of its values, and whether they stand behind the old
--- ones
+-- what a DictionaryBatch table says: an id, the parts of its values, and whether they stand after
+-- the old ones
 pub record DictionaryParts : Type 0 where
   pub id : ℕ
   pub parts : PartsAt

@@ -1,4 +1,4 @@
--- What messages leave behind to those that come after them.
+-- What messages leave after to those that come after them.
 use Rattle.std.specs.Prelude.{ℕ, ◌==◌, List, [], ◌∷◌, Option, if◌then◌else◌}
 use Rattle.scan_base.specs.declared.value.Value.{Value}
 use Rattle.arrow_schema.specs.declared.schema.Schema.{Schema}

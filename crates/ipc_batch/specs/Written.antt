@@ -1,6 +1,7 @@
--- How record batches and dictionaries are written, and what their messages then say. `WrittenParts` has the tables
--- and the body.
-use Rattle.std.specs.Prelude.{◌≡◌, ℕ, ◌^◌, ◌≤◌, ◌<◌, Bool, List, [], ◌∷◌, ◌++◌, length, map, All, Some, None, nat_le, Result, Ok}
+-- How record batches and dictionaries are written, and what their messages then say. `WrittenParts`
+-- has the tables and the body.
+use Rattle.std.specs.Prelude.{◌≡◌, ℕ, ◌^◌, ◌≤◌, ◌<◌, Bool, List, [], ◌∷◌, ◌++◌, length, map, All}
+use Rattle.std.specs.Prelude.{Some, None, nat_le, Result, Ok}
 use Rattle.std.specs.List.{flat_map, list_any}
 use Rattle.scan_base.specs.declared.fault.Fault.{Fault}
 use Rattle.scan_base.specs.declared.fault.Fault.TheVariants.{BadBatch, LimitReached}
@@ -23,7 +24,9 @@ use Rattle.ipc_batch.specs.Parts.{dictionary_parts}
 use Rattle.ipc_batch.specs.Columns.{values_led_to}
 use Rattle.ipc_batch.specs.State.{Known, Dictionaries, values_under, with_values}
 use Rattle.ipc_batch.specs.Said.{Sent, News, leads_to, kept_of, news_of}
-pub use Rattle.ipc_batch.specs.WrittenParts.{WrittenParts, node_bytes, place_bytes, body_of, places_from, FitsNode, most_buffers, FitParts, SaysSame, PartsReadBack}
+pub use Rattle.ipc_batch.specs.WrittenParts.{WrittenParts, node_bytes, place_bytes, body_of}
+pub use Rattle.ipc_batch.specs.WrittenParts.{places_from, FitsNode, most_buffers, FitParts}
+pub use Rattle.ipc_batch.specs.WrittenParts.{SaysSame, PartsReadBack}
 unfoldable pub use Rattle.ipc_batch.specs.WrittenParts.{parts_part, dictionary_part}
 
 -- ---- columns
@@ -32,7 +35,7 @@ unfoldable pub use Rattle.ipc_batch.specs.WrittenParts.{parts_part, dictionary_p
 abbrev pub node_written : ColumnAt → FieldNode
 node_written column = record { length = column.len; null_count = null_count column }
 
--- the buffers of columns, one column's behind another's
+-- the buffers of columns, one column's after another's
 abbrev pub buffers_written : List ColumnAt → List (List ℕ)
 buffers_written columns = flat_map column_written columns
 
@@ -66,7 +69,8 @@ values_batch values = record { columns = whole (Texts values) ∷ []; rows = val
 abbrev pub most_header_bytes : ℕ
 most_header_bytes = 8192
 
--- a message says these parts, each of whose buffers lies at a multiple of 8, and claims all of its body
+-- a message says these parts, each of whose buffers lies at a multiple of 8, and claims all of its
+-- body
 pub record SaysParts (sent : Sent) (parts : WrittenParts) : Type 0 where
   pub message : MessageAt
   pub table : TableAt
@@ -75,24 +79,26 @@ pub record SaysParts (sent : Sent) (parts : WrittenParts) : Type 0 where
   pub claimed : body_length_of message ≡ Ok (length sent.body)
   pub same : SaysSame message table sent.body parts
 
--- Each column of indices is of the type of indices that its field says, and the id of its field leads to the values into
--- which the column leads. Under a null it may lead anywhere.
+-- Each column of indices is of the type of indices that its field says, and the id of its field
+-- leads to the values into which the column leads. Under a null it may lead anywhere.
 abbrev pub AreLedBy : List Field → Dictionaries → List ColumnAt → Type 0
 AreLedBy (field ∷ fields) dictionaries (column ∷ columns) =
     IsLedBy field.data_type (values_led_to field.data_type dictionaries) column.layout column
     × AreLedBy fields dictionaries columns
 AreLedBy _ _ _ = Unit {0}
 
--- Behind a schema of the types of a batch's columns, and dictionaries into which these lead, a message says a batch with
--- its rows.
+-- After a schema of the types of a batch's columns, and dictionaries into which these lead, a
+-- message says a batch with its rows.
 abbrev pub SaysBatch : Sent → BatchAt → Type 0
 SaysBatch sent batch = (known : Known) → AreOfTypes known.schema.fields batch.columns →
     AreLedBy known.schema.fields known.dictionaries batch.columns →
-    (read : BatchAt) × (news_of (Some known) sent ≡ Ok (record { state = Some known; batch = Some read }))
+    (read : BatchAt)
+    × (news_of (Some known) sent ≡ Ok (record { state = Some known; batch = Some read }))
     × (rows_of read ≡ rows_of batch)
 
 -- a message says a dictionary of this id, whose values have these parts, and claims all of its body
-pub record SaysDictionaryParts (sent : Sent) (id : ℕ) (parts : WrittenParts) (is_delta : Bool) : Type 0 where
+pub record SaysDictionaryParts (sent : Sent) (id : ℕ) (parts : WrittenParts)
+    (is_delta : Bool) : Type 0 where
   pub message : MessageAt
   pub table : TableAt
   pub found : message_of sent.header ≡ Ok message
@@ -104,23 +110,27 @@ pub record SaysDictionaryParts (sent : Sent) (id : ℕ) (parts : WrittenParts) (
     is_delta = is_delta;
   })
 
--- the values of an id with those that a message sends: behind the old ones, or in their place
+-- the values of an id with those that a message sends: after the old ones, or in their place
 abbrev pub values_after : Dictionaries → ℕ → List Value → Bool → List Value
-values_after dictionaries id values is_delta = kept_of is_delta (values_under dictionaries id) ++ values
+values_after dictionaries id values is_delta =
+    kept_of is_delta (values_under dictionaries id) ++ values
 
--- What these values leave behind. A field has to have the id, and there has to be room for all values.
+-- What these values leave after. A field has to have the id, and there has to be room for all
+-- values.
 unfoldable pub dictionary_news : Known → ℕ → List Value → Bool → Result News Fault
 dictionary_news known id values is_delta = do
   _ ← demand (list_any (leads_to id) known.schema.fields) BadBatch
-  _ ← demand (nat_le (length (values_after known.dictionaries id values is_delta)) most_values) LimitReached
+  _ ← demand (nat_le (length (values_after known.dictionaries id values is_delta)) most_values)
+      LimitReached
   Ok (record {
     state = Some (record known {
-      dictionaries = with_values id (values_after known.dictionaries id values is_delta) known.dictionaries;
+      dictionaries =
+          with_values id (values_after known.dictionaries id values is_delta) known.dictionaries;
     });
     batch = None;
   })
 
--- behind any schema a message says these values of a dictionary
+-- after any schema a message says these values of a dictionary
 abbrev pub SaysValues : Sent → ℕ → List Value → Bool → Type 0
 SaysValues sent id values is_delta =
     (known : Known) → news_of (Some known) sent ≡ dictionary_news known id values is_delta

@@ -1,6 +1,7 @@
--- How the parts of a batch are written, whatever the types of its columns: the body that the buffers make, and the
--- tables that say where they lie.
-use Rattle.std.specs.Prelude.{◌≡◌, ℕ, ◌+◌, ◌*◌, ◌^◌, ◌%◌, ◌≤◌, ◌<◌, Bool, List, [], ◌∷◌, ◌++◌, length, All, Ok}
+-- How the parts of a batch are written, whatever the types of its columns: the body that the
+-- buffers make, and the tables that say where they lie.
+use Rattle.std.specs.Prelude.{◌≡◌, ℕ, ◌+◌, ◌*◌, ◌^◌, ◌%◌, ◌≤◌, ◌<◌, Bool, List, [], ◌∷◌, ◌++◌}
+use Rattle.std.specs.Prelude.{length, All, Ok}
 use Rattle.std.specs.List.{flat_map}
 use Rattle.scan_base.specs.Lists.{each}
 use Rattle.flatbuf.specs.Place.{TableAt}
@@ -27,7 +28,7 @@ node_bytes node = little 8 node.length ++ little 8 node.null_count
 abbrev pub place_bytes : BufferPlace → List ℕ
 place_bytes place = little 8 place.offset ++ little 8 place.length
 
--- the body: the buffers one behind another, each with zeros behind it up to a multiple of 8
+-- the body: the buffers one after another, each with zeros after it up to a multiple of 8
 abbrev pub body_of : List (List ℕ) → List ℕ
 body_of buffers = flat_map padded buffers
 
@@ -52,10 +53,11 @@ pub record FitsNode (node : FieldNode) : Type 0 where
 abbrev pub most_buffers : ℕ
 most_buffers = 3 * most_columns
 
--- the DictionaryBatch table: an id, the RecordBatch table of the values, and whether they stand behind the old
--- ones
+-- the DictionaryBatch table: an id, the RecordBatch table of the values, and whether they stand
+-- after the old ones
 unfoldable pub dictionary_part : ℕ → WrittenParts → Bool → Part
-dictionary_part id parts is_delta = table_part (Number id ∷ Offset (parts_part parts) ∷ Number (flag is_delta) ∷ [])
+dictionary_part id parts is_delta =
+    table_part (Number id ∷ Offset (parts_part parts) ∷ Number (flag is_delta) ∷ [])
 
 -- parts that can be written
 pub record FitParts (parts : WrittenParts) : Type 0 where
@@ -65,15 +67,19 @@ pub record FitParts (parts : WrittenParts) : Type 0 where
   pub few_buffers : length parts.buffers ≤ most_buffers
   pub small : length (body_of parts.buffers) < 2 ^ 64
 
--- what a table says of parts in this body: the same rows and nodes, and places where these buffers lie
-pub record SaysSame (message : MessageAt) (table : TableAt) (body : List ℕ) (parts : WrittenParts) : Type 0 where
+-- what a table says of parts in this body: the same rows and nodes, and places where these buffers
+-- lie
+pub record SaysSame (message : MessageAt) (table : TableAt) (body : List ℕ)
+    (parts : WrittenParts) : Type 0 where
   pub places : List BufferPlace
-  pub said : parts_of message table body ≡ Ok (record { rows = parts.rows; nodes = parts.nodes; places = places })
+  pub said : parts_of message table body
+      ≡ Ok (record { rows = parts.rows; nodes = parts.nodes; places = places })
   pub buffers : each (buffer_at body) places ≡ Ok parts.buffers
   pub aligned : All (λ place. place.offset % 8 ≡ 0) places
 
 -- Wherever the table stands in a message of that body's length, the parts are read again.
 abbrev pub PartsReadBack : Type 0
-PartsReadBack = (parts : WrittenParts) (message : MessageAt) (bytes : List ℕ) (place : ℕ) → FitParts parts →
-    Stands (parts_part parts).bytes bytes place → body_length_of message ≡ Ok (length (body_of parts.buffers)) →
+PartsReadBack = (parts : WrittenParts) (message : MessageAt) (bytes : List ℕ) (place : ℕ) →
+    FitParts parts → Stands (parts_part parts).bytes bytes place →
+    body_length_of message ≡ Ok (length (body_of parts.buffers)) →
     SaysSame message (table_at bytes place (parts_part parts)) (body_of parts.buffers) parts

@@ -9,8 +9,8 @@ use arrays::Column;
 use bytes::Bytes;
 use std::alloc::{AllocError, Global};
 
-// Puts the buffers of a column behind the others. `rooms` says how many bytes those have that are built, each at the
-// number of its buffer.
+// Puts the buffers of a column after the others. `rooms` says how many bytes those have that are
+// built, each at the number of its buffer.
 fn push_column(
     alloc: Global,
     buffers: &mut Vec<Bytes>,
@@ -27,7 +27,7 @@ fn push_column(
     Ok(())
 }
 
-/// Puts the buffers of columns behind the others.
+/// Puts the buffers of columns after the others.
 pub(crate) fn push_columns(
     alloc: Global,
     buffers: &mut Vec<Bytes>,

@@ -18,8 +18,8 @@ use bytes::Bytes;
 use scan_base::Fault;
 use std::alloc::Global;
 
-/// What the columns of a batch have in common: how many slots each has, the body in which their buffers
-/// lie, and the dictionaries that indices lead into.
+/// What the columns of a batch have in common: how many slots each has, the body in which their
+/// buffers lie, and the dictionaries that indices lead into.
 #[derive(Drop)]
 pub(crate) struct Source<'a> {
     pub rows: u64,
@@ -27,7 +27,7 @@ pub(crate) struct Source<'a> {
     pub dictionaries: &'a Dictionaries,
 }
 
-/// The layout at the front of the buffers, and where those behind it lie.
+/// The layout at the front of the buffers, and where those after it lie.
 #[derive(Drop)]
 pub(crate) struct Front<'a> {
     pub layout: Slots,
@@ -59,8 +59,8 @@ fn have_buffers(fields: &[Field], count: usize) -> bool
     left == 0
 }
 
-/// That a batch has a node and the buffers of a column for each field, with none left over: F8 where it has
-/// not. It takes no memory.
+/// That a batch has a node and the buffers of a column for each field, with none left over: F8
+/// where it has not. It takes no memory.
 #[tactic(auto, unfolding(crate::specs::Columns::counts_agree))]
 pub(crate) fn check_counts(fields: &[Field], parts: &Parts<'_>) -> Result<(), Fault>
     ensures nodes { OnOk result (length (parts_seen parts.now).nodes ≡ length fields.now) }
@@ -73,8 +73,8 @@ pub(crate) fn check_counts(fields: &[Field], parts: &Parts<'_>) -> Result<(), Fa
     Ok(())
 }
 
-/// That a dictionary has the node and the buffers of one column of texts, with none left over: F8 where it
-/// has not. It takes no memory.
+/// That a dictionary has the node and the buffers of one column of texts, with none left over: F8
+/// where it has not. It takes no memory.
 #[tactic(auto, unfolding(crate::specs::Columns::counts_agree))]
 pub(crate) fn check_text_counts(parts: &Parts<'_>) -> Result<(), Fault>
     ensures { Gives (λ done. done) result (counts_agree 1 3 (parts_seen parts.now)) }
@@ -158,8 +158,8 @@ fn values(
     values_place: BufferPlace,
 ) -> Result<Slots, Fault>
     ensures value { GivesUnlessMemory (λ layout. layout) result (values_at data_type
-        (values_led_to data_type source.now.dictionaries.now) source.now.rows source.now.body.now node
-        validity_place values_place) }
+        (values_led_to data_type source.now.dictionaries.now) source.now.rows source.now.body.now
+        node validity_place values_place) }
     ensures long { IfOk result (λ layout. layout_count layout ≡ source.now.rows) }
 {
     if node.length != source.rows {
@@ -199,7 +199,8 @@ fn values_front<'a>(
     places: &'a [BufferPlace],
 ) -> Result<Front<'a>, Fault>
     ensures value { GivesUnlessMemory front_seen result (values_front data_type
-        (values_led_to data_type source.now.dictionaries.now) source.now.rows source.now.body.now node places.now) }
+        (values_led_to data_type source.now.dictionaries.now) source.now.rows source.now.body.now
+        node places.now) }
     ensures long { IfOk result (λ front. layout_count front.layout ≡ source.now.rows) }
 {
     let [validity, packed, behind @ ..] = places else {
@@ -219,7 +220,8 @@ fn read_front<'a>(
     places: &'a [BufferPlace],
 ) -> Result<Front<'a>, Fault>
     ensures value { GivesUnlessMemory front_seen result
-        (front_of data_type source.now.dictionaries.now source.now.rows source.now.body.now node places.now) }
+        (front_of data_type source.now.dictionaries.now source.now.rows source.now.body.now node
+        places.now) }
     ensures long { IfOk result (λ front. layout_count front.layout ≡ source.now.rows) }
 {
     match data_type {
@@ -228,9 +230,9 @@ fn read_front<'a>(
     }
 }
 
-/// The columns of fields that have a node each, which are cuts of the body: no value is copied. F8 where a
-/// buffer is missing, lies outside the body or is too short, where texts or indices do not stand, and where
-/// a node has not as many slots as there are rows.
+/// The columns of fields that have a node each, which are cuts of the body: no value is copied. F8
+/// where a buffer is missing, lies outside the body or is too short, where texts or indices do not
+/// stand, and where a node has not as many slots as there are rows.
 pub(crate) fn read_columns(
     alloc: Global,
     fields: &[Field],

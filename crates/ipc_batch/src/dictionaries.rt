@@ -62,8 +62,8 @@ impl Dictionaries {
         Ok(Arc::new(alloc, Dictionary::new(alloc))?)
     }
 
-    /// Puts a dictionary in the place of the one of its id, where there is one. Whoever holds that one
-    /// keeps it.
+    /// Puts a dictionary in the place of the one of its id, where there is one. Whoever holds that
+    /// one keeps it.
     pub fn put(&mut self, id: u64, values: Arc<Dictionary>) -> Result<(), AllocError>
         ensures ok { OnOk result (self.new ≡ with_values id (arc_value values) self.old) }
         ensures err { OnErr result (self.new ≡ self.old) }

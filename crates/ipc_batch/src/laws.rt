@@ -6,13 +6,13 @@ ghost use Rattle.ipc_batch.specs.Laws.{GlancesComeFirst, NegativesLieOutside, Di
 ghost use Rattle.ipc_batch.specs.Dressed.{DressedMessagesSay};
 ghost use Rattle.ipc_batch.specs.Written.{PartsReadBack};
 
-/// What is read of a message, in the order in which it is read, is just what it brings: what `Message.fbs` and the
-/// columnar format, in their own words and in no order, have it say.
+/// What is read of a message, in the order in which it is read, is just what it brings: what
+/// `Message.fbs` and the columnar format, in their own words and in no order, have it say.
 pub fn read_is_brought()
     ensures { ReadIsBrought }
 {}
 
-/// What messages say, one behind another, is just what they bring.
+/// What messages say, one after another, is just what they bring.
 pub fn said_is_brought()
     ensures { SaidIsBrought }
 {}
@@ -27,7 +27,7 @@ pub fn messages_say_one_thing()
     ensures { SayOneThing }
 {}
 
-/// Messages that stand one behind another say the rows of both, in order.
+/// Messages that stand one after another say the rows of both, in order.
 pub fn messages_join_their_rows()
     ensures { JoinRows }
 {}
@@ -52,12 +52,12 @@ pub fn parts_read_back()
     ensures { PartsReadBack }
 {}
 
-/// What is read behind the message of a dictionary is read over its values.
+/// What is read after the message of a dictionary is read over its values.
 pub fn dictionaries_read_back()
     ensures { DictionariesReadBack }
 {}
 
-/// Batches, each behind the dictionaries of its own texts, say their rows.
+/// Batches, each after the dictionaries of its own texts, say their rows.
 #[tactic(auto, using(crate::proofs::Dressing::dressed_say))]
 pub fn dressed_messages_say()
     ensures { DressedMessagesSay }

@@ -5,7 +5,8 @@ ghost use Rattle.std.specs.List.{list_all};
 ghost use Rattle.scan_base.specs.Reading.{Gives, GivesUnlessMemory};
 ghost use Rattle.arrow_schema.specs.Seen.{message_seen};
 ghost use Rattle.ipc_batch.specs.Parts.{word_at, node_at, place_at, nodes_in, places_in};
-ghost use Rattle.ipc_batch.specs.Parts.{structs_wanted, lies_in, placed_in, buffer_at, body_claimed};
+ghost use Rattle.ipc_batch.specs.Parts.{structs_wanted, lies_in, placed_in, buffer_at};
+ghost use Rattle.ipc_batch.specs.Parts.{body_claimed};
 ghost use Rattle.ipc_batch.specs.Parts.{parts_of, dictionary_parts};
 ghost use Rattle.ipc_batch.specs.Columns.{columns_placed};
 ghost use Rattle.ipc_batch.specs.inside.Seen.{parts_seen, dictionary_seen};
@@ -17,15 +18,16 @@ use flatbuf::{Table, Width};
 use scan_base::Fault;
 use std::alloc::{AllocError, Global};
 
-/// A node: how many slots a column has, and how many of them are null. A negative number reads as 2 to the
-/// 63 or more.
+/// A node: how many slots a column has, and how many of them are null. A negative number reads as 2
+/// to the 63 or more.
 #[derive(Clone, Copy)]
 pub(crate) struct FieldNode {
     pub length: u64,
     pub null_count: u64,
 }
 
-/// Where a buffer lies in a message's body, in bytes. A negative number reads as 2 to the 63 or more.
+/// Where a buffer lies in a message's body, in bytes. A negative number reads as 2 to the 63 or
+/// more.
 #[derive(Clone, Copy)]
 pub(crate) struct BufferPlace {
     pub offset: u64,
@@ -35,8 +37,8 @@ pub(crate) struct BufferPlace {
 /// How many bytes a node, or the place of a buffer, has in a header.
 pub(crate) const STRUCT_BYTES: usize = 16;
 
-/// The parts of a record batch: how many rows it has, and where they lie in the header the packed nodes of
-/// its columns and the packed places of their buffers.
+/// The parts of a record batch: how many rows it has, and where they lie in the header the packed
+/// nodes of its columns and the packed places of their buffers.
 #[derive(Drop)]
 pub(crate) struct Parts<'a> {
     pub rows: u64,
@@ -61,8 +63,8 @@ impl Parts<'_> {
         self.places.len() / STRUCT_BYTES
     }
 
-    /// That each node has as many slots as there are rows, and that each buffer lies within the body: F8 where it is
-    /// not so. It takes no memory.
+    /// That each node has as many slots as there are rows, and that each buffer lies within the
+    /// body: F8 where it is not so. It takes no memory.
     #[tactic(auto, unfolding(crate::specs::Columns::columns_placed))]
     pub fn check_placed(&self, body: &[u8]) -> Result<(), Fault>
         ensures { Gives (λ done. done) result (columns_placed body.now (parts_seen self.now)) }
@@ -192,8 +194,8 @@ pub(crate) fn check_place(body: &[u8], place: BufferPlace) -> Result<(), Fault>
     Ok(())
 }
 
-/// The bytes of a buffer, cut from the body: they are shared, not copied. F8 where they do not lie within
-/// it.
+/// The bytes of a buffer, cut from the body: they are shared, not copied. F8 where they do not lie
+/// within it.
 #[tactic(auto, unfolding(crate::specs::Parts::buffer_at))]
 pub(crate) fn buffer(body: &Bytes, place: BufferPlace) -> Result<Bytes, Fault>
     ensures { GivesUnlessMemory (λ buffer. buffer) result (buffer_at body.now place) }
@@ -237,8 +239,8 @@ pub(crate) fn read_parts<'a>(
     })
 }
 
-/// What a dictionary message says before its values are looked at: an id, the parts of the values, and
-/// whether they stand behind the old ones.
+/// What a dictionary message says before its values are looked at: an id, the parts of the values,
+/// and whether they stand after the old ones.
 #[derive(Drop)]
 pub(crate) struct DictionaryMessage<'a> {
     pub id: u64,

@@ -7,8 +7,10 @@ ghost use Rattle.scan_base.specs.declared.fault.Fault.TheVariants.{OutOfMemory, 
 ghost use Rattle.scan_base.specs.Reading.{Gives, GivesUnlessMemory, RefusesFirst, demand};
 ghost use Rattle.arrow_schema.specs.Schema.{IsSchema};
 ghost use Rattle.arrow_schema.specs.Seen.{message_seen};
-ghost use Rattle.ipc_batch.specs.Said.{schema_sent, first_schema, batch_parts, batch_sent, has_id, leads_to, dictionary_sent};
-ghost use Rattle.ipc_batch.specs.Said.{known_after, next_news, first_glance, batch_glance, dictionary_glance, next_glance, glance_of};
+ghost use Rattle.ipc_batch.specs.Said.{schema_sent, first_schema, batch_parts, batch_sent, has_id};
+ghost use Rattle.ipc_batch.specs.Said.{leads_to, dictionary_sent};
+ghost use Rattle.ipc_batch.specs.Said.{known_after, next_news, first_glance, batch_glance};
+ghost use Rattle.ipc_batch.specs.Said.{dictionary_glance, next_glance, glance_of};
 ghost use Rattle.ipc_batch.specs.Said.{Answers, Tells, HasColumns};
 ghost use Rattle.ipc_batch.specs.inside.Seen.{parts_seen, dictionary_seen};
 
@@ -41,8 +43,8 @@ impl Model for Stream {
     ghost invariant = { λ s. IsSchema s.schema };
 }
 
-/// Reads messages one after the other. A contract sees what the messages so far leave behind: the schema,
-/// once it came, and the values of dictionaries.
+/// Reads messages one after the other. A contract sees what the messages so far leave after: the
+/// schema, once it came, and the values of dictionaries.
 #[derive(Drop)]
 pub struct Reader {
     known: Option<Stream>,
@@ -66,7 +68,8 @@ impl Reader {
 
     /// The schema that the messages say, once it came.
     pub fn schema(&self) -> Option<&Schema>
-        ensures value { option_map (λ schema. schema.now) result ≡ option_map (λ known. known.schema) self.now }
+        ensures value { option_map (λ schema. schema.now) result
+            ≡ option_map (λ known. known.schema) self.now }
         ensures valid { IfSome result (λ schema. IsSchema schema.now) }
     {
         match &self.known {
@@ -86,28 +89,30 @@ impl Reader {
         }
     }
 
-    /// Reads the next message: a batch, or `None` where it is the schema or a dictionary. The batch has a
-    /// column for each field, whose values are cuts of the body, and each keeps the dictionary as it then
-    /// was. It takes memory for columns, and for the parts of dictionaries, and not for values.
+    /// Reads the next message: a batch, or `None` where it is the schema or a dictionary. The batch
+    /// has a column for each field, whose values are cuts of the body, and each keeps the
+    /// dictionary as it then was. It takes memory for columns, and for the parts of dictionaries,
+    /// and not for values.
     ///
     /// # Errors
     ///
-    /// After each the reader is as before. Where several causes stand in one message, the one that is met
-    /// first in reading is answered: the header and its tables, the body that it claims, the id of a
-    /// dictionary, the counts of nodes and buffers, and then column by column. What is refused of all that
-    /// before the columns, and of the length of a node or the place of a buffer, is refused for that, and
-    /// never by want of memory.
+    /// After each the reader is as before. Where several causes stand in one message, the one that
+    /// is met first in reading is answered: the header and its tables, the body that it claims, the
+    /// id of a dictionary, the counts of nodes and buffers, and then column by column. What is
+    /// refused of all that before the columns, and of the length of a node or the place of a
+    /// buffer, is refused for that, and never by want of memory.
     ///
-    /// - F6 (`Fault::BadFlatbuffer`) where something that is read lies outside the header, and where an
-    ///   offset that has to be there is absent.
-    /// - F7 (`Fault::UnsupportedArrow`) for another metadata version than V5, another kind of header, a
-    ///   schema of other types than are built, and compressed bodies.
-    /// - F8 (`Fault::BadBatch`) where the first message is no schema, for a second schema, for a dictionary
-    ///   whose id no field has, and for a batch or dictionary whose counts, lengths or places do not agree
-    ///   with its schema or lie outside the body, whose texts are not cut in order or are not UTF-8, or
-    ///   whose indices lie outside their dictionary. A negative number lies outside every body.
-    /// - F12 (`Fault::LimitReached`) for a schema of no column or too many, a name that is absent, empty or
-    ///   too long, and a dictionary of more than 16,777,216 values.
+    /// - F6 (`Fault::BadFlatbuffer`) where something that is read lies outside the header, and
+    ///   where an offset that has to be there is absent.
+    /// - F7 (`Fault::UnsupportedArrow`) for another metadata version than V5, another kind of
+    ///   header, a schema of other types than are built, and compressed bodies.
+    /// - F8 (`Fault::BadBatch`) where the first message is no schema, for a second schema, for a
+    ///   dictionary whose id no field has, and for a batch or dictionary whose counts, lengths or
+    ///   places do not agree with its schema or lie outside the body, whose texts are not cut in
+    ///   order or are not UTF-8, or whose indices lie outside their dictionary. A negative number
+    ///   lies outside every body.
+    /// - F12 (`Fault::LimitReached`) for a schema of no column or too many, a name that is absent,
+    ///   empty or too long, and a dictionary of more than 16,777,216 values.
     /// - F21 (`Fault::OutOfMemory`) where memory is refused.
     pub fn message(
         &mut self,
@@ -123,9 +128,9 @@ impl Reader {
         self.read(alloc, &header, &body)
     }
 
-    /// What is refused of the next message before anything grows or is cut: the header, the body that it claims, a
-    /// dictionary's id, the counts and lengths of nodes, and the counts and places of buffers. No want of memory can
-    /// hide it.
+    /// What is refused of the next message before anything grows or is cut: the header, the body
+    /// that it claims, a dictionary's id, the counts and lengths of nodes, and the counts and
+    /// places of buffers. No want of memory can hide it.
     ///
     /// # Errors
     ///
@@ -145,7 +150,8 @@ impl Reader {
     // What a message tells.
     #[tactic(auto, unfolding(crate::specs::Said::news_of, crate::specs::Said::glance_of))]
     fn read(&mut self, alloc: Global, header: &Bytes, body: &Bytes) -> Result<Option<Batch>, Fault>
-        ensures exact { Tells result self.old (record { header = header.now; body = body.now }) self.new }
+        ensures exact { Tells result self.old
+            (record { header = header.now; body = body.now }) self.new }
         ensures first { RefusesFirst result
             (glance_of self.old (record { header = header.now; body = body.now })) }
     {
@@ -160,8 +166,8 @@ impl Reader {
     }
 }
 
-// The schema of a message. Its names alone take memory, and where that is refused, the body that the message claims is
-// looked at before that is told.
+// The schema of a message. Its names alone take memory, and where that is refused, the body that
+// the message claims is looked at before that is told.
 #[tactic(auto, unfolding(crate::specs::Said::schema_sent))]
 fn read_schema(alloc: Global, message: &Message<'_>, body: &[u8]) -> Result<Schema, Fault>
     ensures value { GivesUnlessMemory (λ schema. schema) result
@@ -237,15 +243,16 @@ fn has_dictionary(fields: &[Field], id: u64) -> bool
 }
 
 impl Stream {
-    // What a message behind the schema tells.
+    // What a message after the schema tells.
     fn next(
         &mut self,
         alloc: Global,
         message: &Message<'_>,
         body: &Bytes,
     ) -> Result<Option<Batch>, Fault>
-        ensures exact { Answers result (Some self.old) (next_news (message_seen message.now).kind self.old
-            (message_seen message.now) body.now) (Some self.new) }
+        ensures exact { Answers result (Some self.old)
+            (next_news (message_seen message.now).kind self.old (message_seen message.now) body.now)
+            (Some self.new) }
         ensures first { RefusesFirst result (next_glance (message_seen message.now).kind self.old
             (message_seen message.now) body.now) }
     {
@@ -259,7 +266,7 @@ impl Stream {
         }
     }
 
-    // What is refused of a message behind the schema.
+    // What is refused of a message after the schema.
     fn glance(&self, message: &Message<'_>, body: &[u8]) -> Result<(), Fault>
         ensures { Gives (λ done. done) result (next_glance (message_seen message.now).kind self.now
             (message_seen message.now) body.now) }
@@ -325,8 +332,8 @@ impl Stream {
         Ok(sent)
     }
 
-    // Takes the values of a dictionary message: behind those that are there where it is a delta, and else in
-    // their place.
+    // Takes the values of a dictionary message: after those that are there where it is a delta, and
+    // else in their place.
     #[tactic(auto, unfolding(crate::specs::Said::known_after))]
     fn learn(&mut self, alloc: Global, message: &Message<'_>, body: &Bytes) -> Result<(), Fault>
         ensures ok { OnOk result

@@ -1,6 +1,7 @@
 //! Batches whose buffers are measured once: their headers and their bodies.
 
-ghost use Rattle.std.specs.Prelude.{◌≡◌, ◌≤◌, ◌<◌, ◌+◌, ◌-◌, ◌%◌, ◌^◌, [], ◌∷◌, ◌++◌, All, length, map, take};
+ghost use Rattle.std.specs.Prelude.{◌≡◌, ◌≤◌, ◌<◌, ◌+◌, ◌-◌, ◌%◌, ◌^◌, [], ◌∷◌, ◌++◌, All, length};
+ghost use Rattle.std.specs.Prelude.{map, take};
 ghost use Rattle.std.specs.Prelude.{IfOk, IsSome, OnOk, OnErr, SomeIff};
 ghost use Rattle.std.specs.List.{flat_map};
 ghost use Rattle.flatbuf.specs.Block.{Number, Offset, little, padding, padded, table_part};
@@ -8,8 +9,10 @@ ghost use Rattle.flatbuf.specs.Block.{structs_part};
 ghost use Rattle.scan_base.specs.Limits.{most_columns};
 ghost use Rattle.arrays.specs.Column.{IsColumn};
 ghost use Rattle.array_buffers.specs.Written.{buffer_of, buffers_written as column_written};
-ghost use Rattle.ipc_batch.specs.Written.{node_bytes, place_bytes, body_of, places_from, parts_part};
-ghost use Rattle.ipc_batch.specs.Written.{node_written, buffers_written, parts_written, body_length};
+ghost use Rattle.ipc_batch.specs.Written.{node_bytes, place_bytes, body_of, places_from};
+ghost use Rattle.ipc_batch.specs.Written.{parts_part};
+ghost use Rattle.ipc_batch.specs.Written.{node_written, buffers_written, parts_written};
+ghost use Rattle.ipc_batch.specs.Written.{body_length};
 ghost use Rattle.ipc_batch.specs.Written.{FitsBatch, most_header_bytes, SaysParts, SaysBatch};
 
 use crate::buffers::push_columns;
@@ -25,8 +28,8 @@ use std::marker::Model;
 // A body has fewer bytes than this.
 const BODY_LIMIT: usize = 1 << 31;
 
-/// A batch, and how many bytes each of its buffers has where it is written. With the zeros between them they
-/// have fewer than 2 to the 31. A contract sees the batch.
+/// A batch, and how many bytes each of its buffers has where it is written. With the zeros between
+/// them they have fewer than 2 to the 31. A contract sees the batch.
 #[derive(Drop)]
 pub struct SizedBatch<'a> {
     batch: &'a Batch,
@@ -78,9 +81,9 @@ impl<'a> SizedBatch<'a> {
         self.body_length
     }
 
-    /// The header of the message, whose body [`SizedBatch::append_body`] writes, and which claims all of
-    /// that body. The header and the body have a multiple of 8 bytes, the header at most 8,192. It fails with
-    /// [`AllocError`] where memory is refused, and with no other error.
+    /// The header of the message, whose body [`SizedBatch::append_body`] writes, and which claims
+    /// all of that body. The header and the body have a multiple of 8 bytes, the header at most
+    /// 8,192. It fails with [`AllocError`] where memory is refused, and with no other error.
     pub fn write_header(&self, alloc: Global) -> Result<Vec<u8>, AllocError>
         requires { length self.now.columns ≤ most_columns }
         ensures whole { IfOk result (λ header. length header.items % 8 ≡ 0) }
@@ -103,9 +106,10 @@ impl<'a> SizedBatch<'a> {
         )
     }
 
-    /// Writes the body behind what `out` has: the buffers one behind another, each with zeros behind it up to
-    /// a multiple of 8. Room is made once, the values are copied once, and a slice has its own rows alone. It
-    /// fails with [`AllocError`] where memory is refused, and then `out` is as it was.
+    /// Writes the body after what `out` has: the buffers one after another, each with zeros after
+    /// it up to a multiple of 8. Room is made once, the values are copied once, and a slice has its
+    /// own rows alone. It fails with [`AllocError`] where memory is refused, and then `out` is as
+    /// it was.
     pub fn append_body(&self, out: &mut Vec<u8>) -> Result<(), AllocError>
         ensures ok { OnOk result (out.new.items
             ≡ out.old.items ++ body_of (buffers_written self.now.columns)) }
@@ -120,8 +124,9 @@ impl<'a> SizedBatch<'a> {
         written
     }
 
-    /// The buffers of the body, in order: those that came, where they have the bytes that are written, so that no value
-    /// is copied, and else some of their own. The body is each of them with zeros behind it up to a multiple of 8.
+    /// The buffers of the body, in order: those that came, where they have the bytes that are
+    /// written, so that no value is copied, and else some of their own. The body is each of them
+    /// with zeros after it up to a multiple of 8.
     ///
     /// # Errors
     ///
@@ -148,7 +153,7 @@ impl<'a> SizedBatch<'a> {
         batch_block(alloc, rows, nodes.as_slice(), places.as_slice())
     }
 
-    // The places of the buffers, which stand one behind another.
+    // The places of the buffers, which stand one after another.
     fn place_structs(&self, alloc: Global) -> Result<Vec<u8>, AllocError>
         ensures { IfOk result (λ structs. structs.items
             ≡ flat_map place_bytes (places_from 0 (buffers_written self.now.columns))) }
@@ -164,7 +169,7 @@ impl<'a> SizedBatch<'a> {
     }
 }
 
-// How many zeros stand behind so many bytes, up to a multiple of 8.
+// How many zeros stand after so many bytes, up to a multiple of 8.
 fn zeros_behind(bytes: usize) -> usize
     ensures { result ≡ (8 - bytes % 8) % 8 }
 {
@@ -173,7 +178,7 @@ fn zeros_behind(bytes: usize) -> usize
 
 // ---- the lengths
 
-// Where a buffer of so many bytes ends in a body, with the zeros behind it.
+// Where a buffer of so many bytes ends in a body, with the zeros after it.
 fn buffer_end(start: usize, length: usize) -> Option<usize>
     requires { start < 2 ^ 31 }
     ensures { SomeIff result (start + (length + (8 - length % 8) % 8) < 2 ^ 31)
@@ -189,14 +194,16 @@ fn buffer_end(start: usize, length: usize) -> Option<usize>
     Some(end)
 }
 
-// Adds the lengths of a column's buffers, the first of which begins at `start` in a body, and says where they end.
+// Adds the lengths of a column's buffers, the first of which begins at `start` in a body, and says
+// where they end.
 fn measure_column(
     lengths: &mut Vec<usize>,
     start: usize,
     column: &Column,
 ) -> Result<Option<usize>, AllocError>
     requires { start < 2 ^ 31 }
-    ensures end { IfOk result (λ end. SomeIff end (start + length (body_of (column_written column.now)) < 2 ^ 31)
+    ensures end { IfOk result
+        (λ end. SomeIff end (start + length (body_of (column_written column.now)) < 2 ^ 31)
         (start + length (body_of (column_written column.now)))) }
     ensures lengths { IfOk result (λ end. IsSome end
         → lengths.new.items ≡ lengths.old.items ++ map length (column_written column.now)) }
@@ -217,7 +224,7 @@ fn measure_column(
 
 // ---- the body
 
-// Writes the zeros that stand behind so many bytes.
+// Writes the zeros that stand after so many bytes.
 #[tactic(auto, unfolding(flatbuf::specs::Block::padding))]
 fn append_zeros(body: &mut Vec<u8>, bytes: usize) -> Result<(), AllocError>
     ensures ok { OnOk result (body.new.items ≡ body.old.items ++ padding bytes) }
@@ -226,11 +233,12 @@ fn append_zeros(body: &mut Vec<u8>, bytes: usize) -> Result<(), AllocError>
     body.extend_from_slice(&[0; 8][..zeros_behind(bytes)])
 }
 
-// Writes a buffer of a column behind the others, and zeros behind it.
+// Writes a buffer of a column after the others, and zeros after it.
 fn append_buffer(body: &mut Vec<u8>, column: &Column, index: usize) -> Result<(), AllocError>
     requires index { index < length (column_written column.now) }
     requires short { length (body_of (column_written column.now)) < 2 ^ 31 }
-    ensures ok { OnOk result (body.new.items ≡ body.old.items ++ padded (buffer_of column.now index)) }
+    ensures ok { OnOk result
+        (body.new.items ≡ body.old.items ++ padded (buffer_of column.now index)) }
     ensures begins { take (length body.old.items) body.new.items ≡ body.old.items }
 {
     let start = body.len();
@@ -242,7 +250,8 @@ fn append_buffer(body: &mut Vec<u8>, column: &Column, index: usize) -> Result<()
 // Writes the buffers of a column.
 fn append_column(body: &mut Vec<u8>, column: &Column) -> Result<(), AllocError>
     requires { length (body_of (column_written column.now)) < 2 ^ 31 }
-    ensures ok { OnOk result (body.new.items ≡ body.old.items ++ body_of (column_written column.now)) }
+    ensures ok { OnOk result
+        (body.new.items ≡ body.old.items ++ body_of (column_written column.now)) }
     ensures begins { take (length body.old.items) body.new.items ≡ body.old.items }
 {
     for index in 0..buffer_count(column) {
@@ -276,7 +285,8 @@ fn put_word(out: &mut Vec<u8>, word: u64) -> Result<(), AllocError>
 
 // Writes a struct of two numbers.
 fn put_pair(structs: &mut Vec<u8>, first: u64, second: u64) -> Result<(), AllocError>
-    ensures { OnOk result (structs.new.items ≡ structs.old.items ++ (little 8 first ++ little 8 second)) }
+    ensures { OnOk result
+        (structs.new.items ≡ structs.old.items ++ (little 8 first ++ little 8 second)) }
 {
     put_word(structs, first)?;
     put_word(structs, second)

@@ -1,6 +1,7 @@
 //! The messages of record batches and dictionaries.
 
-ghost use Rattle.std.specs.Prelude.{◌≡◌, ◌↔◌, ◌≤◌, ◌<◌, ◌%◌, ◌^◌, [], ◌∷◌, length, IfOk, IfSome, IsSome, OnOk};
+ghost use Rattle.std.specs.Prelude.{◌≡◌, ◌↔◌, ◌≤◌, ◌<◌, ◌%◌, ◌^◌, [], ◌∷◌, length, IfOk, IfSome};
+ghost use Rattle.std.specs.Prelude.{IsSome, OnOk};
 ghost use Rattle.flatbuf.specs.Block.{Number, Offset, table_part};
 ghost use Rattle.arrow_schema.specs.declared.header.HeaderKind.TheVariants.{DictionaryBatch};
 ghost use Rattle.scan_base.specs.Limits.{most_columns};
@@ -8,7 +9,8 @@ ghost use Rattle.arrow_schema.specs.Message.{message_bytes};
 ghost use Rattle.arrow_schema.specs.Written.{flag};
 ghost use Rattle.arrays.specs.Texts.{texts_values};
 ghost use Rattle.ipc_batch.specs.Written.{body_of, buffers_written, parts_written, body_length};
-ghost use Rattle.ipc_batch.specs.Written.{dictionary_part, values_batch, FitsBatch, most_header_bytes};
+ghost use Rattle.ipc_batch.specs.Written.{dictionary_part, values_batch, FitsBatch};
+ghost use Rattle.ipc_batch.specs.Written.{most_header_bytes};
 ghost use Rattle.ipc_batch.specs.Written.{SaysParts, SaysBatch, SaysDictionaryParts, SaysValues};
 ghost use Rattle.ipc_batch.specs.Seen.{written_seen};
 
@@ -25,10 +27,10 @@ pub struct WrittenMessage {
     pub body: Vec<u8>,
 }
 
-/// The message of a record batch. Each buffer begins at a multiple of 8 in the body, with zeros between,
-/// the header claims all of the body, and both have a multiple of 8 bytes. Validity bits are written where a
-/// slot is null, and a slice of a batch is written as its own rows alone. `None` where the body would have 2 to
-/// the 31 bytes or more.
+/// The message of a record batch. Each buffer begins at a multiple of 8 in the body, with zeros
+/// between, the header claims all of the body, and both have a multiple of 8 bytes. Validity bits
+/// are written where a slot is null, and a slice of a batch is written as its own rows alone.
+/// `None` where the body would have 2 to the 31 bytes or more.
 ///
 /// # Errors
 ///
@@ -36,11 +38,14 @@ pub struct WrittenMessage {
 pub fn write_batch(alloc: Global, batch: &Batch) -> Result<Option<WrittenMessage>, AllocError>
     requires few { length batch.now.columns ≤ most_columns }
     ensures found { IfOk result (λ found. IsSome found ↔ (body_length batch.now < 2 ^ 31)) }
-    ensures header { IfOk result (λ found. IfSome found (λ message. length message.header.items % 8 ≡ 0)) }
-    ensures body { IfOk result (λ found. IfSome found (λ message. length message.body.items % 8 ≡ 0)) }
+    ensures header { IfOk result
+        (λ found. IfSome found (λ message. length message.header.items % 8 ≡ 0)) }
+    ensures body { IfOk result
+        (λ found. IfSome found (λ message. length message.body.items % 8 ≡ 0)) }
     ensures parts { IfOk result (λ found. IfSome found (λ message.
         SaysParts (written_seen message) (parts_written batch.now))) }
-    ensures rows { IfOk result (λ found. IfSome found (λ message. SaysBatch (written_seen message) batch.now)) }
+    ensures rows { IfOk result
+        (λ found. IfSome found (λ message. SaysBatch (written_seen message) batch.now)) }
     ensures zeros { IfOk result (λ found. IfSome found (λ message. message.body.items
         ≡ body_of (buffers_written batch.now.columns))) }
 {
@@ -64,7 +69,8 @@ fn values_batch(alloc: Global, values: &Texts) -> Result<Batch, AllocError>
     Ok(Batch::new(columns, values.len()))
 }
 
-// The DictionaryBatch table of an id, of the table of its values, and whether they stand behind the old ones.
+// The DictionaryBatch table of an id, of the table of its values, and whether they stand after the
+// old ones.
 #[tactic(auto, using(flatbuf::proofs::Lengths::fits))]
 fn dictionary_block(
     alloc: Global,
@@ -107,11 +113,11 @@ fn dictionary_header(
     )
 }
 
-/// The message of a dictionary's values, which are set or, where they are a delta, stand behind the old
-/// ones. The values may be null, and their buffers are written as those of a batch of one column: each
-/// begins at a multiple of 8 in the body, with zeros between, and the offsets begin at 0. The header claims
-/// all of the body, and both have a multiple of 8 bytes, the header at most 8,192. `None` where the body would
-/// have 2 to the 31 bytes or more.
+/// The message of a dictionary's values, which are set or, where they are a delta, stand after the
+/// old ones. The values may be null, and their buffers are written as those of a batch of one
+/// column: each begins at a multiple of 8 in the body, with zeros between, and the offsets begin at
+/// 0. The header claims all of the body, and both have a multiple of 8 bytes, the header at most
+/// 8,192. `None` where the body would have 2 to the 31 bytes or more.
 ///
 /// # Errors
 ///
@@ -122,14 +128,19 @@ pub fn write_dictionary(
     values: &Texts,
     is_delta: bool,
 ) -> Result<Option<WrittenMessage>, AllocError>
-    ensures found { IfOk result (λ found. IsSome found ↔ (body_length (values_batch values.now) < 2 ^ 31)) }
-    ensures header { IfOk result (λ found. IfSome found (λ message. length message.header.items % 8 ≡ 0)) }
-    ensures short { IfOk result (λ found. IfSome found (λ message. length message.header.items ≤ most_header_bytes)) }
-    ensures body { IfOk result (λ found. IfSome found (λ message. length message.body.items % 8 ≡ 0)) }
-    ensures parts { IfOk result (λ found. IfSome found (λ message. SaysDictionaryParts (written_seen message) id
+    ensures found { IfOk result
+        (λ found. IsSome found ↔ (body_length (values_batch values.now) < 2 ^ 31)) }
+    ensures header { IfOk result
+        (λ found. IfSome found (λ message. length message.header.items % 8 ≡ 0)) }
+    ensures short { IfOk result
+        (λ found. IfSome found (λ message. length message.header.items ≤ most_header_bytes)) }
+    ensures body { IfOk result
+        (λ found. IfSome found (λ message. length message.body.items % 8 ≡ 0)) }
+    ensures parts { IfOk result
+        (λ found. IfSome found (λ message. SaysDictionaryParts (written_seen message) id
         (parts_written (values_batch values.now)) is_delta)) }
-    ensures values { IfOk result (λ found. IfSome found (λ message. SaysValues (written_seen message) id
-        (texts_values values.now) is_delta)) }
+    ensures values { IfOk result (λ found. IfSome found
+        (λ message. SaysValues (written_seen message) id (texts_values values.now) is_delta)) }
     ensures zeros { IfOk result (λ found. IfSome found (λ message. message.body.items
         ≡ body_of (buffers_written (values_batch values.now).columns))) }
 {

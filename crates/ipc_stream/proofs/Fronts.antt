@@ -58,7 +58,7 @@ header_unread bytes len has none = record {
       none (length message.body) (subst (λ (h : List ℕ). ClaimsBody h (length message.body)) (sym s.header) is.claims);
 }
 
--- bytes are their first ones, those behind them and the rest
+-- bytes are their first ones, those after them and the rest
 parts_join : (bytes : List ℕ) (len size : ℕ) → (take len bytes ++ take size (drop len bytes)) ++ drop size (drop len bytes) ≡ bytes
 parts_join bytes len size =
     append_assoc (take len bytes) (take size (drop len bytes)) (drop size (drop len bytes))

@@ -33,7 +33,7 @@ five-claims : ClaimsBody five 5
 unfolding vtable_of field_of scalar_of
 five-claims = record { message = record { kind = kinds.Schema; table = record { bytes = five; at = 16 } }; root = refl; claimed = refl; fits = lit< tt }
 
--- two messages, the end marker, and a byte behind it
+-- two messages, the end marker, and a byte after it
 abbrev second : IpcMessage
 second = record { header = five; body = 1 ∷ 2 ∷ 3 ∷ 4 ∷ 5 ∷ [] }
 

@@ -70,7 +70,7 @@ pub at_most_one : (stream : List ℕ) (messages others : List IpcMessage) (rest 
 at_most_one stream messages others rest left f g =
     one_list messages others rest left (recursion_from_All IsMessage messages f.each) (recursion_from_All IsMessage others g.each) (sym f.whole ∙ g.whole) f.ends g.ends
 
--- a slice from a place on is what is left behind it
+-- a slice from a place on is what is left after it
 rest_whole : (bytes : List ℕ) (at : ℕ) → slice_range bytes at (length bytes) ≡ drop at bytes
 rest_whole bytes at = ap (λ (n : ℕ). take n (drop at bytes)) (sym (length-drop at bytes)) ∙ take-length (drop at bytes)
 

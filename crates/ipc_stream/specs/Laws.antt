@@ -13,8 +13,8 @@ AtMostOneList =
     → Framed stream messages rest → Framed stream others left
     → (messages ≡ others) × (rest ≡ left)
 
--- In the words of the FlatBuffers format: slot 3 of the buffer's root table has this number, in eight bytes, or it is
--- absent and the number 0. It is not negative.
+-- In the words of the FlatBuffers format: slot 3 of the buffer's root table has this number, in
+-- eight bytes, or it is absent and the number 0. It is not negative.
 pub record SaysBody (header : List ℕ) (size : ℕ) : Type 0 where
   pub table : TableAt
   pub root : HasRoot header table
@@ -23,9 +23,10 @@ pub record SaysBody (header : List ℕ) (size : ℕ) : Type 0 where
 
 -- a header claims just the body that it says in those words
 abbrev pub ClaimsAreSaid : Type 0
-ClaimsAreSaid = (header : List ℕ) (size : ℕ) → IsBytes header → ClaimsBody header size ↔ SaysBody header size
+ClaimsAreSaid =
+    (header : List ℕ) (size : ℕ) → IsBytes header → ClaimsBody header size ↔ SaysBody header size
 
--- a header in IPC form with a body behind it is the frame of a message, whose header has its zeros
+-- a header in IPC form with a body after it is the frame of a message, whose header has its zeros
 abbrev pub FramesAreEncapsulated : Type 0
 FramesAreEncapsulated = (header body : List ℕ)
     → encapsulated header ++ body ≡ frame (record { header = padded header; body = body })

@@ -41,7 +41,8 @@ fn header_len(bytes: &[u8]) -> Result<Option<usize>, Fault>
     Ok(Some(len as usize))
 }
 
-// How many bytes of body a header claims, whatever its kind and version: none where it does not say.
+// How many bytes of body a header claims, whatever its kind and version: none where it does not
+// say.
 fn body_len(header: &[u8]) -> Result<u64, Fault>
     ensures { FindsBody header.now result }
 {

@@ -12,7 +12,7 @@ pub fn claims_are_said()
     ensures { ClaimsAreSaid }
 {}
 
-/// A header that is written in IPC form, and a body behind it, are a message of a stream.
+/// A header that is written in IPC form, and a body after it, are a message of a stream.
 pub fn frames_are_encapsulated()
     ensures { FramesAreEncapsulated }
 {}

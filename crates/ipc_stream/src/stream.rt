@@ -38,17 +38,19 @@ fn message_at(stream: &Bytes, at: usize, frame: Frame) -> Result<IpcMessage, All
     })
 }
 
-/// The messages of an Arrow IPC stream, in order, up to its end marker or its end. What follows the end marker is not
-/// read. Headers and bodies are cuts of the stream: no byte is copied.
+/// The messages of an Arrow IPC stream, in order, up to its end marker or its end. What follows the
+/// end marker is not read. Headers and bodies are cuts of the stream: no byte is copied.
 ///
-/// A message has the word `FF FF FF FF`, the length of its header in 32 bits, its header, and as many bytes of body as
-/// the header claims, 0 where it does not say. Nothing else of a header is looked at.
+/// A message has the word `FF FF FF FF`, the length of its header in 32 bits, its header, and as
+/// many bytes of body as the header claims, 0 where it does not say. Nothing else of a header is
+/// looked at.
 ///
 /// # Errors
 ///
-/// - F6 (`Fault::BadFlatbuffer`) for another word in a message's place, a negative length, a header that does not
-///   read, and an input that ends inside a message.
-/// - F21 (`Fault::OutOfMemory`) where memory is refused, and none of the others is due: the stream is read first.
+/// - F6 (`Fault::BadFlatbuffer`) for another word in a message's place, a negative length, a header
+///   that does not read, and an input that ends inside a message.
+/// - F21 (`Fault::OutOfMemory`) where memory is refused, and none of the others is due: the stream
+///   is read first.
 pub fn ipc_messages(alloc: Global, stream: &Bytes) -> Result<Vec<IpcMessage>, Fault>
     ensures exact { MatchResult result
         (λ messages. (rest : List ℕ) × Framed stream.now messages.items rest)

@@ -91,7 +91,7 @@ types_same j sides (number ∷ shown) same within =
     ∙ ap (λ (types : List DataType). joined_type (joiner_of j) number ∷ types)
     (types_same j sides shown same (All-tail (λ (number : ℕ). number < width_of sides) number shown within))
 
--- these columns of the next rows, and the rows behind them
+-- these columns of the next rows, and the rows after them
 pub gives_shown : (j : Inside) (sides : Sides) (shown : List ℕ) (pairs : List Pair) (batch : BatchAt) (rows : ℕ) → IsJoiner j → sides.left.now ≡ j.left.batch →
     sides.left_types.now ≡ (sides_of j).left.types.items → sides.rights.now ≡ (sides_of j).build.batches → sides.right_types.now ≡ (sides_of j).right_types.items →
     pairs ≡ drop j.left.given j.left.pairs.items → rows ≡ batch.rows → AreWithin sides shown → IsBatchOf sides shown pairs batch →

@@ -9,8 +9,10 @@ use Rattle.join_batches.specs.Joiner.{JoinerAt}
 -- both sides are of their types, with the columns of the keys, as many at the left as at the right
 pub record AreBuilt (sides : BuiltSides) : Type 0 where
   pub alike : length sides.left.key.items ≡ length sides.build.key
-  pub key_there : IsTrue (list_all (λ column. nat_lt column (length sides.left.types.items)) sides.left.key.items)
-  pub rights_typed : All (λ (batch : BatchAt). AreOf sides.right_types.items batch.columns) sides.build.batches
+  pub key_there : IsTrue
+      (list_all (λ column. nat_lt column (length sides.left.types.items)) sides.left.key.items)
+  pub rights_typed : All (λ (batch : BatchAt). AreOf sides.right_types.items batch.columns)
+      sides.build.batches
 
 -- nothing is to be given
 abbrev pub unfed : BuiltSides → JoinerAt

@@ -14,7 +14,10 @@ sides_of j = arc_value j.sides
 
 -- what a contract sees
 abbrev pub joiner_of : Inside → JoinerAt
-joiner_of j = record (unfed (sides_of j)) { ahead = map (pair_row (sides_of j).build.batches j.left.batch) (pairs_left (sides_of j) j.left) }
+joiner_of j = record (unfed (sides_of j)) {
+  ahead =
+      map (pair_row (sides_of j).build.batches j.left.batch) (pairs_left (sides_of j) j.left);
+}
 
 -- both sides are of their types, and the left batch is one of them
 pub record IsJoiner (j : Inside) : Type 0 where

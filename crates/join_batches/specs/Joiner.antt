@@ -1,5 +1,6 @@
 -- The joined rows of a left batch, batch by batch.
-use Rattle.std.specs.Prelude.{◌≡◌, ◌≤◌, ◌<◌, ℕ, All, List, [], ◌++◌, length, map, slice_get, unwrap_or, Option, Some, None, Result, Ok, Err}
+use Rattle.std.specs.Prelude.{◌≡◌, ◌≤◌, ◌<◌, ℕ, All, List, [], ◌++◌, length, map, slice_get}
+use Rattle.std.specs.Prelude.{unwrap_or, Option, Some, None, Result, Ok, Err}
 use Rattle.std.specs.List.{filter, flat_map}
 use Rattle.std.specs.declared.alloc.AllocError.{AllocError}
 use Rattle.arrow_schema.specs.declared.data_type.DataType.{DataType}
@@ -13,8 +14,8 @@ use Rattle.array_select.specs.Room.{most_batch_rows}
 use Rattle.batch_room.specs.Room.{HasRoom}
 use Rattle.hash_join.specs.Pairs.{key_in, keys_join}
 
--- The types of the columns of both sides, the numbers of those that are the key, the rows of the right side in order, and
--- the joined rows of the left batch that are still to be given.
+-- The types of the columns of both sides, the numbers of those that are the key, the rows of the
+-- right side in order, and the joined rows of the left batch that are still to be given.
 pub record JoinerAt : Type 0 where
   pub left_types : List DataType
   pub right_types : List DataType
@@ -27,7 +28,8 @@ pub record JoinerAt : Type 0 where
 abbrev pub joined_with : JoinerAt → List Value → List (List Value)
 joined_with joiner left =
     map (λ right. left ++ right)
-    (filter (λ right. keys_join (key_in joiner.left_key left) (key_in joiner.right_key right)) joiner.rights)
+    (filter (λ right. keys_join (key_in joiner.left_key left) (key_in joiner.right_key right))
+    joiner.rights)
 
 -- the joined rows of left rows, in the order of nested loops
 abbrev pub joined_of : JoinerAt → List (List Value) → List (List Value)
@@ -54,14 +56,16 @@ pub record GivesJoined (before : JoinerAt) (batch : BatchAt) (after : JoinerAt) 
   pub room : HasRoom batch
   pub on : after ≡ record before { ahead = after.ahead }
 
--- The next joined batch, or none where no row is left. Where memory is refused the same rows come next.
+-- The next joined batch, or none where no row is left. Where memory is refused the same rows come
+-- next.
 abbrev pub JoinsNext : JoinerAt → Result (Option BatchAt) AllocError → JoinerAt → Type 0
 JoinsNext before (Ok (Some batch)) after = GivesJoined before batch after
 JoinsNext before (Ok None) after = (before.ahead ≡ []) × (after ≡ before)
 JoinsNext before (Err _) after = after ≡ before
 
 -- a batch has these columns of the next joined rows, one or more, and few cells and texts
-pub record GivesShown (before : JoinerAt) (shown : List ℕ) (batch : BatchAt) (after : JoinerAt) : Type 0 where
+pub record GivesShown (before : JoinerAt) (shown : List ℕ) (batch : BatchAt)
+    (after : JoinerAt) : Type 0 where
   pub rows : List (List Value)
   pub next : before.ahead ≡ rows ++ after.ahead
   pub wide : All (λ (row : List Value). length row ≡ length (joined_types before)) rows
@@ -72,7 +76,8 @@ pub record GivesShown (before : JoinerAt) (shown : List ℕ) (batch : BatchAt) (
   pub room : HasRoom batch
   pub on : after ≡ record before { ahead = after.ahead }
 
--- These columns of the next joined rows, or none where no row is left. Where memory is refused the same rows come next.
+-- These columns of the next joined rows, or none where no row is left. Where memory is refused the
+-- same rows come next.
 abbrev pub JoinsShown : JoinerAt → List ℕ → Result (Option BatchAt) AllocError → JoinerAt → Type 0
 JoinsShown before shown (Ok (Some batch)) after = GivesShown before shown batch after
 JoinsShown before shown (Ok None) after = (before.ahead ≡ []) × (after ≡ before)

@@ -8,12 +8,14 @@ use Rattle.join_batches.specs.declared.joiner.BuiltSides.{BuiltSides}
 use Rattle.join_batches.specs.declared.left.LeftPairs.{LeftPairs}
 use Rattle.join_batches.specs.Rows.{IsPair}
 
--- the pairs that are still to be given: of those that were found, and those that are still to be found
+-- the pairs that are still to be given: of those that were found, and those that are still to be
+-- found
 abbrev pub pairs_left : BuiltSides → LeftPairs → List Pair
-pairs_left sides left = drop left.given left.pairs.items ++ pairs_ahead sides.build left.batch sides.left.key.items left.probe
+pairs_left sides left = drop left.given left.pairs.items
+    ++ pairs_ahead sides.build left.batch sides.left.key.items left.probe
 
--- The batch is of the left types, its pairs are there, and both are few enough to be counted. As long as no left batch was
--- joined, one without rows stands in its place.
+-- The batch is of the left types, its pairs are there, and both are few enough to be counted. As
+-- long as no left batch was joined, one without rows stands in its place.
 pub record IsLeft (sides : BuiltSides) (left : LeftPairs) : Type 0 where
   pub typed : 0 < left.batch.rows → AreOf sides.left.types.items left.batch.columns
   pub few : left.batch.rows ≤ most_batch_rows

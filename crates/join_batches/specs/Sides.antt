@@ -1,5 +1,6 @@
 -- Inside: the columns of the rows that pairs stand for.
-use Rattle.std.specs.Prelude.{◌≡◌, ◌≤◌, ◌<◌, ◌+◌, ℕ, All, if◌then◌else◌, List, ◌++◌, length, map, take, get_or, nat_lt}
+use Rattle.std.specs.Prelude.{◌≡◌, ◌≤◌, ◌<◌, ◌+◌, ℕ, All, if◌then◌else◌, List, ◌++◌, length, map}
+use Rattle.std.specs.Prelude.{take, get_or, nat_lt}
 use Rattle.std.specs.List.{AllZip}
 use Rattle.arrow_schema.specs.declared.data_type.DataType.{DataType}
 use Rattle.arrow_schema.specs.declared.data_type.DataType.TheVariants.{Utf8}
@@ -61,7 +62,8 @@ right_place pair = record { column = pair.batch; place = pair.row }
 
 -- the place of a cell of a pair's row
 abbrev pub place_for : Sides → ℕ → Pair → SlotPlace
-place_for sides number pair = if nat_lt number (length sides.left_types.now) then left_place pair else right_place pair
+place_for sides number pair =
+    if nat_lt number (length sides.left_types.now) then left_place pair else right_place pair
 
 -- there is a place for each pair
 pub record ArePlaced (placed : Placed) : Type 0 where
@@ -71,9 +73,11 @@ pub record ArePlaced (placed : Placed) : Type 0 where
 -- columns of a column's type have the cells of the rows that pairs stand for
 pub record AreSources (sides : Sides) (number : ℕ) (columns : List ColumnAt) : Type 0 where
   pub typed : All (λ column. IsOfType (get_or (types_of sides) number Utf8) column.layout) columns
-  pub there : (pair : Pair) → IsPair sides.rights.now sides.left.now pair → IsPlaceIn columns (place_for sides number pair)
+  pub there : (pair : Pair) → IsPair sides.rights.now sides.left.now pair →
+      IsPlaceIn columns (place_for sides number pair)
   pub cells : (pair : Pair) → IsPair sides.rights.now sides.left.now pair →
-      value_in columns (place_for sides number pair) ≡ cell_in (pair_row sides.rights.now sides.left.now pair) number
+      value_in columns (place_for sides number pair)
+      ≡ cell_in (pair_row sides.rights.now sides.left.now pair) number
 
 -- a column of rows
 abbrev pub cells_of : List (List Value) → ℕ → List Value
@@ -85,7 +89,8 @@ type_in sides number = get_or (types_of sides) number Utf8
 
 -- the texts of a column of rows are light, where those of a column of texts may have so many bytes
 abbrev pub AreLightIn : Sides → ℕ → List Pair → ℕ → Type 0
-AreLightIn sides share pairs number = AreLight (allowed share (type_in sides number)) (cells_of (rows_at sides pairs) number)
+AreLightIn sides share pairs number =
+    AreLight (allowed share (type_in sides number)) (cells_of (rows_at sides pairs) number)
 
 -- the texts of a column of so many rows, from the first on, are light
 pub record FitsIn (sides : Sides) (share : ℕ) (pairs : List Pair) (number count : ℕ) : Type 0 where
@@ -94,7 +99,8 @@ pub record FitsIn (sides : Sides) (share : ℕ) (pairs : List Pair) (number coun
   pub light : AreLightIn sides share (take count pairs) number
 
 -- the texts of these columns of so many rows are light
-pub record AllFit (sides : Sides) (share : ℕ) (pairs : List Pair) (shown : List ℕ) (count : ℕ) : Type 0 where
+pub record AllFit (sides : Sides) (share : ℕ) (pairs : List Pair) (shown : List ℕ)
+    (count : ℕ) : Type 0 where
   pub some : 0 < count
   pub within : count ≤ length pairs
   pub light : All (AreLightIn sides share (take count pairs)) shown
@@ -113,10 +119,12 @@ abbrev pub AreWithin : Sides → List ℕ → Type 0
 AreWithin sides shown = All (λ number. number < width_of sides) shown
 
 -- a batch has these columns of the rows of the first of these pairs
-pub record IsBatchOf (sides : Sides) (shown : List ℕ) (pairs : List Pair) (batch : BatchAt) : Type 0 where
+pub record IsBatchOf (sides : Sides) (shown : List ℕ) (pairs : List Pair)
+    (batch : BatchAt) : Type 0 where
   pub some : 0 < batch.rows
   pub few : batch.rows ≤ length pairs
-  pub wide : All (λ (row : List Value). length row ≡ width_of sides) (rows_at sides (take batch.rows pairs))
+  pub wide : All (λ (row : List Value). length row ≡ width_of sides)
+      (rows_at sides (take batch.rows pairs))
   pub rows_are : rows_of batch ≡ map (shown_cells shown) (rows_at sides (take batch.rows pairs))
   pub typed : AreOf (map (copied_at sides) shown) batch.columns
   pub room : HasRoom batch

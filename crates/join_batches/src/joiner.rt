@@ -1,6 +1,7 @@
 //! Joins of left batches with the rows of a right side.
 
-ghost use Rattle.std.specs.Prelude.{◌≡◌, ◌≤◌, ◌<◌, [], All, IfOk, IsTrue, OnOk, false, length, nat_lt, true};
+ghost use Rattle.std.specs.Prelude.{◌≡◌, ◌≤◌, ◌<◌, [], All, IfOk, IsTrue, OnOk, false, length};
+ghost use Rattle.std.specs.Prelude.{nat_lt, true};
 ghost use Rattle.std.specs.Arc.{arc_value};
 ghost use Rattle.std.specs.List.{list_all, flat_map, range_with_len};
 ghost use Rattle.scan_base.specs.Limits.{most_rows};
@@ -46,7 +47,8 @@ pub struct SeededSides {
     pub seed: HashSeed,
 }
 
-// What never changes of a join: the types of both sides, their keys, and the right rows by their keys. Joiners share it.
+// What never changes of a join: the types of both sides, their keys, and the right rows by their
+// keys. Joiners share it.
 pub(crate) struct BuiltSides {
     pub(crate) left: JoinSide,
     pub(crate) right_types: Vec<DataType>,
@@ -64,8 +66,8 @@ impl Drop for BuiltSides {
     }
 }
 
-/// The right side of a join, and the left batch whose joined rows are given. A contract sees the right rows, and the joined
-/// rows that are still to be given. Joiners of one right side share it.
+/// The right side of a join, and the left batch whose joined rows are given. A contract sees the
+/// right rows, and the joined rows that are still to be given. Joiners of one right side share it.
 pub struct Joiner {
     sides: Arc<BuiltSides>,
     left: LeftPairs,
@@ -100,8 +102,9 @@ impl Model for Joiner {
 }
 
 impl Joiner {
-    /// The join of left batches with the rows of the right batches, in order, by the keys of both sides. No left batch
-    /// is there yet. Who watches is told of the right rows while they are hashed, and may end it.
+    /// The join of left batches with the rows of the right batches, in order, by the keys of both
+    /// sides. No left batch is there yet. Who watches is told of the right rows while they are
+    /// hashed, and may end it.
     ///
     /// # Errors
     ///
@@ -112,12 +115,15 @@ impl Joiner {
         batches: Vec<Batch>,
         watch: &mut W,
     ) -> Result<Joiner, AllocError>
-        requires typed { All (λ (batch : BatchAt). AreOf seeded.sides.right.types.items batch.columns) batches.items }
+        requires typed { All (λ (batch : BatchAt). AreOf seeded.sides.right.types.items
+            batch.columns) batches.items }
         requires few { length (places batches.items) ≤ most_rows }
         requires counted { length batches.items ≤ most_rows }
         requires alike { length seeded.sides.left.key.items ≡ length seeded.sides.right.key.items }
-        requires left { IsTrue (list_all (λ column. nat_lt column (length seeded.sides.left.types.items)) seeded.sides.left.key.items) }
-        requires right { IsTrue (list_all (λ column. nat_lt column (length seeded.sides.right.types.items)) seeded.sides.right.key.items) }
+        requires left { IsTrue (list_all (λ column. nat_lt column
+            (length seeded.sides.left.types.items)) seeded.sides.left.key.items) }
+        requires right { IsTrue (list_all (λ column. nat_lt column
+            (length seeded.sides.right.types.items)) seeded.sides.right.key.items) }
         requires ready { W.ready watch.old }
         ensures joiner { IfOk result (λ joiner. joiner ≡ record {
           left_types = seeded.sides.left.types.items;
@@ -129,7 +135,8 @@ impl Joiner {
         }) }
         ensures ready { OnOk result (W.ready watch.new) }
         ensures watched { W.watched watch.old watch.new }
-        ensures told { OnOk result (ToldAtLeast W.told (length (places batches.items)) watch.old watch.new) }
+        ensures told { OnOk result
+            (ToldAtLeast W.told (length (places batches.items)) watch.old watch.new) }
     {
         let SeededSides { sides, seed } = seeded;
         let JoinSides { left, right } = sides;
@@ -180,16 +187,16 @@ impl Joiner {
         }
     }
 
-    /// From now on a batch is tried with so many joined rows at most, but with one at least. A joiner begins with 65,536. What is
-    /// to be given stays.
+    /// From now on a batch is tried with so many joined rows at most, but with one at least. A
+    /// joiner begins with 65,536. What is to be given stays.
     pub fn bound_rows(&mut self, most: usize)
         ensures { self.new ≡ self.old }
     {
         self.bound = most;
     }
 
-    /// Joins a left batch next: all joined rows of the one before were given. How its rows are cut into batches does not hang on the
-    /// left batches before it.
+    /// Joins a left batch next: all joined rows of the one before were given. How its rows are cut
+    /// into batches does not hang on the left batches before it.
     pub fn feed(&mut self, batch: Batch)
         requires typed { AreOf self.old.left_types batch.columns }
         requires few { batch.rows ≤ most_batch_rows }
@@ -203,8 +210,8 @@ impl Joiner {
         self.most = MOST_BATCH_ROWS;
     }
 
-    /// Finds the next pairs of rows that join, where all that were found were given. Whether some are there: where none are, no
-    /// joined row is left. What is still to be given stays.
+    /// Finds the next pairs of rows that join, where all that were found were given. Whether some
+    /// are there: where none are, no joined row is left. What is still to be given stays.
     ///
     /// # Errors
     ///
@@ -217,13 +224,14 @@ impl Joiner {
         self.left.find(alloc, &self.sides)
     }
 
-    /// The next joined rows of the left batch as a batch: one row or more, no more than 65,536, which has room where it is more
-    /// than one: no more than 131,072 cells, and no more than 2 MB of text in all. `None` where no row is left.
+    /// The next joined rows of the left batch as a batch: one row or more, no more than 65,536,
+    /// which has room where it is more than one: no more than 131,072 cells, and no more than 2 MB
+    /// of text in all. `None` where no row is left.
     ///
     /// # Errors
     ///
-    /// `AllocError` where memory is refused, or where one text has so many bytes that no offset names the last: 2 to the 31
-    /// or more. The same rows come next.
+    /// `AllocError` where memory is refused, or where one text has so many bytes that no offset
+    /// names the last: 2 to the 31 or more. The same rows come next.
     pub fn next(&mut self, alloc: Global) -> Result<Option<Batch>, AllocError>
         ensures { JoinsNext self.old result self.new }
     {
@@ -231,20 +239,22 @@ impl Joiner {
         self.next_shown(alloc, all.as_slice())
     }
 
-    /// These columns of the next joined rows of the left batch, by their numbers, as a batch: one row or more, no more than
-    /// 65,536, which has room where it is more than one: no more than 131,072 cells, and no more than 2 MB of text in all. No
-    /// other column is gathered. `None` where no row is left.
+    /// These columns of the next joined rows of the left batch, by their numbers, as a batch: one
+    /// row or more, no more than 65,536, which has room where it is more than one: no more than
+    /// 131,072 cells, and no more than 2 MB of text in all. No other column is gathered. `None`
+    /// where no row is left.
     ///
     /// # Errors
     ///
-    /// `AllocError` where memory is refused, or where one text has so many bytes that no offset names the last: 2 to the 31
-    /// or more. The same rows come next.
+    /// `AllocError` where memory is refused, or where one text has so many bytes that no offset
+    /// names the last: 2 to the 31 or more. The same rows come next.
     pub fn next_shown(
         &mut self,
         alloc: Global,
         shown: &[usize],
     ) -> Result<Option<Batch>, AllocError>
-        requires { IsTrue (list_all (λ number. nat_lt number (length (joined_types self.old))) shown.now) }
+        requires { IsTrue
+            (list_all (λ number. nat_lt number (length (joined_types self.old))) shown.now) }
         ensures { JoinsShown self.old shown.now result self.new }
     {
         let built: &BuiltSides = &self.sides;

@@ -1,6 +1,7 @@
 //! A left batch, and its pairs.
 
-ghost use Rattle.std.specs.Prelude.{◌≡◌, ◌≤◌, ◌<◌, ◌++◌, [], All, IfOk, IsTrue, OnErr, false, length, nat_lt, true};
+ghost use Rattle.std.specs.Prelude.{◌≡◌, ◌≤◌, ◌<◌, ◌++◌, [], All, IfOk, IsTrue, OnErr, false};
+ghost use Rattle.std.specs.Prelude.{length, nat_lt, true};
 ghost use Rattle.std.specs.List.{list_all};
 ghost use Rattle.array_select.specs.Room.{most_batch_rows};
 ghost use Rattle.hash_join.specs.Pairs.{pairs_ahead};
@@ -41,7 +42,8 @@ impl LeftPairs {
         requires built { AreBuilt sides.now }
         requires left { IsLeft sides.now self.old }
         ensures kept { KeepsPairs sides.now self.old self.new }
-        ensures some { IfOk result (λ found. found ≡ true → self.new.given < length self.new.pairs.items) }
+        ensures some { IfOk result
+            (λ found. found ≡ true → self.new.given < length self.new.pairs.items) }
         ensures none { IfOk result (λ found. found ≡ false → pairs_left sides.now self.old ≡ []) }
     {
         if self.given < self.pairs.len() {
@@ -66,14 +68,18 @@ fn next_pairs(
 ) -> Result<Vec<Pair>, AllocError>
     requires alike { length left.now.key.now ≡ length build.now.key }
     requires key { 0 < left.now.batch.now.rows →
-        IsTrue (list_all (λ column. nat_lt column (length left.now.batch.now.columns)) left.now.key.now) }
+        IsTrue
+        (list_all (λ column. nat_lt column (length left.now.batch.now.columns)) left.now.key.now) }
     requires few { left.now.batch.now.rows ≤ most_batch_rows }
-    ensures next { IfOk result (λ pairs. pairs.items ++ pairs_ahead build.now left.now.batch.now left.now.key.now probe.new
+    ensures next { IfOk result
+        (λ pairs. pairs.items ++ pairs_ahead build.now left.now.batch.now left.now.key.now probe.new
         ≡ pairs_ahead build.now left.now.batch.now left.now.key.now probe.old) }
-    ensures there { IfOk result (λ pairs. All (IsPair build.now.batches left.now.batch.now) pairs.items) }
+    ensures there { IfOk result
+        (λ pairs. All (IsPair build.now.batches left.now.batch.now) pairs.items) }
     ensures few { IfOk result (λ pairs. length pairs.items ≤ most_batch_rows) }
     ensures some { IfOk result
-        (λ pairs. pairs.items ≡ [] → pairs_ahead build.now left.now.batch.now left.now.key.now probe.old ≡ []) }
+        (λ pairs. pairs.items ≡ [] →
+        pairs_ahead build.now left.now.batch.now left.now.key.now probe.old ≡ []) }
     ensures kept { OnErr result (probe.new ≡ probe.old) }
 {
     if left.batch.rows() == 0 {

@@ -7,8 +7,8 @@ use array_select::SlotPlace;
 use hash_join::Pair;
 use std::alloc::{AllocError, Global};
 
-// Pairs, and for each the place of its left row among the slots of a left column, and that of its right row among those of
-// the right columns.
+// Pairs, and for each the place of its left row among the slots of a left column, and that of its
+// right row among those of the right columns.
 #[derive(Clone, Copy, Drop)]
 pub(crate) struct Placed<'a> {
     pub(crate) pairs: &'a [Pair],

@@ -1,13 +1,16 @@
 //! The rows that pairs stand for, as columns.
 
-ghost use Rattle.std.specs.Prelude.{◌≡◌, ◌≤◌, ◌<◌, ◌^◌, ◌+◌, ◌*◌, ℕ, All, IfOk, length, map, nat_le, slice_index_or, true};
+ghost use Rattle.std.specs.Prelude.{◌≡◌, ◌≤◌, ◌<◌, ◌^◌, ◌+◌, ◌*◌, ℕ, All, IfOk, length, map};
+ghost use Rattle.std.specs.Prelude.{nat_le, slice_index_or, true};
 ghost use Rattle.std.specs.List.{AllZip};
 ghost use Rattle.arrow_schema.specs.Answer.{copied_type};
 ghost use Rattle.arrays.specs.Typed.{AreOf, IsOfType};
 ghost use Rattle.arrays.specs.Written.{texts_joined};
 ghost use Rattle.batch_room.specs.Room.{most_batch_cells, most_batch_texts};
-ghost use Rattle.join_batches.specs.Sides.{AllFit, AreSides, ArePairs, ArePlaced, AreSources, HoldCells, place_for};
-ghost use Rattle.join_batches.specs.Sides.{AreWithin, FitsIn, IsBatchOf, IsColumnOf, copied_at, cells_of, rows_at, type_in, types_of, width_of};
+ghost use Rattle.join_batches.specs.Sides.{AllFit, AreSides, ArePairs, ArePlaced, AreSources};
+ghost use Rattle.join_batches.specs.Sides.{HoldCells, place_for};
+ghost use Rattle.join_batches.specs.Sides.{AreWithin, FitsIn, IsBatchOf, IsColumnOf, copied_at};
+ghost use Rattle.join_batches.specs.Sides.{cells_of, rows_at, type_in, types_of, width_of};
 
 use crate::placed::{Placed, left_places, right_places};
 use array_select::{
@@ -29,7 +32,8 @@ pub(crate) struct Sides<'a> {
 }
 
 impl<'a> Sides<'a> {
-    // These columns of the joined rows of pairs, from the first on, as a batch: as many rows as have room in one.
+    // These columns of the joined rows of pairs, from the first on, as a batch: as many rows as
+    // have room in one.
     pub(crate) fn joined(
         &self,
         alloc: Global,
@@ -40,7 +44,8 @@ impl<'a> Sides<'a> {
         requires shown { AreWithin self.now shown.now }
         requires there { ArePairs self.now pairs.now }
         requires some { 0 < length pairs.now }
-        requires cells { 1 < length pairs.now → length pairs.now * length shown.now ≤ most_batch_cells }
+        requires cells { 1 < length pairs.now →
+            length pairs.now * length shown.now ≤ most_batch_cells }
         ensures { IfOk result (λ batch. IsBatchOf self.now shown.now pairs.now batch) }
     {
         let lefts = left_places(alloc, pairs)?;
@@ -69,7 +74,8 @@ impl<'a> Sides<'a> {
         Ok(types)
     }
 
-    // How many of the pairs, from the first on, have room in one batch of these columns, where the texts of one have a share.
+    // How many of the pairs, from the first on, have room in one batch of these columns, where the
+    // texts of one have a share.
     fn how_many_fit(
         &self,
         alloc: Global,
@@ -83,7 +89,8 @@ impl<'a> Sides<'a> {
         requires placed { ArePlaced placed.now }
         requires there { ArePairs self.now placed.now.pairs.now }
         requires some { 0 < length placed.now.pairs.now }
-        ensures { IfOk result (λ count. AllFit self.now share placed.now.pairs.now shown.now count) }
+        ensures { IfOk result
+            (λ count. AllFit self.now share placed.now.pairs.now shown.now count) }
     {
         let mut count = placed.pairs.len();
         for number in shown {
@@ -92,8 +99,9 @@ impl<'a> Sides<'a> {
         Ok(count)
     }
 
-    // How many of the pairs, from the first on, have room in one batch by their texts in a column: all of them, halved until
-    // the texts have no more bytes than the share. Only texts are looked at.
+    // How many of the pairs, from the first on, have room in one batch by their texts in a column:
+    // all of them, halved until the texts have no more bytes than the share. Only texts are looked
+    // at.
     fn how_many_fit_in(
         &self,
         alloc: Global,
@@ -129,7 +137,9 @@ impl<'a> Sides<'a> {
         requires there { ArePairs self.now placed.now.pairs.now }
         requires number { number < width_of self.now }
         ensures one { IfOk result (λ count. count ≡ 1) }
-        ensures named { IfOk result (λ _. length (texts_joined (cells_of (rows_at self.now placed.now.pairs.now) number)) < 2 ^ 31) }
+        ensures named { IfOk result
+            (λ _. length (texts_joined (cells_of (rows_at self.now placed.now.pairs.now) number))
+            < 2 ^ 31) }
     {
         if self.texts_fit(alloc, number, placed, MOST_OFFSET)? {
             Ok(1)
@@ -138,8 +148,8 @@ impl<'a> Sides<'a> {
         }
     }
 
-    // Whether the texts of all pairs in a column have no more than `most` bytes. The columns of right batches are listed only
-    // where they are no more than the pairs.
+    // Whether the texts of all pairs in a column have no more than `most` bytes. The columns of
+    // right batches are listed only where they are no more than the pairs.
     fn texts_fit(
         &self,
         alloc: Global,
@@ -151,7 +161,8 @@ impl<'a> Sides<'a> {
         requires placed { ArePlaced placed.now }
         requires there { ArePairs self.now placed.now.pairs.now }
         requires number { number < width_of self.now }
-        ensures { IfOk result (λ fit. fit ≡ nat_le (length (texts_joined (cells_of (rows_at self.now placed.now.pairs.now) number))) most) }
+        ensures { IfOk result (λ fit. fit ≡ nat_le (length
+            (texts_joined (cells_of (rows_at self.now placed.now.pairs.now) number))) most) }
     {
         if self.rights.len() > placed.pairs.len() {
             let slots = self.slots(alloc, number, placed.pairs)?;
@@ -173,10 +184,13 @@ impl<'a> Sides<'a> {
         requires shown { AreWithin self.now shown.now }
         requires placed { ArePlaced placed.now }
         requires there { ArePairs self.now placed.now.pairs.now }
-        requires named { All (λ number. length (texts_joined (cells_of (rows_at self.now placed.now.pairs.now) number)) < 2 ^ 31) shown.now }
+        requires named { All (λ number. length (texts_joined
+            (cells_of (rows_at self.now placed.now.pairs.now) number)) < 2 ^ 31) shown.now }
         ensures cells { IfOk result
-            (λ columns. AllZip (IsColumnOf (rows_at self.now placed.now.pairs.now)) shown.now columns.items) }
-        ensures typed { IfOk result (λ columns. AreOf (map (copied_at self.now) shown.now) columns.items) }
+            (λ columns. AllZip (IsColumnOf (rows_at self.now placed.now.pairs.now)) shown.now
+            columns.items) }
+        ensures typed { IfOk result
+            (λ columns. AreOf (map (copied_at self.now) shown.now) columns.items) }
     {
         let mut columns = Vec::with_capacity(alloc, shown.len())?;
         for number in shown {
@@ -197,9 +211,12 @@ impl<'a> Sides<'a> {
         requires placed { ArePlaced placed.now }
         requires there { ArePairs self.now placed.now.pairs.now }
         requires number { number < width_of self.now }
-        requires named { length (texts_joined (cells_of (rows_at self.now placed.now.pairs.now) number)) < 2 ^ 31 }
-        ensures cells { IfOk result (λ column. IsColumnOf (rows_at self.now placed.now.pairs.now) number column) }
-        ensures typed { IfOk result (λ column. IsOfType (copied_type (slice_index_or (types_of self.now) number DataType.Utf8)) column.layout) }
+        requires named { length
+            (texts_joined (cells_of (rows_at self.now placed.now.pairs.now) number)) < 2 ^ 31 }
+        ensures cells { IfOk result
+            (λ column. IsColumnOf (rows_at self.now placed.now.pairs.now) number column) }
+        ensures typed { IfOk result (λ column. IsOfType
+            (copied_type (slice_index_or (types_of self.now) number DataType.Utf8)) column.layout) }
     {
         if !self.is_gathered(number, placed) {
             return self.column_of_slots(alloc, number, placed.pairs);
@@ -209,11 +226,12 @@ impl<'a> Sides<'a> {
         gather_many(alloc, self.type_of(number), columns.as_slice(), places)
     }
 
-    // Whether a column of the joined rows is gathered: not of texts of dictionaries, nor of fewer pairs than there are right
-    // batches.
+    // Whether a column of the joined rows is gathered: not of texts of dictionaries, nor of fewer
+    // pairs than there are right batches.
     fn is_gathered(&self, number: usize, placed: &Placed<'_>) -> bool
         requires { number < width_of self.now }
-        ensures { result ≡ true → copied_type (slice_index_or (types_of self.now) number DataType.Utf8)
+        ensures { result ≡ true →
+            copied_type (slice_index_or (types_of self.now) number DataType.Utf8)
             ≡ slice_index_or (types_of self.now) number DataType.Utf8 }
     {
         is_plain(self.type_of(number)) && self.rights.len() <= placed.pairs.len()
@@ -229,19 +247,24 @@ impl<'a> Sides<'a> {
         requires sides { AreSides self.now }
         requires there { ArePairs self.now pairs.now }
         requires number { number < width_of self.now }
-        requires named { length (texts_joined (cells_of (rows_at self.now pairs.now) number)) < 2 ^ 31 }
-        ensures cells { IfOk result (λ column. IsColumnOf (rows_at self.now pairs.now) number column) }
-        ensures typed { IfOk result (λ column. IsOfType (copied_type (slice_index_or (types_of self.now) number DataType.Utf8)) column.layout) }
+        requires named { length (texts_joined (cells_of (rows_at self.now pairs.now) number))
+            < 2 ^ 31 }
+        ensures cells { IfOk result
+            (λ column. IsColumnOf (rows_at self.now pairs.now) number column) }
+        ensures typed { IfOk result (λ column. IsOfType
+            (copied_type (slice_index_or (types_of self.now) number DataType.Utf8)) column.layout) }
     {
         let slots = self.slots(alloc, number, pairs)?;
         column_of_slots(alloc, self.type_of(number), slots.as_slice())
     }
 
-    // The columns in which a column of the joined rows has its slots: one of the left batch, or one of each right batch.
+    // The columns in which a column of the joined rows has its slots: one of the left batch, or one
+    // of each right batch.
     fn sources(&self, alloc: Global, number: usize) -> Result<Vec<&'a Column>, AllocError>
         requires sides { AreSides self.now }
         requires number { number < width_of self.now }
-        ensures { IfOk result (λ columns. AreSources self.now number (map (λ column. column.now) columns.items)) }
+        ensures { IfOk result
+            (λ columns. AreSources self.now number (map (λ column. column.now) columns.items)) }
     {
         let count = self.left_types.len();
         if number < count {
@@ -256,7 +279,8 @@ impl<'a> Sides<'a> {
     fn left_source(&self, alloc: Global, number: usize) -> Result<Vec<&'a Column>, AllocError>
         requires sides { AreSides self.now }
         requires number { number < length self.now.left_types.now }
-        ensures { IfOk result (λ columns. AreSources self.now number (map (λ column. column.now) columns.items)) }
+        ensures { IfOk result
+            (λ columns. AreSources self.now number (map (λ column. column.now) columns.items)) }
     {
         let column = &self.left.columns()[number];
         let mut sources = Vec::new(alloc);
@@ -270,7 +294,8 @@ impl<'a> Sides<'a> {
         requires sides { AreSides self.now }
         requires number { number < length self.now.right_types.now }
         ensures { IfOk result (λ columns.
-            AreSources self.now (length self.now.left_types.now + number) (map (λ column. column.now) columns.items)) }
+            AreSources self.now (length self.now.left_types.now + number)
+            (map (λ column. column.now) columns.items)) }
     {
         let mut sources = Vec::with_capacity(alloc, self.rights.len())?;
         for batch in self.rights {
@@ -305,7 +330,8 @@ impl<'a> Sides<'a> {
         }
     }
 
-    // The slots of a column of the joined rows: those of the left columns, and then those of the right ones.
+    // The slots of a column of the joined rows: those of the left columns, and then those of the
+    // right ones.
     fn slots(
         &self,
         alloc: Global,
@@ -359,7 +385,8 @@ impl<'a> Sides<'a> {
         requires there { ArePairs self.now pairs.now }
         requires number { number < length self.now.right_types.now }
         ensures { IfOk result
-            (λ slots. HoldCells self.now (length self.now.left_types.now + number) pairs.now slots.items) }
+            (λ slots. HoldCells self.now
+            (length self.now.left_types.now + number) pairs.now slots.items) }
     {
         let mut slots = Vec::with_capacity(alloc, pairs.len())?;
         for pair in pairs {

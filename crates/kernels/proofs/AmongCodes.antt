@@ -50,7 +50,7 @@ either_false : (a : Bool) → (a || false) ≡ a
 either_false true = refl
 either_false false = refl
 
--- the item at a place stands in front of those behind it
+-- the item at a place stands in front of those after it
 pub item_first : {X : Type 0} (xs : List X) (i : ℕ) (x : X) → i < length xs → x ≡ get_or xs i x → drop i xs ≡ x ∷ drop (i + 1) xs
 item_first {X = X} xs i x low is = rw (add-one, drop-cons xs i x low) (ap (λ (y : X). y ∷ drop (suc i) xs) (sym is))
 

@@ -44,7 +44,7 @@ map_map : {X Y Z : Type 0} (g : Y → Z) (f : X → Y) (xs : List X) → map g (
 map_map g f [] = refl
 map_map g f (x ∷ xs) = ap (λ r. g (f x) ∷ r) (map_map g f xs)
 
--- which of them are so far from the ones behind
+-- which of them are so far from the ones after
 pub far_of : (offsets : List ℕ) (from far : ℕ) (begins ends : List ℕ) →
     begins ≡ map (λ j. little_from (4 * from + 4 * j) 4 offsets) (range_with_len 0 16) → ends ≡ map (λ j. little_from (4 * from + 4 + 4 * j) 4 offsets) (range_with_len 0 16) →
     map (λ z. z == far) (zip2 (λ a b. (a + (2 ^ 32 - b)) % 2 ^ 32) ends begins) ≡ tests (is_far far offsets) from 16

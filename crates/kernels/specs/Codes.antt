@@ -1,4 +1,5 @@
--- Inside: packed numbers by their bits: the code of a number is what its bits are as a number without a sign.
+-- Inside: packed numbers by their bits: the code of a number is what its bits are as a number
+-- without a sign.
 use Rattle.std.specs.Prelude.{ℕ, ◌==◌, Bool, false, List, Option, Some, None}
 use Rattle.std.specs.List.{list_any}
 use Rattle.arrow_schema.specs.declared.data_type.IntegerType.{IntegerType}

@@ -1,5 +1,6 @@
 -- Inside: what is said of the entries of a dictionary.
-use Rattle.std.specs.Prelude.{◌≡◌, ◌<◌, ℕ, ◌==◌, Bool, IsTrue, List, length, map, get_or, if◌then◌else◌}
+use Rattle.std.specs.Prelude.{◌≡◌, ◌<◌, ℕ, ◌==◌, Bool, IsTrue, List, length, map, get_or}
+use Rattle.std.specs.Prelude.{if◌then◌else◌}
 use Rattle.scan_base.specs.declared.truth.Truth.{Truth}
 use Rattle.scan_base.specs.declared.truth.Truth.TheVariants.{False, Unknown}
 use Rattle.scan_base.specs.declared.value.Value.{Value}
@@ -21,7 +22,8 @@ truths_at predicate values = map (truth_at predicate) values
 
 -- the entries of these indices are true, and all others are false
 abbrev pub AreTrueAt : List Truth → List ℕ → Type 0
-AreTrueAt truths indices = (index : ℕ) → index < length truths → get_or truths index Unknown ≡ truth_from (is_among indices index)
+AreTrueAt truths indices = (index : ℕ) → index < length truths →
+    get_or truths index Unknown ≡ truth_from (is_among indices index)
 
 -- what is said where nothing is known
 abbrev pub unless_known : Truth → Truth → Truth
@@ -34,4 +36,5 @@ by_entry truths of_null valid index = if valid then get_or truths index of_null 
 
 -- an index stands among others where its entry is true; it is false, where it does not
 abbrev pub IsPushed : List ℕ → ℕ → Truth → List ℕ → Type 0
-IsPushed olds index truth news = (other : ℕ) → truth_from (is_among news other) ≡ truth_or (truth_from (is_among olds other)) (if other == index then truth else False)
+IsPushed olds index truth news = (other : ℕ) → truth_from (is_among news other)
+    ≡ truth_or (truth_from (is_among olds other)) (if other == index then truth else False)

@@ -8,4 +8,5 @@ use Rattle.kernels.specs.Entries.{by_entry}
 
 -- the truth of a slot
 abbrev pub entry_truth : ByEntry → ℕ → Truth
-entry_truth s place = by_entry s.truths.now s.of_null (is_valid s.indices.validity.now place) (code_at s.indices.integer s.indices.values.now place)
+entry_truth s place = by_entry s.truths.now s.of_null (is_valid s.indices.validity.now place)
+    (code_at s.indices.integer s.indices.values.now place)

@@ -11,7 +11,10 @@ use Rattle.arrow_schema.specs.DataType.{bit_width}
 use Rattle.arrays.specs.Number.{number_from}
 use Rattle.kernels.specs.Codes.{is_among}
 
--- a number of the type is equal to an item where its code is one of the codes; of a null it is not known
-pub record AreCodesOf (integer : IntegerType) (items : List (Operand ℕ)) (codes : List ℕ) : Type 0 where
-  pub numbers : (cell : ℕ → Value) (code : ℕ) → code < 2 ^ bit_width integer → any_equal cell (Int (number_from integer code)) items ≡ truth_from (is_among codes code)
+-- a number of the type is equal to an item where its code is one of the codes; of a null it is not
+-- known
+pub record AreCodesOf (integer : IntegerType) (items : List (Operand ℕ))
+    (codes : List ℕ) : Type 0 where
+  pub numbers : (cell : ℕ → Value) (code : ℕ) → code < 2 ^ bit_width integer →
+      any_equal cell (Int (number_from integer code)) items ≡ truth_from (is_among codes code)
   pub nulls : (cell : ℕ → Value) → any_equal cell Null items ≡ Unknown

@@ -11,7 +11,8 @@ use Rattle.kernels.specs.declared.operands.Side.TheVariants.{Column, Value as Va
 -- an operand is the column of this number, or has this value in each row
 abbrev pub IsSideOf : Operand ℕ → Side → Type 0
 IsSideOf operand (Column number) = operand ≡ ColumnOperand number
-IsSideOf operand (ValueSide value) = (cell : ℕ → Value) → operand_value cell operand ≡ value_of value
+IsSideOf operand (ValueSide value) =
+    (cell : ℕ → Value) → operand_value cell operand ≡ value_of value
 
 -- whether a predicate is a comparison, BETWEEN or IN
 abbrev pub compares : Pred ℕ → Bool

@@ -8,9 +8,11 @@ use Rattle.kernels.specs.Words.{bit}
 -- the slots of 64 rows: a number where the row's bit is 1, and else null
 abbrev pub HasNumbers : ColumnAt → ℕ → List ℤ → ℕ → Type 0
 HasNumbers column from numbers knowns =
-    (row : ℕ) → row < 64 → slot_of column (from + row) ≡ (if bit knowns row then Int (get_or numbers row (pos 0)) else Null)
+    (row : ℕ) → row < 64 → slot_of column (from + row)
+    ≡ (if bit knowns row then Int (get_or numbers row (pos 0)) else Null)
 
 -- the same of truth values: a word has the slot's value where the row is known
 abbrev pub HasFlags : ColumnAt → ℕ → Word → Type 0
 HasFlags column from word =
-    (row : ℕ) → row < 64 → slot_of column (from + row) ≡ (if bit word.knowns row then Flag (bit word.truths row) else Null)
+    (row : ℕ) → row < 64 →
+    slot_of column (from + row) ≡ (if bit word.knowns row then Flag (bit word.truths row) else Null)

@@ -15,7 +15,8 @@ IsPart part = part.from + part.len ≤ part.column.now.len
 
 -- what a test says of each slot of a part
 abbrev pub said_of : (Value → Truth) → ColumnPart → List Truth
-said_of test part = map (λ place. test (slot_of part.column.now place)) (range_with_len part.from part.len)
+said_of test part =
+    map (λ place. test (slot_of part.column.now place)) (range_with_len part.from part.len)
 
 -- the rows are there, with the columns that are read
 pub record AreRows (rows : RowRange) : Type 0 where
@@ -24,7 +25,8 @@ pub record AreRows (rows : RowRange) : Type 0 where
 
 -- the cell of a row in a column, by the number under which it is read
 abbrev pub cell_of : RowRange → ℕ → ℕ → Value
-cell_of rows row number = cell_in (cells_at rows.columns.columns.now rows.columns.read.now row) number
+cell_of rows row number =
+    cell_in (cells_at rows.columns.columns.now rows.columns.read.now row) number
 
 -- what a test says of each of the rows
 abbrev pub said_in : (ℕ → Truth) → RowRange → List Truth

@@ -13,7 +13,13 @@ use Rattle.kernels.specs.Entries.{unless_known}
 -- slots of these packed indices into a dictionary
 abbrev pub indices_into : List Value → Packed → IndicesAt
 indices_into values indices =
-    record { index = indices.integer; validity = indices.validity.now; values = indices.values.now; dictionary = values; len = indices.count }
+    record {
+      index = indices.integer;
+      validity = indices.validity.now;
+      values = indices.values.now;
+      dictionary = values;
+      len = indices.count;
+    }
 
 -- the value of a code, and null without one
 abbrev pub value_of_code : List Value → Option ℕ → Value
@@ -32,11 +38,15 @@ pub record IsPairPlace (lefts rights : List Value) (left right : Value) (place :
 
 -- of two values that have codes this is the place; without one nothing is known of them
 abbrev pub IsPlaceIfAny : List Value → List Value → Value → Value → Option ℕ → Type 0
-IsPlaceIfAny lefts rights left right None = (comparison : Comparison) → compared comparison left right ≡ Unknown
+IsPlaceIfAny lefts rights left right None =
+    (comparison : Comparison) → compared comparison left right ≡ Unknown
 IsPlaceIfAny lefts rights left right (Some place) = IsPairPlace lefts rights left right place
 
--- there is a truth for each pair of codes, and where it is known it is that of the comparison of their values
-pub record ArePairTruths (comparison : Comparison) (lefts rights : List Value) (truths : List Truth) : Type 0 where
+-- there is a truth for each pair of codes, and where it is known it is that of the comparison of
+-- their values
+pub record ArePairTruths (comparison : Comparison) (lefts rights : List Value)
+    (truths : List Truth) : Type 0 where
   pub long : length truths ≡ length lefts * length rights
   pub stand : (left right : Value) (place : ℕ) → IsPairPlace lefts rights left right place →
-      unless_known (compared comparison left right) (get_or truths place Unknown) ≡ compared comparison left right
+      unless_known (compared comparison left right) (get_or truths place Unknown)
+      ≡ compared comparison left right

@@ -39,7 +39,8 @@ impl<'a> Packed<'a> {
     /// Which of the 64 slots from `from` on are valid.
     pub(crate) fn valid_word(&self, from: usize) -> u64
         requires { from + 64 ≤ self.now.count }
-        ensures { (row : ℕ) → row < 64 → bit result row ≡ is_valid self.now.validity.now (from + row) }
+        ensures { (row : ℕ) → row < 64 →
+            bit result row ≡ is_valid self.now.validity.now (from + row) }
     {
         let _count = self.count;
         valid_word(self.validity, from)
@@ -57,7 +58,8 @@ impl<'a> Packed<'a> {
     // Which of the 64 numbers from `from` on have a code.
     fn word_with_code(&self, from: usize, code: u64) -> u64
         requires { from + 64 ≤ self.now.count }
-        ensures { (row : ℕ) → row < 64 → bit result row ≡ (code_at self.now.integer self.now.values.now (from + row) == code) }
+        ensures { (row : ℕ) → row < 64 →
+            bit result row ≡ (code_at self.now.integer self.now.values.now (from + row) == code) }
     {
         let _count = self.count;
         word_with_code(self.integer, self.values, from, code)
@@ -78,7 +80,8 @@ impl<'a> Slots for Among<'a> {
 
     ghost count = { λ s. s.numbers.count };
 
-    ghost truth = { λ s place. where_known (is_valid s.numbers.validity.now place) (is_among s.codes.now (code_at s.numbers.integer s.numbers.values.now place)) };
+    ghost truth = { λ s place. where_known (is_valid s.numbers.validity.now place)
+        (is_among s.codes.now (code_at s.numbers.integer s.numbers.values.now place)) };
 
     fn truth(&self, place: usize) -> Truth {
         if !self.numbers.is_valid(place) {
@@ -109,7 +112,8 @@ fn contains(codes: &[u64], code: u64) -> bool
 // Which of the 64 numbers from `from` on have one of some codes.
 fn among_word(numbers: &Packed<'_>, codes: &[u64], from: usize) -> u64
     requires { from + 64 ≤ numbers.now.count }
-    ensures { (row : ℕ) → row < 64 → bit result row ≡ is_among codes.now (code_at numbers.now.integer numbers.now.values.now (from + row)) }
+    ensures { (row : ℕ) → row < 64 → bit result row
+        ≡ is_among codes.now (code_at numbers.now.integer numbers.now.values.now (from + row)) }
 {
     let mut word = 0u64;
     for code in codes {

@@ -32,7 +32,8 @@ struct ByPair<'a> {
     truths: &'a [Truth],
     width: usize,
     ghost wide: { width ≡ length pairs.now.right.now.dictionary.now },
-    ghost known: { ArePairTruths pairs.now.comparison pairs.now.left.now.dictionary.now pairs.now.right.now.dictionary.now truths.now },
+    ghost known: { ArePairTruths pairs.now.comparison pairs.now.left.now.dictionary.now
+        pairs.now.right.now.dictionary.now truths.now },
 }
 
 impl<'a> Slots for ByPair<'a> {
@@ -41,7 +42,9 @@ impl<'a> Slots for ByPair<'a> {
 
     ghost count = { λ s. s.pairs.now.count };
 
-    ghost truth = { λ s row. compared s.pairs.now.comparison (slot_of s.pairs.now.left.now.column.now row) (slot_of s.pairs.now.right.now.column.now row) };
+    ghost truth = { λ s row. compared s.pairs.now.comparison
+        (slot_of s.pairs.now.left.now.column.now row)
+        (slot_of s.pairs.now.right.now.column.now row) };
 
     fn truth(&self, place: usize) -> Truth {
         match pair_place(self.pairs, self.width, place) {
@@ -77,7 +80,8 @@ pub(crate) fn text_parts_compared(
     requires left { right.now.from + right.now.len ≤ left.now.column.now.len }
     requires right { IsPart right.now }
     ensures { IfOk result (λ found. IfSome found (λ mask. mask
-        ≡ map (λ row. compared comparison (slot_of left.now.column.now row) (slot_of right.now.column.now row)) (range_with_len right.now.from right.now.len))) }
+        ≡ map (λ row. compared comparison (slot_of left.now.column.now row)
+        (slot_of right.now.column.now row)) (range_with_len right.now.from right.now.len))) }
 {
     match left.column.layout() {
         Layout::Texts(cells) => {
@@ -102,7 +106,8 @@ fn coded_compared(
     requires left { right.now.from + right.now.len ≤ left.now.column.now.len }
     requires right { IsPart right.now }
     ensures { IfOk result (λ found. IfSome found (λ mask. mask
-        ≡ map (λ row. compared comparison (slot_of left.now.column.now row) (slot_of right.now.column.now row)) (range_with_len right.now.from right.now.len))) }
+        ≡ map (λ row. compared comparison (slot_of left.now.column.now row)
+        (slot_of right.now.column.now row)) (range_with_len right.now.from right.now.len))) }
 {
     let column = right.column;
     let _len = column.len();
@@ -134,8 +139,8 @@ fn coded_compared(
     }
 }
 
-// The truths of `len` rows from `from` on of two dictionaries: by their pairs of codes, or row by row where there are too
-// many pairs.
+// The truths of `len` rows from `from` on of two dictionaries: by their pairs of codes, or row by
+// row where there are too many pairs.
 fn codes_compared(
     alloc: Global,
     pairs: &CodedPairs<'_>,
@@ -145,7 +150,8 @@ fn codes_compared(
     requires within { from + len ≤ pairs.now.count }
     requires small { from + len < 2 ^ 64 }
     ensures { IfOk result (λ mask. mask
-        ≡ map (λ row. compared pairs.now.comparison (slot_of pairs.now.left.now.column.now row) (slot_of pairs.now.right.now.column.now row)) (range_with_len from len)) }
+        ≡ map (λ row. compared pairs.now.comparison (slot_of pairs.now.left.now.column.now row)
+        (slot_of pairs.now.right.now.column.now row)) (range_with_len from len)) }
 {
     match pair_truths(alloc, pairs, from, len)? {
         Some(truths) => {
@@ -162,7 +168,8 @@ fn codes_compared(
 
 // How many pairs of codes there are, where a table may have a truth for each.
 fn pair_count(pairs: &CodedPairs<'_>, rows: usize) -> Option<usize>
-    ensures { IfSome result (λ count. count ≡ length pairs.now.left.now.dictionary.now * length pairs.now.right.now.dictionary.now) }
+    ensures { IfSome result (λ count. count
+        ≡ length pairs.now.left.now.dictionary.now * length pairs.now.right.now.dictionary.now) }
 {
     let lefts = pairs.left.dictionary.len();
     let count = lefts.checked_mul(pairs.right.dictionary.len())?;
@@ -172,7 +179,8 @@ fn pair_count(pairs: &CodedPairs<'_>, rows: usize) -> Option<usize>
     Some(count)
 }
 
-// A truth for each pair of codes, unless there are too many. It is known where a row has the pair and both values are texts.
+// A truth for each pair of codes, unless there are too many. It is known where a row has the pair
+// and both values are texts.
 fn pair_truths(
     alloc: Global,
     pairs: &CodedPairs<'_>,
@@ -182,7 +190,8 @@ fn pair_truths(
     requires within { from + len ≤ pairs.now.count }
     requires small { from + len < 2 ^ 64 }
     ensures { IfOk result (λ found. IfSome found (λ truths.
-        ArePairTruths pairs.now.comparison pairs.now.left.now.dictionary.now pairs.now.right.now.dictionary.now truths.items)) }
+        ArePairTruths pairs.now.comparison pairs.now.left.now.dictionary.now
+        pairs.now.right.now.dictionary.now truths.items)) }
 {
     let Some(count) = pair_count(pairs, len) else {
         return Ok(None);
@@ -199,8 +208,10 @@ fn pair_truths(
 fn compare_once(pairs: &CodedPairs<'_>, width: usize, truths: &mut [Truth], row: usize)
     requires row { row < pairs.now.count }
     requires wide { width ≡ length pairs.now.right.now.dictionary.now }
-    requires known { ArePairTruths pairs.now.comparison pairs.now.left.now.dictionary.now pairs.now.right.now.dictionary.now truths.old }
-    ensures { ArePairTruths pairs.now.comparison pairs.now.left.now.dictionary.now pairs.now.right.now.dictionary.now truths.new }
+    requires known { ArePairTruths pairs.now.comparison pairs.now.left.now.dictionary.now
+        pairs.now.right.now.dictionary.now truths.old }
+    ensures { ArePairTruths pairs.now.comparison pairs.now.left.now.dictionary.now
+        pairs.now.right.now.dictionary.now truths.new }
 {
     if let Some(pair) = pair_place(pairs, width, row) {
         if let Truth::Unknown = truths[pair] {
@@ -215,7 +226,8 @@ fn pair_place(pairs: &CodedPairs<'_>, width: usize, row: usize) -> Option<usize>
     requires wide { width ≡ length pairs.now.right.now.dictionary.now }
     requires few { length pairs.now.left.now.dictionary.now * width < 2 ^ 64 }
     ensures { IsPlaceIfAny pairs.now.left.now.dictionary.now pairs.now.right.now.dictionary.now
-        (slot_of pairs.now.left.now.column.now row) (slot_of pairs.now.right.now.column.now row) result }
+        (slot_of pairs.now.left.now.column.now row) (slot_of pairs.now.right.now.column.now row)
+        result }
 {
     match (pairs.left.code(row), pairs.right.code(row)) {
         (Some(code), Some(other)) => Some(code * width + other),

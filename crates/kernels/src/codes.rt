@@ -1,6 +1,7 @@
 //! Packed numbers by their codes: what their bits are as numbers without a sign.
 
-ghost use Rattle.std.specs.Prelude.{◌≡◌, ◌==◌, ◌≤◌, ◌<◌, ◌≤ℤ◌, ◌<ℤ◌, ◌+◌, ◌-◌, ◌*◌, ◌^◌, ℕ, pos, negsuc, suc, nat_lt, if◌then◌else◌, length};
+ghost use Rattle.std.specs.Prelude.{◌≡◌, ◌==◌, ◌≤◌, ◌<◌, ◌≤ℤ◌, ◌<ℤ◌, ◌+◌, ◌-◌, ◌*◌, ◌^◌, ℕ, pos};
+ghost use Rattle.std.specs.Prelude.{negsuc, suc, nat_lt, if◌then◌else◌, length};
 ghost use Rattle.std.specs.Ordering.{int_cmp, is_eq};
 ghost use Rattle.arrow_schema.specs.DataType.{bit_width};
 ghost use Rattle.arrays.specs.Number.{byte_width, element_at, number_from};
@@ -35,7 +36,8 @@ pub(crate) fn code_of(integer: IntegerType, number: i128) -> Option<u64>
 fn signed_code(number: i128, half: u64) -> Option<u64>
     requires { half ≤ 2 ^ 63 }
     ensures { (code : ℕ) → code < 2 * half →
-        is_code result code ≡ is_eq (int_cmp (if nat_lt code half then pos code else negsuc (2 * half - suc code)) number) }
+        is_code result code ≡ is_eq
+        (int_cmp (if nat_lt code half then pos code else negsuc (2 * half - suc code)) number) }
 {
     let half = i128::from(half);
     if number < -half || half <= number {
@@ -50,7 +52,8 @@ fn signed_code(number: i128, half: u64) -> Option<u64>
 // The code of a number without a sign, where there are `count` of them.
 fn unsigned_code(number: i128, count: i128) -> Option<u64>
     requires { count ≤ℤ pos 18446744073709551616 }
-    ensures { (code : ℕ) → pos code <ℤ count → is_code result code ≡ is_eq (int_cmp (pos code) number) }
+    ensures { (code : ℕ) → pos code <ℤ count →
+        is_code result code ≡ is_eq (int_cmp (pos code) number) }
 {
     if number < 0 || count <= number {
         return None;
@@ -74,7 +77,8 @@ pub(crate) fn code_at(integer: IntegerType, values: &[u8], place: usize) -> u64
 /// Which of the 64 packed numbers from `from` on have a code.
 pub(crate) fn word_with_code(integer: IntegerType, values: &[u8], from: usize, code: u64) -> u64
     requires { byte_width integer * (from + 64) ≤ length values.now }
-    ensures { (row : ℕ) → row < 64 → bit result row ≡ (code_at integer values.now (from + row) == code) }
+    ensures { (row : ℕ) → row < 64 →
+        bit result row ≡ (code_at integer values.now (from + row) == code) }
 {
     match integer {
         IntegerType::Int8 | IntegerType::UInt8 => word_of_bytes(values, from, code),
@@ -87,7 +91,8 @@ pub(crate) fn word_with_code(integer: IntegerType, values: &[u8], from: usize, c
 // The same of numbers of one byte.
 fn word_of_bytes(values: &[u8], from: usize, code: u64) -> u64
     requires { from + 64 ≤ length values.now }
-    ensures { (row : ℕ) → row < 64 → bit result row ≡ (element_at 1 values.now (from + row) == code) }
+    ensures { (row : ℕ) → row < 64 →
+        bit result row ≡ (element_at 1 values.now (from + row) == code) }
 {
     match u8::try_from(code) {
         Ok(code) => bytes_with_code(values, from, code),
@@ -106,7 +111,8 @@ fn bytes_with_code(values: &[u8], from: usize, code: u8) -> u64
 // The same of numbers of two bytes.
 fn word_of_shorts(values: &[u8], from: usize, code: u64) -> u64
     requires { 2 * (from + 64) ≤ length values.now }
-    ensures { (row : ℕ) → row < 64 → bit result row ≡ (element_at 2 values.now (from + row) == code) }
+    ensures { (row : ℕ) → row < 64 →
+        bit result row ≡ (element_at 2 values.now (from + row) == code) }
 {
     match u16::try_from(code) {
         Ok(code) => joined_shorts(values, from, code),
@@ -136,7 +142,8 @@ fn shorts_with_code(values: &[u8], from: usize, code: u16) -> u64
 // The same of numbers of four bytes.
 fn word_of_ints(values: &[u8], from: usize, code: u64) -> u64
     requires { 4 * (from + 64) ≤ length values.now }
-    ensures { (row : ℕ) → row < 64 → bit result row ≡ (element_at 4 values.now (from + row) == code) }
+    ensures { (row : ℕ) → row < 64 →
+        bit result row ≡ (element_at 4 values.now (from + row) == code) }
 {
     match u32::try_from(code) {
         Ok(code) => joined_ints(values, from, code),
@@ -166,7 +173,8 @@ fn ints_with_code(values: &[u8], from: usize, code: u32) -> u64
 // The same of numbers of eight bytes.
 fn word_of_longs(values: &[u8], from: usize, code: u64) -> u64
     requires { 8 * (from + 64) ≤ length values.now }
-    ensures { (row : ℕ) → row < 64 → bit result row ≡ (element_at 8 values.now (from + row) == code) }
+    ensures { (row : ℕ) → row < 64 →
+        bit result row ≡ (element_at 8 values.now (from + row) == code) }
 {
     joined_longs(values, from, code)
 }

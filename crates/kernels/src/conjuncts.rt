@@ -11,8 +11,8 @@ use crate::walk::truths;
 use scan_base::Predicate;
 use std::alloc::{AllocError, Global};
 
-/// Clears the bits of those rows in which a predicate is not true. The parts of a conjunction are looked at one after
-/// another, until no row is left.
+/// Clears the bits of those rows in which a predicate is not true. The parts of a conjunction are
+/// looked at one after another, until no row is left.
 ///
 /// # Errors
 ///
@@ -28,7 +28,8 @@ pub(crate) fn keep_true(
     requires small { rows.now.from + rows.now.len < 2 ^ 64 }
     requires long { length words.old ≡ (rows.now.len + 63) / 64 }
     ensures { OnOk result (Keeps
-        (truths_of rows.now.columns.columns.now rows.now.columns.read.now (pred_of predicate.now) rows.now.from rows.now.len) words.old words.new) }
+        (truths_of rows.now.columns.columns.now rows.now.columns.read.now
+        (pred_of predicate.now) rows.now.from rows.now.len) words.old words.new) }
 {
     match predicate {
         Predicate::And(left, right) => {
@@ -52,7 +53,8 @@ fn keep_part(
     requires small { rows.now.from + rows.now.len < 2 ^ 64 }
     requires long { length words.old ≡ (rows.now.len + 63) / 64 }
     ensures { OnOk result (Keeps
-        (truths_of rows.now.columns.columns.now rows.now.columns.read.now (pred_of predicate.now) rows.now.from rows.now.len) words.old words.new) }
+        (truths_of rows.now.columns.columns.now rows.now.columns.read.now
+        (pred_of predicate.now) rows.now.from rows.now.len) words.old words.new) }
 {
     if is_empty(words) {
         return Ok(());

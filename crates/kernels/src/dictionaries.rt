@@ -1,6 +1,7 @@
 //! Predicates over a column of a dictionary: each value is looked at once.
 
-ghost use Rattle.std.specs.Prelude.{◌≡◌, ◌==◌, ◌≤◌, ◌<◌, ◌+◌, ◌*◌, ◌&&◌, ℕ, true, length, IfOk, IfSome};
+ghost use Rattle.std.specs.Prelude.{◌≡◌, ◌==◌, ◌≤◌, ◌<◌, ◌+◌, ◌*◌, ◌&&◌, ℕ, true, length, IfOk};
+ghost use Rattle.std.specs.Prelude.{IfSome};
 ghost use Rattle.std.specs.List.{list_all};
 ghost use Rattle.scan_base.specs.Predicate.{operand_names};
 ghost use Rattle.scan_base.specs.View.{pred_of};
@@ -18,7 +19,8 @@ use arrays::{Cells, Indices, Layout};
 use scan_base::{Operand, Predicate, ValueRef};
 use std::alloc::{AllocError, Global};
 
-/// The truths of a leaf that names one column alone, which is of a dictionary; none of any other predicate.
+/// The truths of a leaf that names one column alone, which is of a dictionary; none of any other
+/// predicate.
 ///
 /// # Errors
 ///
@@ -31,7 +33,8 @@ pub(crate) fn dictionary_leaf(
     requires there { AreRows rows.now }
     requires over { IsOver rows.now.columns.read.now (pred_of predicate.now) }
     ensures { IfOk result (λ found. IfSome found (λ mask. mask
-        ≡ truths_of rows.now.columns.columns.now rows.now.columns.read.now (pred_of predicate.now) rows.now.from rows.now.len)) }
+        ≡ truths_of rows.now.columns.columns.now rows.now.columns.read.now
+        (pred_of predicate.now) rows.now.from rows.now.len)) }
 {
     match column_alone(predicate) {
         Some(number) => {
@@ -75,7 +78,8 @@ fn column_alone(predicate: &Predicate<usize>) -> Option<usize>
 
 // The number of the column that an operand is, if it is one.
 fn column_named(operand: &Operand<usize>) -> Option<usize>
-    ensures { IfSome result (λ number. operand_names (λ column. column == number) operand.now ≡ true) }
+    ensures { IfSome result
+        (λ number. operand_names (λ column. column == number) operand.now ≡ true) }
 {
     match operand {
         Operand::Column(number) => Some(*number),
@@ -107,7 +111,8 @@ fn items_name_no_other(items: &[Operand<usize>], number: usize) -> bool
 
 // The column that two operands name, if there is no other.
 fn alone_in_two(left: &Operand<usize>, right: &Operand<usize>) -> Option<usize>
-    ensures { IfSome result (λ number. (operand_names (λ column. column == number) left.now && operand_names (λ column. column == number) right.now) ≡ true) }
+    ensures { IfSome result (λ number. (operand_names (λ column. column == number) left.now
+        && operand_names (λ column. column == number) right.now) ≡ true) }
 {
     let found = match left {
         Operand::Column(number) => Some(*number),
@@ -128,7 +133,8 @@ fn alone_in_three(
     high: &Operand<usize>,
 ) -> Option<usize>
     ensures { IfSome result (λ number. (operand_names (λ column. column == number) operand.now
-        && (operand_names (λ column. column == number) low.now && operand_names (λ column. column == number) high.now)) ≡ true) }
+        && (operand_names (λ column. column == number) low.now
+        && operand_names (λ column. column == number) high.now)) ≡ true) }
 {
     match column_named(operand) {
         Some(number) if names_no_other(low, number) && names_no_other(high, number) => Some(number),
@@ -150,14 +156,16 @@ fn alone_in_items(operand: &Operand<usize>, items: &[Operand<usize>]) -> Option<
 // How many values of a dictionary are looked at for each row, at most.
 const MOST_VALUES_A_ROW: usize = 4;
 
-// What a predicate says of each slot in place of its column, where this is of a dictionary that is not long.
+// What a predicate says of each slot in place of its column, where this is of a dictionary that is
+// not long.
 fn entries_part(
     alloc: Global,
     predicate: &Predicate<usize>,
     part: &ColumnPart<'_>,
 ) -> Result<Option<Mask>, AllocError>
     requires { IsPart part.now }
-    ensures { IfOk result (λ found. IfSome found (λ mask. mask ≡ said_of (truth_at (pred_of predicate.now)) part.now)) }
+    ensures { IfOk result (λ found. IfSome found
+        (λ mask. mask ≡ said_of (truth_at (pred_of predicate.now)) part.now)) }
 {
     let column = part.column;
     let _len = column.len();

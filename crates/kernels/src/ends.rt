@@ -16,7 +16,8 @@ pub struct Ends<E> {
 /// Those numbers of a type that are in a range.
 pub(crate) fn ends_of<E: FixedWidth + Bounded + FromPrimitive>(range: &Range) -> Ends<E>
     ensures { (number : ℤ) → E.fits number →
-        is_within (E.value result.least) (E.value result.most) number ≡ is_within range.now.least range.now.most number }
+        is_within (E.value result.least) (E.value result.most) number
+        ≡ is_within range.now.least range.now.most number }
 {
     let Some(least) = lower_end::<E>(range.least) else {
         return no_numbers();
@@ -27,9 +28,11 @@ pub(crate) fn ends_of<E: FixedWidth + Bounded + FromPrimitive>(range: &Range) ->
     Ends { least, most }
 }
 
-// The number of a type above which those of its numbers are that are above another; none where none is.
+// The number of a type above which those of its numbers are that are above another; none where none
+// is.
 fn lower_end<E: FixedWidth + Bounded + FromPrimitive>(number: i128) -> Option<E>
-    ensures some { IfSome result (λ end. (other : ℤ) → E.fits other → int_le (E.value end) other ≡ int_le number other) }
+    ensures some { IfSome result
+        (λ end. (other : ℤ) → E.fits other → int_le (E.value end) other ≡ int_le number other) }
     ensures none { IfNone result ((other : ℤ) → E.fits other → int_le number other ≡ false) }
 {
     match E::from_i128(number) {
@@ -46,7 +49,8 @@ fn lower_end<E: FixedWidth + Bounded + FromPrimitive>(number: i128) -> Option<E>
 
 // The same for those below.
 fn upper_end<E: FixedWidth + Bounded + FromPrimitive>(number: i128) -> Option<E>
-    ensures some { IfSome result (λ end. (other : ℤ) → E.fits other → int_le other (E.value end) ≡ int_le other number) }
+    ensures some { IfSome result
+        (λ end. (other : ℤ) → E.fits other → int_le other (E.value end) ≡ int_le other number) }
     ensures none { IfNone result ((other : ℤ) → E.fits other → int_le other number ≡ false) }
 {
     match E::from_i128(number) {
@@ -63,7 +67,8 @@ fn upper_end<E: FixedWidth + Bounded + FromPrimitive>(number: i128) -> Option<E>
 
 // From the greatest number of a type to the least.
 fn no_numbers<E: FixedWidth + Bounded>() -> Ends<E>
-    ensures { (number : ℤ) → E.fits number → is_within (E.value result.least) (E.value result.most) number ≡ false }
+    ensures { (number : ℤ) → E.fits number →
+        is_within (E.value result.least) (E.value result.most) number ≡ false }
 {
     Ends {
         least: E::max_value(),

@@ -1,6 +1,7 @@
 //! What a predicate says of the entries of a dictionary.
 
-ghost use Rattle.std.specs.Prelude.{◌≡◌, ◌≤◌, ◌<◌, ◌+◌, ◌^◌, ℕ, true, length, map, get_or, IfOk, IfSome};
+ghost use Rattle.std.specs.Prelude.{◌≡◌, ◌≤◌, ◌<◌, ◌+◌, ◌^◌, ℕ, true, length, map, get_or, IfOk};
+ghost use Rattle.std.specs.Prelude.{IfSome};
 ghost use Rattle.std.specs.List.{range_with_len};
 ghost use Rattle.arrays.specs.Validity.{is_valid};
 ghost use Rattle.kernels.specs.Codes.{code_at};
@@ -50,7 +51,8 @@ pub(crate) fn truths_at(
     predicate: &Predicate<usize>,
     dictionary: &Dictionary,
 ) -> Result<Vec<Truth>, AllocError>
-    ensures { IfOk result (λ truths. truths.items ≡ truths_at (pred_of predicate.now) dictionary.now) }
+    ensures { IfOk result
+        (λ truths. truths.items ≡ truths_at (pred_of predicate.now) dictionary.now) }
 {
     let count = dictionary.len();
     let mut truths = Vec::with_capacity(alloc, count)?;
@@ -78,7 +80,8 @@ fn few_true(alloc: Global, truths: &[Truth]) -> Result<Option<Vec<u64>>, AllocEr
 
 // Adds an index whose entry is true, and says whether its truth is known and few indices are there.
 fn push_true(indices: &mut Vec<u64>, index: usize, truth: Truth) -> Result<bool, AllocError>
-    ensures { IfOk result (λ goes_on. goes_on ≡ true → IsPushed indices.old.items index truth indices.new.items) }
+    ensures { IfOk result
+        (λ goes_on. goes_on ≡ true → IsPushed indices.old.items index truth indices.new.items) }
 {
     match truth {
         Truth::True => {
@@ -130,10 +133,13 @@ impl<'a> ByEntry<'a> {
     /// `AllocError` where memory is refused.
     pub(crate) fn mask(&self, alloc: Global, first: usize, len: usize) -> Result<Mask, AllocError>
         requires within { first + len ≤ self.now.indices.count }
-        requires stand { (place : ℕ) → place < self.now.indices.count → is_valid self.now.indices.validity.now place ≡ true →
-            code_at self.now.indices.integer self.now.indices.values.now place < length self.now.truths.now }
+        requires stand { (place : ℕ) → place < self.now.indices.count →
+            is_valid self.now.indices.validity.now place ≡ true →
+            code_at self.now.indices.integer self.now.indices.values.now place
+            < length self.now.truths.now }
         requires small { first + len < 2 ^ 64 }
-        ensures { IfOk result (λ mask. mask ≡ map (entry_truth self.now) (range_with_len first len)) }
+        ensures { IfOk result
+            (λ mask. mask ≡ map (entry_truth self.now) (range_with_len first len)) }
     {
         match few_true(alloc, self.truths)? {
             Some(codes) => {

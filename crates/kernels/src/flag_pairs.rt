@@ -29,7 +29,8 @@ pub(crate) fn flag_word(column: &Column, from: usize) -> Option<Word>
 
 /// Which of 64 truth values stand in a comparison with others; FALSE is below TRUE.
 pub(crate) fn compared_bits(comparison: Comparison, lefts: u64, rights: u64) -> u64
-    ensures { (row : ℕ) → row < 64 → bit result row ≡ satisfies comparison (bool_cmp (bit lefts row) (bit rights row)) }
+    ensures { (row : ℕ) → row < 64 →
+        bit result row ≡ satisfies comparison (bool_cmp (bit lefts row) (bit rights row)) }
 {
     match comparison {
         Comparison::Equal => (lefts ^ rights) ^ u64::MAX,

@@ -1,6 +1,7 @@
 //! Columns of truth values that are compared with one.
 
-ghost use Rattle.std.specs.Prelude.{◌≡◌, ◌≤◌, ◌<◌, ◌+◌, ℕ, Bool, true, false, get_or, if◌then◌else◌, length, IfOk, IfSome};
+ghost use Rattle.std.specs.Prelude.{◌≡◌, ◌≤◌, ◌<◌, ◌+◌, ℕ, Bool, true, false, get_or};
+ghost use Rattle.std.specs.Prelude.{if◌then◌else◌, length, IfOk, IfSome};
 ghost use Rattle.std.specs.Ordering.{bool_cmp};
 ghost use Rattle.scan_base.specs.Comparison.{compared, satisfies};
 ghost use Rattle.scan_base.specs.declared.value.Value.TheVariants.{Bool as Flag};
@@ -31,7 +32,8 @@ pub(crate) fn flags_compared(
     other: bool,
 ) -> Result<Option<Mask>, AllocError>
     requires { IsPart part.now }
-    ensures { IfOk result (λ found. IfSome found (λ mask. mask ≡ said_of (λ value. compared comparison value (Flag other)) part.now)) }
+    ensures { IfOk result (λ found. IfSome found
+        (λ mask. mask ≡ said_of (λ value. compared comparison value (Flag other)) part.now)) }
 {
     let column = part.column;
     let _len = column.len();
@@ -81,7 +83,8 @@ impl<'a> Slots for FlagTests<'a> {
 
     ghost count = { λ s. s.count };
 
-    ghost truth = { λ s place. where_known (is_valid s.validity.now place) (if get_or s.values.now place false then s.of_true else s.of_false) };
+    ghost truth = { λ s place. where_known (is_valid s.validity.now place)
+        (if get_or s.values.now place false then s.of_true else s.of_false) };
 
     fn truth(&self, place: usize) -> Truth {
         if !is_valid(self.validity, place) {

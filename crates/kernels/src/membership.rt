@@ -62,7 +62,9 @@ fn integers_among(
 ) -> Result<Option<Mask>, AllocError>
     requires { first + len ≤ (cells.now).len }
     ensures { IfOk result (λ found. IfSome found (λ mask. (cell : ℕ → Value) →
-        mask ≡ map (λ place. any_equal cell (layout_slot (IntegersLayout cells.now) place) items.now) (range_with_len first len))) }
+        mask
+        ≡ map (λ place. any_equal cell (layout_slot (IntegersLayout cells.now) place) items.now)
+        (range_with_len first len))) }
 {
     match codes_of(alloc, cells.integer_type(), items)? {
         Some(codes) => {
@@ -94,14 +96,15 @@ fn packed_integers<'a>(cells: &Integers<'a>) -> Packed<'a>
     }
 }
 
-// The codes of items in an integer type, without those of numbers that it does not have; none where there is no item,
-// or one that is no number.
+// The codes of items in an integer type, without those of numbers that it does not have; none where
+// there is no item, or one that is no number.
 fn codes_of(
     alloc: Global,
     integer: IntegerType,
     items: &[Operand<usize>],
 ) -> Result<Option<Vec<u64>>, AllocError>
-    ensures { IfOk result (λ found. IfSome found (λ codes. AreCodesOf integer items.now codes.items)) }
+    ensures { IfOk result
+        (λ found. IfSome found (λ codes. AreCodesOf integer items.now codes.items)) }
 {
     if items.is_empty() {
         return Ok(None);
@@ -121,9 +124,10 @@ fn push_item(
     integer: IntegerType,
     item: &Operand<usize>,
 ) -> Result<bool, AllocError>
-    ensures { IfOk result (λ is_number. is_number ≡ true → (cell : ℕ → Value) (code : ℕ) → code < 2 ^ bit_width integer →
-        truth_from (is_among codes.new.items code)
-        ≡ truth_or (truth_from (is_among codes.old.items code)) (compared EqualTo (IntValue (number_from integer code)) (operand_value cell item.now))) }
+    ensures { IfOk result (λ is_number. is_number ≡ true → (cell : ℕ → Value) (code : ℕ) →
+        code < 2 ^ bit_width integer → truth_from (is_among codes.new.items code)
+        ≡ truth_or (truth_from (is_among codes.old.items code))
+        (compared EqualTo (IntValue (number_from integer code)) (operand_value cell item.now))) }
 {
     match item {
         Operand::Literal(Value::Int(number)) => {
@@ -141,7 +145,8 @@ fn push_item(
 // Adds the code of a number, where the type has it.
 fn push_number(codes: &mut Vec<u64>, integer: IntegerType, number: i128) -> Result<(), AllocError>
     ensures { IfOk result (λ _. (code : ℕ) → code < 2 ^ bit_width integer →
-        is_among codes.new.items code ≡ (is_among codes.old.items code || is_eq (int_cmp (number_from integer code) number))) }
+        is_among codes.new.items code
+        ≡ (is_among codes.old.items code || is_eq (int_cmp (number_from integer code) number))) }
 {
     match code_of(integer, number) {
         Some(code) => {

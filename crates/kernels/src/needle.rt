@@ -9,8 +9,8 @@ ghost use Rattle.kernels.specs.Needles.{front_len};
 use byteorder::{ByteOrder, LittleEndian};
 use std::marker::Model;
 
-/// A text that is looked for: its bytes, the first eight of them as a number, and a mask of so many bytes.
-/// A contract sees the bytes.
+/// A text that is looked for: its bytes, the first eight of them as a number, and a mask of so many
+/// bytes. A contract sees the bytes.
 #[derive(Drop)]
 pub(crate) struct Needle<'a> {
     text: &'a [u8],
@@ -70,15 +70,18 @@ impl<'a> Needle<'a> {
     // Whether the first bytes of the text, eight at most, are those from a place on.
     fn begins_at(&self, bytes: &[u8], at: usize) -> bool
         requires { at + 8 ≤ length bytes.now }
-        ensures { result ≡ bytes_eq (slice_range bytes.now at (at + front_len self.now)) (take (front_len self.now) self.now) }
+        ensures { result ≡ bytes_eq (slice_range bytes.now at (at + front_len self.now))
+            (take (front_len self.now) self.now) }
     {
         eight_bytes(bytes, at) & self.mask == self.front
     }
 
-    // Whether the other bytes of the text are those behind.
+    // Whether the other bytes of the text are those after.
     fn goes_on_at(&self, bytes: &[u8], at: usize) -> bool
         requires { at + length self.now ≤ length bytes.now }
-        ensures { result ≡ bytes_eq (slice_range bytes.now (at + front_len self.now) (at + length self.now)) (drop (front_len self.now) self.now) }
+        ensures { result
+            ≡ bytes_eq (slice_range bytes.now (at + front_len self.now) (at + length self.now))
+            (drop (front_len self.now) self.now) }
     {
         self.text.len() <= 8 || &bytes[at + 8..at + self.text.len()] == &self.text[8..]
     }

@@ -8,7 +8,8 @@ ghost use Rattle.scan_base.specs.declared.truth.Truth.{Truth};
 ghost use Rattle.scan_base.specs.declared.value.Value.{Value};
 ghost use Rattle.scan_base.specs.declared.value.Value.TheVariants.{Int as IntValue};
 ghost use Rattle.arrow_schema.specs.declared.data_type.IntegerType.TheVariants.{Int64};
-ghost use Rattle.arrays.specs.declared.layout.Layout.TheVariants.{Integers as IntegersLayout, Decimals as DecimalsLayout};
+ghost use Rattle.arrays.specs.declared.layout.Layout.TheVariants.{Integers as IntegersLayout};
+ghost use Rattle.arrays.specs.declared.layout.Layout.TheVariants.{Decimals as DecimalsLayout};
 ghost use Rattle.arrays.specs.Decimals.{AreDecimals};
 ghost use Rattle.arrays.specs.Integers.{AreIntegers};
 ghost use Rattle.arrays.specs.Layout.{layout_slot};
@@ -39,7 +40,8 @@ pub(crate) fn numbers_compared(
     other: i128,
 ) -> Result<Option<Mask>, AllocError>
     requires { IsPart part.now }
-    ensures { IfOk result (λ found. IfSome found (λ mask. mask ≡ said_of (λ value. compared comparison value (IntValue other)) part.now)) }
+    ensures { IfOk result (λ found. IfSome found
+        (λ mask. mask ≡ said_of (λ value. compared comparison value (IntValue other)) part.now)) }
 {
     let range = Range::of(comparison, other);
     numbers_in(alloc, part, &range)
@@ -57,7 +59,8 @@ pub(crate) fn between_part(
     high: i128,
 ) -> Result<Option<Mask>, AllocError>
     requires { IsPart part.now }
-    ensures { IfOk result (λ found. IfSome found (λ mask. mask ≡ said_of (λ value. within value (IntValue low) (IntValue high)) part.now)) }
+    ensures { IfOk result (λ found. IfSome found
+        (λ mask. mask ≡ said_of (λ value. within value (IntValue low) (IntValue high)) part.now)) }
 {
     let range = Range::between(low, high);
     numbers_in(alloc, part, &range)
@@ -70,7 +73,8 @@ fn numbers_in(
     range: &Range,
 ) -> Result<Option<Mask>, AllocError>
     requires { IsPart part.now }
-    ensures { (test : Value → Truth) → TestsBy range.now test → IfOk result (λ found. IfSome found (λ mask. mask ≡ said_of test part.now)) }
+    ensures { (test : Value → Truth) → TestsBy range.now test →
+        IfOk result (λ found. IfSome found (λ mask. mask ≡ said_of test part.now)) }
 {
     let column = part.column;
     let _len = column.len();
@@ -105,7 +109,8 @@ fn integers_in(
 ) -> Result<Mask, AllocError>
     requires within { first + len ≤ (cells.now).len }
     requires small { first + len < 2 ^ 64 }
-    ensures { (test : Value → Truth) → TestsBy range.now test → IfOk result (λ mask. mask ≡ map (λ place. test (layout_slot (IntegersLayout cells.now) place)) (range_with_len first len)) }
+    ensures { (test : Value → Truth) → TestsBy range.now test → IfOk result (λ mask. mask ≡ map
+        (λ place. test (layout_slot (IntegersLayout cells.now) place)) (range_with_len first len)) }
 {
     let packed = packed_integers(cells);
     match cells.integer_type() {

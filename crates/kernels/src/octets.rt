@@ -17,13 +17,15 @@ pub(crate) trait Octets {
     /// What it says of the eight numbers from `from` on.
     fn octet(&self, values: &[u8], from: usize) -> u64
         requires { 8 * (from + 8) ≤ length values.now }
-        ensures { result ≡ mask_l (tests (λ place. says self.now (long_at values.now place)) from 8) };
+        ensures { result
+            ≡ mask_l (tests (λ place. says self.now (long_at values.now place)) from 8) };
 }
 
 /// What a test says of the 64 numbers from `from` on.
 pub(crate) fn word_by<O: Octets>(octets: &O, values: &[u8], from: usize) -> u64
     requires { 8 * (from + 64) ≤ length values.now }
-    ensures { (row : ℕ) → row < 64 → bit result row ≡ O.says octets.now (long_at values.now (from + row)) }
+    ensures { (row : ℕ) → row < 64 →
+        bit result row ≡ O.says octets.now (long_at values.now (from + row)) }
 {
     let mut word = 0u64;
     for k in 0..8usize {

@@ -57,10 +57,13 @@ pub(crate) fn compare_leaf(
     rows: &RowRange<'_>,
 ) -> Result<Mask, AllocError>
     requires there { AreRows rows.now }
-    requires left { IsTrue (operand_names (λ column. nat_lt column (length rows.now.columns.read.now)) leaf.now.left.now) }
-    requires right { IsTrue (operand_names (λ column. nat_lt column (length rows.now.columns.read.now)) leaf.now.right.now) }
+    requires left { IsTrue (operand_names
+        (λ column. nat_lt column (length rows.now.columns.read.now)) leaf.now.left.now) }
+    requires right { IsTrue (operand_names
+        (λ column. nat_lt column (length rows.now.columns.read.now)) leaf.now.right.now) }
     ensures { IfOk result (λ mask. mask
-        ≡ said_in (λ row. compared leaf.now.comparison (operand_value (cell_of rows.now row) leaf.now.left.now) (operand_value (cell_of rows.now row) leaf.now.right.now)) rows.now) }
+        ≡ said_in (λ row. compared leaf.now.comparison (operand_value (cell_of rows.now row)
+        leaf.now.left.now) (operand_value (cell_of rows.now row) leaf.now.right.now)) rows.now) }
 {
     let comparison = leaf.comparison;
     match (side_of(leaf.left), side_of(leaf.right)) {
@@ -91,12 +94,16 @@ pub(crate) fn both_compared(
     rows: &RowRange<'_>,
 ) -> Result<Mask, AllocError>
     requires there { AreRows rows.now }
-    requires named { IsTrue (operand_names (λ column. nat_lt column (length rows.now.columns.read.now)) operand.now) }
-    requires low { IsTrue (operand_names (λ column. nat_lt column (length rows.now.columns.read.now)) bounds.now.low.now) }
-    requires high { IsTrue (operand_names (λ column. nat_lt column (length rows.now.columns.read.now)) bounds.now.high.now) }
+    requires named { IsTrue
+        (operand_names (λ column. nat_lt column (length rows.now.columns.read.now)) operand.now) }
+    requires low { IsTrue (operand_names
+        (λ column. nat_lt column (length rows.now.columns.read.now)) bounds.now.low.now) }
+    requires high { IsTrue (operand_names
+        (λ column. nat_lt column (length rows.now.columns.read.now)) bounds.now.high.now) }
     ensures { IfOk result (λ mask. mask
         ≡ said_in (λ row. within (operand_value (cell_of rows.now row) operand.now)
-        (operand_value (cell_of rows.now row) bounds.now.low.now) (operand_value (cell_of rows.now row) bounds.now.high.now)) rows.now) }
+        (operand_value (cell_of rows.now row) bounds.now.low.now)
+        (operand_value (cell_of rows.now row) bounds.now.high.now)) rows.now) }
 {
     let above = Compared {
         comparison: Comparison::GreaterOrEqual,
@@ -124,10 +131,13 @@ pub(crate) fn any_compared(
     rows: &RowRange<'_>,
 ) -> Result<Mask, AllocError>
     requires there { AreRows rows.now }
-    requires named { IsTrue (operand_names (λ column. nat_lt column (length rows.now.columns.read.now)) operand.now) }
-    requires items { IsTrue (list_all (operand_names (λ column. nat_lt column (length rows.now.columns.read.now))) items.now) }
+    requires named { IsTrue
+        (operand_names (λ column. nat_lt column (length rows.now.columns.read.now)) operand.now) }
+    requires items { IsTrue (list_all
+        (operand_names (λ column. nat_lt column (length rows.now.columns.read.now))) items.now) }
     ensures { IfOk result (λ mask. mask
-        ≡ said_in (λ row. any_equal (cell_of rows.now row) (operand_value (cell_of rows.now row) operand.now) items.now) rows.now) }
+        ≡ said_in (λ row. any_equal (cell_of rows.now row)
+        (operand_value (cell_of rows.now row) operand.now) items.now) rows.now) }
 {
     let mut mask = Mask::of(alloc, Truth::False, rows.len)?;
     for index in (0..items.len()).rev() {

@@ -1,6 +1,8 @@
-//! Columns that are compared with each other: 64 numbers or truth values at once, and other values one after another.
+//! Columns that are compared with each other: 64 numbers or truth values at once, and other values
+//! one after another.
 
-ghost use Rattle.std.specs.Prelude.{◌≡◌, ◌≤◌, ◌<◌, ◌+◌, ◌*◌, ◌^◌, ℕ, pos, int_lt, FitsSigned, length, get_or, IfSome};
+ghost use Rattle.std.specs.Prelude.{◌≡◌, ◌≤◌, ◌<◌, ◌+◌, ◌*◌, ◌^◌, ℕ, pos, int_lt, FitsSigned};
+ghost use Rattle.std.specs.Prelude.{length, get_or, IfSome};
 ghost use Rattle.std.specs.Int.{w128};
 ghost use Rattle.std.specs.Ordering.{int_cmp, int_eq};
 ghost use Rattle.scan_base.specs.Comparison.{compared, satisfies};
@@ -40,7 +42,8 @@ impl<'a> Slots for Pairs<'a> {
 
     ghost count = { λ s. s.count };
 
-    ghost truth = { λ s row. compared s.comparison (slot_of s.left.now row) (slot_of s.right.now row) };
+    ghost truth = { λ s row. compared s.comparison (slot_of s.left.now row)
+        (slot_of s.right.now row) };
 
     fn truth(&self, place: usize) -> Truth {
         let _count = self.count;
@@ -70,11 +73,12 @@ impl<'a> Kernel for Pairs<'a> {
 }
 
 impl<'a> Pairs<'a> {
-    // The truths of the 64 slots from `from` on, where not both columns hold numbers: of truth values by words, and of others
-    // one by one.
+    // The truths of the 64 slots from `from` on, where not both columns hold numbers: of truth
+    // values by words, and of others one by one.
     fn other_word(&self, from: usize) -> Word
         requires { from + 64 ≤ self.now.count }
-        ensures { HasTruths (λ row. compared self.now.comparison (slot_of self.now.left.now row) (slot_of self.now.right.now row)) from 64 result }
+        ensures { HasTruths (λ row. compared self.now.comparison (slot_of self.now.left.now row)
+            (slot_of self.now.right.now row)) from 64 result }
     {
         let _count = self.count;
         match (flag_word(self.left, from), flag_word(self.right, from)) {
@@ -111,7 +115,8 @@ pub(crate) fn pairs_of<'a>(
     }
 }
 
-// The numbers of 64 slots from `from` on, and a bit for each that is not null; none of a column of other values.
+// The numbers of 64 slots from `from` on, and a bit for each that is not null; none of a column of
+// other values.
 fn fill_numbers(column: &Column, from: usize, block: &mut [i128; 64]) -> Option<u64>
     requires { from + 64 ≤ column.now.len }
     ensures { IfSome result (λ knowns. HasNumbers column.now from block.new knowns) }
@@ -136,7 +141,8 @@ fn fill_numbers(column: &Column, from: usize, block: &mut [i128; 64]) -> Option<
 // The integers of 64 slots from `first` on.
 fn fill_integers(cells: &Integers<'_>, first: usize, block: &mut [i128; 64])
     requires { first + 64 ≤ (cells.now).len }
-    ensures { (row : ℕ) → row < 64 → get_or block.new row (pos 0) ≡ integer_at (cells.now).integer (cells.now).values (first + row) }
+    ensures { (row : ℕ) → row < 64 → get_or block.new row (pos 0)
+        ≡ integer_at (cells.now).integer (cells.now).values (first + row) }
 {
     let _count = cells.len();
     let values = cells.values();
@@ -156,8 +162,10 @@ fn fill_integers(cells: &Integers<'_>, first: usize, block: &mut [i128; 64])
 fn fill_cells<E: Element + AsPrimitive<i128>>(values: &[u8], from: usize, block: &mut [i128; 64])
     requires room { E.WIDTH * (from + 64) ≤ length values.now }
     requires small { from + 64 < 2 ^ 64 }
-    requires wide { (place : ℕ) → FitsSigned w128 (E.value (E.of_bits (element_at E.WIDTH values.now place))) }
-    ensures { (row : ℕ) → row < 64 → get_or block.new row (pos 0) ≡ E.value (E.of_bits (element_at E.WIDTH values.now (from + row))) }
+    requires wide { (place : ℕ) →
+        FitsSigned w128 (E.value (E.of_bits (element_at E.WIDTH values.now place))) }
+    ensures { (row : ℕ) → row < 64 → get_or block.new row (pos 0)
+        ≡ E.value (E.of_bits (element_at E.WIDTH values.now (from + row))) }
 {
     for k in 0..64usize {
         block[k] = E::read(values, from + k).as_();
@@ -166,7 +174,8 @@ fn fill_cells<E: Element + AsPrimitive<i128>>(values: &[u8], from: usize, block:
 
 // Which of 64 numbers stand in a comparison with others.
 fn compared_block(comparison: Comparison, lefts: &[i128; 64], rights: &[i128; 64]) -> u64
-    ensures { (row : ℕ) → row < 64 → bit result row ≡ satisfies comparison (int_cmp (get_or lefts.now row (pos 0)) (get_or rights.now row (pos 0))) }
+    ensures { (row : ℕ) → row < 64 → bit result row ≡ satisfies comparison
+        (int_cmp (get_or lefts.now row (pos 0)) (get_or rights.now row (pos 0))) }
 {
     match comparison {
         Comparison::Equal => equal_block(lefts, rights),
@@ -179,7 +188,8 @@ fn compared_block(comparison: Comparison, lefts: &[i128; 64], rights: &[i128; 64
 }
 
 fn less_block(lefts: &[i128; 64], rights: &[i128; 64]) -> u64
-    ensures { (row : ℕ) → row < 64 → bit result row ≡ int_lt (get_or lefts.now row (pos 0)) (get_or rights.now row (pos 0)) }
+    ensures { (row : ℕ) → row < 64 →
+        bit result row ≡ int_lt (get_or lefts.now row (pos 0)) (get_or rights.now row (pos 0)) }
 {
     let mut flags = [0u8; 64];
     for k in 0..64usize {
@@ -189,7 +199,8 @@ fn less_block(lefts: &[i128; 64], rights: &[i128; 64]) -> u64
 }
 
 fn equal_block(lefts: &[i128; 64], rights: &[i128; 64]) -> u64
-    ensures { (row : ℕ) → row < 64 → bit result row ≡ int_eq (get_or lefts.now row (pos 0)) (get_or rights.now row (pos 0)) }
+    ensures { (row : ℕ) → row < 64 →
+        bit result row ≡ int_eq (get_or lefts.now row (pos 0)) (get_or rights.now row (pos 0)) }
 {
     let mut flags = [0u8; 64];
     for k in 0..64usize {

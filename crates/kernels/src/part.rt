@@ -34,7 +34,8 @@ impl<'a> RowRange<'a> {
         ensures from { result.from ≡ self.now.from }
         ensures len { result.len ≡ self.now.len }
         ensures cells { (row : ℕ) →
-            slot_of result.column.now row ≡ cell_in (cells_at self.now.columns.columns.now self.now.columns.read.now row) number }
+            slot_of result.column.now row
+            ≡ cell_in (cells_at self.now.columns.columns.now self.now.columns.read.now row) number }
     {
         let all = self.columns.columns;
         let read = self.columns.read;

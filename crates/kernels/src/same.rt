@@ -74,7 +74,8 @@ pub(crate) fn values_compared(
     rows: &RowRange<'_>,
 ) -> Result<Mask, AllocError>
     requires { AreRows rows.now }
-    ensures { IfOk result (λ mask. mask ≡ said_in (λ row. compared comparison (value_of left.entry) (value_of right.entry)) rows.now) }
+    ensures { IfOk result (λ mask. mask ≡ said_in
+        (λ row. compared comparison (value_of left.entry) (value_of right.entry)) rows.now) }
 {
     let _count = rows.columns.count;
     mask_of(alloc, left.compare(comparison, right), rows.from, rows.len)

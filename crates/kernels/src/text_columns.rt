@@ -3,7 +3,8 @@
 ghost use Rattle.std.specs.Prelude.{◌≡◌, ◌≤◌, ◌<◌, ◌+◌, ◌^◌, ℕ, true, length, IfSome};
 ghost use Rattle.arrays.specs.Column.{slot_of};
 ghost use Rattle.arrays.specs.Indices.{index_stands};
-ghost use Rattle.arrays.specs.declared.layout.Layout.TheVariants.{Texts as TextsLayout, Indices as IndicesLayout};
+ghost use Rattle.arrays.specs.declared.layout.Layout.TheVariants.{Texts as TextsLayout};
+ghost use Rattle.arrays.specs.declared.layout.Layout.TheVariants.{Indices as IndicesLayout};
 ghost use Rattle.kernels.specs.Ranges.{validity_count};
 ghost use Rattle.kernels.specs.TextPairs.{indices_into, value_of_code};
 
@@ -64,7 +65,8 @@ pub(crate) struct CodedTexts<'a> {
     ghost begins: { first ≡ column.now.first },
     ghost within: { first + column.now.len ≤ indices.count },
     ghost small: { first + column.now.len < 2 ^ 64 },
-    ghost stand: { (place : ℕ) → place < indices.count → index_stands (indices_into dictionary.now indices) place ≡ true },
+    ghost stand: { (place : ℕ) → place < indices.count →
+        index_stands (indices_into dictionary.now indices) place ≡ true },
 }
 
 impl<'a> CodedTexts<'a> {
@@ -84,7 +86,8 @@ impl<'a> CodedTexts<'a> {
     /// The code of a row's text; none where the slot is null.
     pub(crate) fn code(&self, row: usize) -> Option<usize>
         requires { row < self.now.column.now.len }
-        ensures value { slot_of self.now.column.now row ≡ value_of_code self.now.dictionary.now result }
+        ensures value { slot_of self.now.column.now row
+            ≡ value_of_code self.now.dictionary.now result }
         ensures within { IfSome result (λ code. code < length self.now.dictionary.now) }
     {
         let place = self.first + row;

@@ -33,7 +33,8 @@ impl<'a, L: RowValues, R: RowValues> Slots for TextPairs<'a, L, R> {
 
     ghost count = { λ s. s.count };
 
-    ghost truth = { λ s row. compared s.comparison (slot_of (L.column s.left.now) row) (slot_of (R.column s.right.now) row) };
+    ghost truth = { λ s row. compared s.comparison (slot_of (L.column s.left.now) row)
+        (slot_of (R.column s.right.now) row) };
 
     fn truth(&self, place: usize) -> Truth {
         let _count = self.count;
@@ -51,7 +52,8 @@ impl<'a, L: RowValues, R: RowValues> Kernel for TextPairs<'a, L, R> {
     }
 }
 
-/// What a comparison of two columns says of their slots, where the first has texts of its own and the other is of texts.
+/// What a comparison of two columns says of their slots, where the first has texts of its own and
+/// the other is of texts.
 ///
 /// # Errors
 ///
@@ -65,7 +67,8 @@ pub(crate) fn plain_compared(
     requires left { right.now.from + right.now.len ≤ left.now.column.now.len }
     requires right { IsPart right.now }
     ensures { IfOk result (λ found. IfSome found (λ mask. mask
-        ≡ map (λ row. compared comparison (slot_of left.now.column.now row) (slot_of right.now.column.now row)) (range_with_len right.now.from right.now.len))) }
+        ≡ map (λ row. compared comparison (slot_of left.now.column.now row)
+        (slot_of right.now.column.now row)) (range_with_len right.now.from right.now.len))) }
 {
     let column = right.column;
     let _len = column.len();

@@ -1,6 +1,7 @@
 //! Columns of texts that are compared with one.
 
-ghost use Rattle.std.specs.Prelude.{◌≡◌, ◌≤◌, ◌<◌, ◌+◌, ◌==◌, ◌*◌, ℕ, Bool, true, length, not, if◌then◌else◌, IfOk, IfSome};
+ghost use Rattle.std.specs.Prelude.{◌≡◌, ◌≤◌, ◌<◌, ◌+◌, ◌==◌, ◌*◌, ℕ, Bool, true, length, not};
+ghost use Rattle.std.specs.Prelude.{if◌then◌else◌, IfOk, IfSome};
 ghost use Rattle.std.specs.Ordering.{is_eq};
 ghost use Rattle.std.specs.Simd.Lanes.{mask_l};
 ghost use Rattle.scan_base.specs.Comparison.{compared, satisfies};
@@ -41,7 +42,8 @@ pub(crate) fn texts_compared(
     other: &str,
 ) -> Result<Option<Mask>, AllocError>
     requires { IsPart part.now }
-    ensures { IfOk result (λ found. IfSome found (λ mask. mask ≡ said_of (λ value. compared comparison value (Text other.now)) part.now)) }
+    ensures { IfOk result (λ found. IfSome found
+        (λ mask. mask ≡ said_of (λ value. compared comparison value (Text other.now)) part.now)) }
 {
     match comparison {
         Comparison::Equal => texts_equal(alloc, part, other),
@@ -60,7 +62,8 @@ fn texts_equal(
     other: &str,
 ) -> Result<Option<Mask>, AllocError>
     requires { IsPart part.now }
-    ensures { IfOk result (λ found. IfSome found (λ mask. mask ≡ said_of (λ value. compared EqualTo value (Text other.now)) part.now)) }
+    ensures { IfOk result (λ found. IfSome found
+        (λ mask. mask ≡ said_of (λ value. compared EqualTo value (Text other.now)) part.now)) }
 {
     let column = part.column;
     let count = column.first() + column.len();
@@ -111,7 +114,8 @@ impl<'a> Slots for EqualTexts<'a> {
 
     ghost count = { λ s. s.count };
 
-    ghost truth = { λ s place. where_known (is_valid s.validity.now place) (is_text_at s.needle s.offsets.now s.bytes.now place) };
+    ghost truth = { λ s place. where_known (is_valid s.validity.now place)
+        (is_text_at s.needle s.offsets.now s.bytes.now place) };
 
     fn truth(&self, place: usize) -> Truth {
         if !is_valid(self.validity, place) {
@@ -136,7 +140,8 @@ impl<'a> EqualTexts<'a> {
     // Whether a text is the one that is looked for, also that of a null.
     fn is_needle(&self, place: usize) -> bool
         requires { place < self.now.count }
-        ensures { result ≡ is_text_at self.now.needle self.now.offsets.now self.now.bytes.now place }
+        ensures { result
+            ≡ is_text_at self.now.needle self.now.offsets.now self.now.bytes.now place }
     {
         if !self.is_long(place) {
             return false;
@@ -147,7 +152,8 @@ impl<'a> EqualTexts<'a> {
     // Whether a text is as long as the one that is looked for.
     fn is_long(&self, place: usize) -> bool
         requires { place < self.now.count }
-        ensures { result ≡ (length (cut_at self.now.offsets.now self.now.bytes.now place) == length self.now.needle) }
+        ensures { result ≡ (length (cut_at self.now.offsets.now self.now.bytes.now place)
+            == length self.now.needle) }
     {
         let _count = self.count;
         let begin = u32::read(self.offsets, place) as usize;
@@ -158,8 +164,10 @@ impl<'a> EqualTexts<'a> {
     // Whether a text that is as long is it.
     fn is_equal(&self, place: usize) -> bool
         requires within { place < self.now.count }
-        requires long { length (cut_at self.now.offsets.now self.now.bytes.now place) ≡ length self.now.needle }
-        ensures { result ≡ is_text_at self.now.needle self.now.offsets.now self.now.bytes.now place }
+        requires long { length (cut_at self.now.offsets.now self.now.bytes.now place)
+            ≡ length self.now.needle }
+        ensures { result
+            ≡ is_text_at self.now.needle self.now.offsets.now self.now.bytes.now place }
     {
         let _count = self.count;
         self.needle
@@ -170,7 +178,8 @@ impl<'a> EqualTexts<'a> {
     fn long_word(&self, from: usize) -> u64
         requires { from + 64 ≤ self.now.count }
         ensures { (row : ℕ) → row < 64 → bit result row
-            ≡ (length (cut_at self.now.offsets.now self.now.bytes.now (from + row)) == length self.now.needle) }
+            ≡ (length (cut_at self.now.offsets.now self.now.bytes.now (from + row))
+            == length self.now.needle) }
     {
         let _count = self.count;
         let len = self.needle.len();
@@ -184,7 +193,8 @@ impl<'a> EqualTexts<'a> {
     fn equal_word(&self, from: usize, long: u64) -> u64
         requires within { from + 64 ≤ self.now.count }
         requires long { (row : ℕ) → row < 64 → bit long row
-            ≡ (length (cut_at self.now.offsets.now self.now.bytes.now (from + row)) == length self.now.needle) }
+            ≡ (length (cut_at self.now.offsets.now self.now.bytes.now (from + row))
+            == length self.now.needle) }
         ensures { (row : ℕ) → row < 64 → bit result row
             ≡ is_text_at self.now.needle self.now.offsets.now self.now.bytes.now (from + row) }
     {
@@ -200,7 +210,7 @@ impl<'a> EqualTexts<'a> {
     }
 }
 
-// Which of 64 offsets from `from` on are so far from the one behind them.
+// Which of 64 offsets from `from` on are so far from the one after them.
 fn far_word(offsets: &[u8], from: usize, far: u32) -> u64
     requires { 4 * (from + 65) ≤ length offsets.now }
     ensures { (row : ℕ) → row < 64 → bit result row ≡ is_far far offsets.now (from + row) }

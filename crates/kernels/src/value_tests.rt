@@ -34,7 +34,8 @@ impl<'a, C: RowValues> Slots for ValueTests<'a, C> {
 
     ghost count = { λ s. s.count };
 
-    ghost truth = { λ s row. compared s.comparison (slot_of (C.column s.column.now) row) (value_of s.other) };
+    ghost truth = { λ s row. compared s.comparison (slot_of (C.column s.column.now) row)
+        (value_of s.other) };
 
     fn truth(&self, place: usize) -> Truth {
         let _count = self.count;
@@ -64,7 +65,8 @@ pub(crate) fn value_compared(
     other: ValueRef<'_>,
 ) -> Result<Mask, AllocError>
     requires { IsPart part.now }
-    ensures { IfOk result (λ mask. mask ≡ said_of (λ value. compared comparison value (value_of other.entry)) part.now) }
+    ensures { IfOk result (λ mask. mask
+        ≡ said_of (λ value. compared comparison value (value_of other.entry)) part.now) }
 {
     let column = part.column;
     let _len = column.len();

@@ -1,6 +1,7 @@
 //! Numbers of any one type, within a range.
 
-ghost use Rattle.std.specs.Prelude.{◌≡◌, ◌≤◌, ◌<◌, ◌+◌, ◌*◌, ◌^◌, ℕ, ℤ, FitsSigned, List, length, map, IfOk};
+ghost use Rattle.std.specs.Prelude.{◌≡◌, ◌≤◌, ◌<◌, ◌+◌, ◌*◌, ◌^◌, ℕ, ℤ, FitsSigned, List, length};
+ghost use Rattle.std.specs.Prelude.{map, IfOk};
 ghost use Rattle.std.specs.Int.{w128};
 ghost use Rattle.std.specs.List.{range_with_len};
 ghost use Rattle.scan_base.specs.declared.truth.Truth.{Truth as TruthValue};
@@ -53,7 +54,8 @@ impl<'a, E: Element> Slots for Within<'a, E> {
     ghost count = { λ s. s.count };
 
     ghost truth = { λ s place. where_known (is_valid s.validity.now place)
-        (is_within (E.value s.least) (E.value s.most) (E.value (E.of_bits (element_at E.WIDTH s.values.now place)))) };
+        (is_within (E.value s.least) (E.value s.most)
+        (E.value (E.of_bits (element_at E.WIDTH s.values.now place)))) };
 
     fn truth(&self, place: usize) -> Truth {
         if !is_valid(self.validity, place) {
@@ -78,7 +80,8 @@ impl<'a, E: Element> Within<'a, E> {
     // Whether a number is in the range, also that of a null.
     fn passes(&self, place: usize) -> bool
         requires { place < self.now.count }
-        ensures { result ≡ is_within (E.value self.now.least) (E.value self.now.most) (E.value (E.of_bits (element_at E.WIDTH self.now.values.now place))) }
+        ensures { result ≡ is_within (E.value self.now.least) (E.value self.now.most)
+            (E.value (E.of_bits (element_at E.WIDTH self.now.values.now place))) }
     {
         let number = E::read(self.values, place);
         (self.least <= number) & (number <= self.most)
@@ -87,7 +90,9 @@ impl<'a, E: Element> Within<'a, E> {
     // Which of the 64 numbers from `from` on are.
     fn passes_word(&self, from: usize) -> u64
         requires { from + 64 ≤ self.now.count }
-        ensures { (row : ℕ) → row < 64 → bit result row ≡ is_within (E.value self.now.least) (E.value self.now.most) (E.value (E.of_bits (element_at E.WIDTH self.now.values.now (from + row)))) }
+        ensures { (row : ℕ) → row < 64 →
+            bit result row ≡ is_within (E.value self.now.least) (E.value self.now.most)
+            (E.value (E.of_bits (element_at E.WIDTH self.now.values.now (from + row)))) }
     {
         let mut flags = [0u8; 64];
         for k in 0..64usize {
@@ -113,10 +118,13 @@ pub(crate) fn cells_in<E: Element + Bounded + FromPrimitive>(
     requires room { E.WIDTH * packed.now.count ≤ length packed.now.values.now }
     requires long { validity_count packed.now.validity.now packed.now.count ≡ packed.now.count }
     requires small { first + len < 2 ^ 64 }
-    requires fits { (place : ℕ) → E.fits (E.value (E.of_bits (element_at E.WIDTH packed.now.values.now place))) }
-    requires wide { (place : ℕ) → FitsSigned w128 (E.value (E.of_bits (element_at E.WIDTH packed.now.values.now place))) }
+    requires fits { (place : ℕ) →
+        E.fits (E.value (E.of_bits (element_at E.WIDTH packed.now.values.now place))) }
+    requires wide { (place : ℕ) →
+        FitsSigned w128 (E.value (E.of_bits (element_at E.WIDTH packed.now.values.now place))) }
     ensures { (test : Value → TruthValue) → TestsBy range.now test → IfOk result (λ mask. mask ≡ map
-        (said_where_valid test packed.now.validity.now (λ place. E.value (E.of_bits (element_at E.WIDTH packed.now.values.now place))))
+        (said_where_valid test packed.now.validity.now
+        (λ place. E.value (E.of_bits (element_at E.WIDTH packed.now.values.now place))))
         (range_with_len first len)) }
 {
     let kernel = within_ends(packed, &ends_of::<E>(range));

@@ -75,8 +75,9 @@ enum OtherEnd {
     Broken,
 }
 
-// Looks at the other end of a stream. No byte is taken, and it does not wait. Nothing else may read or write the stream
-// meanwhile. The error is asked for first, since a peek tells of it only where no byte waits to be read.
+// Looks at the other end of a stream. No byte is taken, and it does not wait. Nothing else may read
+// or write the stream meanwhile. The error is asked for first, since a peek tells of it only where
+// no byte waits to be read.
 fn other_end_of(stream: &TcpStream) -> OtherEnd {
     let Ok(None) = stream.take_error() else {
         return OtherEnd::Broken;
@@ -98,8 +99,8 @@ fn other_end_of(stream: &TcpStream) -> OtherEnd {
     }
 }
 
-// Whether a client is still waited for that has ended what it sends. When that was first found is noted. It is not where the
-// clock gives no time.
+// Whether a client is still waited for that has ended what it sends. When that was first found is
+// noted. It is not where the clock gives no time.
 fn is_waited_for(clock: &impl Clock, ended: &mut Option<Instant>) -> bool {
     match Instant::now(clock) {
         Ok(now) => is_soon(*ended.get_or_insert(now), now),
@@ -183,8 +184,8 @@ fn patience_of(idle: u16) -> Option<Duration> {
     }
 }
 
-// Errors of accept(2) that may pass, by their numbers on Linux: no descriptor or no memory is free, the client is gone, a signal
-// came, or an error of the network was pending.
+// Errors of accept(2) that may pass, by their numbers on Linux: no descriptor or no memory is free,
+// the client is gone, a signal came, or an error of the network was pending.
 const EINTR: i32 = 4;
 
 const ENOMEM: i32 = 12;

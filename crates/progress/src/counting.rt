@@ -5,8 +5,8 @@ ghost use Rattle.std.specs.Prelude.{◌≤◌, ◌<◌, length};
 use crate::beginning::{MOST_LOOKED, record_length, rows_begun};
 use std::alloc::Global;
 
-/// Counts the rows of the record batches in records that pass, cut anywhere. It holds the beginning of one record at a time, and
-/// changes none.
+/// Counts the rows of the record batches in records that pass, cut anywhere. It holds the beginning
+/// of one record at a time, and changes none.
 #[derive(Drop)]
 pub struct RowCounter {
     // What came of the record at hand, up to where its rows are known.
@@ -24,8 +24,8 @@ impl RowCounter {
         }
     }
 
-    /// How many rows begin in a piece, whose records go on where the last piece ended. Where memory is refused no further row is
-    /// counted.
+    /// How many rows begin in a piece, whose records go on where the last piece ended. Where memory
+    /// is refused no further row is counted.
     pub fn pass(&mut self, piece: &[u8]) -> u64 {
         let mut rows: u64 = 0;
         let mut left = piece;
@@ -40,7 +40,7 @@ impl RowCounter {
         rows
     }
 
-    // Passes over the rest of a record whose rows are known, and gives what lies behind.
+    // Passes over the rest of a record whose rows are known, and gives what lies after.
     fn pass_over<'a>(&mut self, left: &'a [u8]) -> &'a [u8]
         requires some { 0 < self.old.rest }
         requires more { 0 < length left.now }

@@ -1,6 +1,8 @@
-//! How far the calls of a client have come: the rows and bytes that passed over its connections, told in lines.
+//! How far the calls of a client have come: the rows and bytes that passed over its connections,
+//! told in lines.
 //!
-//! `Watched` is a network whose connections are watched. What it gives is what the network below gives, and so are its failures.
+//! `Watched` is a network whose connections are watched. What it gives is what the network below
+//! gives, and so are its failures.
 #![tactic(auto)]
 
 mod beginning;

@@ -17,8 +17,9 @@ pub fn progress_line(alloc: Global, rows: u64, bytes: u64) -> Result<String, All
     format!(in alloc; "progress: {rows} rows, {bytes} bytes\n")
 }
 
-/// How many rows and bytes passed over the connections of a call, in any of its threads. It prints them in a line, at most four
-/// times a second, where something passes and the clock gives the time. A line that can't be printed is left out.
+/// How many rows and bytes passed over the connections of a call, in any of its threads. It prints
+/// them in a line, at most four times a second, where something passes and the clock gives the
+/// time. A line that can't be printed is left out.
 #[derive(Drop)]
 pub struct Meter<'a, K, E> {
     clock: &'a K,
@@ -32,7 +33,7 @@ pub struct Meter<'a, K, E> {
 }
 
 impl<'a, K: Clock, E: Write + Copy> Meter<'a, K, E> {
-    /// Nothing passed yet. The first line is due behind a quarter of a second.
+    /// Nothing passed yet. The first line is due after a quarter of a second.
     pub fn new(clock: &'a K, alloc: Global, faults: E) -> Meter<'a, K, E> {
         Meter {
             clock,
@@ -54,7 +55,8 @@ impl<'a, K: Clock, E: Write + Copy> Meter<'a, K, E> {
         }
     }
 
-    // Whether a line is due now. One thread alone is told so, and the next line is due a pause later.
+    // Whether a line is due now. One thread alone is told so, and the next line is due a pause
+    // later.
     fn is_due(&self) -> bool {
         let Some(now) = self.milliseconds() else {
             return false;

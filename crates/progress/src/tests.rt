@@ -24,7 +24,8 @@ const OPEN: [u8; 4] = [1, 0, 1, b'/'];
 // Its End.
 const END: [u8; 1] = [3];
 
-// How many rows are counted in a call of two batches, each record of which comes in two pieces, cut behind so many bytes.
+// How many rows are counted in a call of two batches, each record of which comes in two pieces, cut
+// after so many bytes.
 fn counted(rt: HostRuntime, cut: usize) -> u64 {
     let mut counter = RowCounter::new(rt.alloc());
     let mut rows: u64 = 0;

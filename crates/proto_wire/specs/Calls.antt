@@ -1,12 +1,14 @@
 -- What the calls of the reader and of the writers give.
-use Rattle.std.specs.Prelude.{◌≡◌, ◌≢◌, ◌<◌, ℕ, List, [], ◌∷◌, length, map, flat_map, Option, Some, None, Result, Ok, Err}
+use Rattle.std.specs.Prelude.{◌≡◌, ◌≢◌, ◌<◌, ℕ, List, [], ◌∷◌, length, map, flat_map, Option, Some}
+use Rattle.std.specs.Prelude.{None, Result, Ok, Err}
 use Rattle.scan_base.specs.declared.fault.Fault.{Fault}
 use Rattle.scan_base.specs.declared.fault.Fault.TheVariants.{BadProto}
 use Rattle.scan_base.specs.Reading.{◌>>=◌}
 use Rattle.proto_wire.specs.declared.field.Field.{Field}
 use Rattle.proto_wire.specs.declared.field.Payload.{Payload}
 use Rattle.proto_wire.specs.declared.field.Payload.TheVariants as payloads
-use Rattle.proto_wire.specs.Standard.{Content, Varint, Fixed64, Chunk, Fixed32, Entry, IsFieldNumber, StandsInFront}
+use Rattle.proto_wire.specs.Standard.{Content, Varint, Fixed64, Chunk, Fixed32, Entry}
+use Rattle.proto_wire.specs.Standard.{IsFieldNumber, StandsInFront}
 use Rattle.proto_wire.specs.Reading.{field_at, fields_of}
 use Rattle.proto_wire.specs.Writing.{spelling}
 
@@ -42,7 +44,8 @@ KeepsStandard (Err fault) old new =
 -- by the list of all the fields that are left
 abbrev pub ReadsOn : Result (Option Field) Fault → List ℕ → List ℕ → Type 0
 ReadsOn (Ok (Some field)) old new =
-    (fields_of old ≡ (fields_of new >>= λ entries. Ok (entry_of field ∷ entries))) × (length new < length old)
+    (fields_of old ≡ (fields_of new >>= λ entries. Ok (entry_of field ∷ entries)))
+    × (length new < length old)
 ReadsOn (Ok None) old new = fields_of old ≡ Ok []
 ReadsOn (Err fault) old new = fields_of old ≡ Err fault
 

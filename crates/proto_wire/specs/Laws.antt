@@ -7,7 +7,8 @@ use Rattle.proto_wire.specs.Writing.{varint, spelling, chunk_head, IsWritable}
 -- the bytes that read as a list of fields are that list in the standard's words, and no others are
 abbrev pub ReadingKeepsStandard : Type 0
 ReadingKeepsStandard =
-    (bytes : List ℕ) (entries : List Entry) → (fields_of bytes ≡ Ok entries) ↔ IsFields bytes entries
+    (bytes : List ℕ) (entries : List Entry) →
+    (fields_of bytes ≡ Ok entries) ↔ IsFields bytes entries
 
 -- the same of the field at the front
 abbrev pub FrontKeepsStandard : Type 0
@@ -19,7 +20,8 @@ FrontKeepsStandard =
 abbrev pub AtMostOneFront : Type 0
 AtMostOneFront =
     (bytes : List ℕ) (entry other : Entry) (rest more : List ℕ)
-    → StandsInFront entry bytes rest → StandsInFront other bytes more → (entry ≡ other) × (rest ≡ more)
+    → StandsInFront entry bytes rest → StandsInFront other bytes more
+    → (entry ≡ other) × (rest ≡ more)
 
 -- bytes are at most one list of fields
 abbrev pub AtMostOneList : Type 0
@@ -36,13 +38,15 @@ abbrev pub SpellingKeepsStandard : Type 0
 SpellingKeepsStandard =
     (entries : List Entry) → All IsWritable entries → IsFields (flat_map spelling entries) entries
 
--- bytes that are fields are, with a written field behind them, the same fields and one more
+-- bytes that are fields are, with a written field after them, the same fields and one more
 abbrev pub FieldsAreGained : Type 0
 FieldsAreGained =
     (bytes : List ℕ) (entries : List Entry) (entry : Entry)
-    → IsFields bytes entries → IsWritable entry → IsFields (bytes ++ spelling entry) (entries ++ entry ∷ [])
+    → IsFields bytes entries → IsWritable entry
+    → IsFields (bytes ++ spelling entry) (entries ++ entry ∷ [])
 
 -- a field of bytes is its head, and then the bytes
 abbrev pub ChunksFollowHeads : Type 0
 ChunksFollowHeads = (number : ℕ) (chunk : List ℕ) →
-    spelling (record { number = number; content = Chunk chunk }) ≡ chunk_head number (length chunk) ++ chunk
+    spelling (record { number = number; content = Chunk chunk })
+    ≡ chunk_head number (length chunk) ++ chunk

@@ -1,12 +1,15 @@
 -- The fields of a list of bytes, read from its front, or the fault where there is none.
-use Rattle.std.specs.Prelude.{ℕ, zero, suc, ◌+◌, ◌*◌, ◌/◌, ◌%◌, ◌^◌, ◌==◌, ◌&&◌, Bool, List, [], ◌∷◌, length, take, drop, Result, Ok, Err, nat_lt, nat_le, if◌then◌else◌}
+use Rattle.std.specs.Prelude.{ℕ, zero, suc, ◌+◌, ◌*◌, ◌/◌, ◌%◌, ◌^◌, ◌==◌, ◌&&◌, Bool, List, []}
+use Rattle.std.specs.Prelude.{◌∷◌, length, take, drop, Result, Ok, Err, nat_lt, nat_le}
+use Rattle.std.specs.Prelude.{if◌then◌else◌}
 use Rattle.std.specs.Int.{w32, w64, from_le_bytes}
 use Rattle.scan_base.specs.declared.fault.Fault.{Fault}
 use Rattle.scan_base.specs.declared.fault.Fault.TheVariants.{BadProto}
 use Rattle.scan_base.specs.Reading.{◌>>=◌, demand}
 use Rattle.proto_wire.specs.Standard.{Content, Varint, Fixed64, Chunk, Fixed32, Entry}
 
--- the number in the groups at the front, whose last byte is among the first `places`, and what follows
+-- the number in the groups at the front, whose last byte is among the first `places`, and what
+-- follows
 abbrev pub groups_within : ℕ → List ℕ → Result (ℕ × List ℕ) Fault
 groups_within zero bytes = Err BadProto
 groups_within (suc places) [] = Err BadProto
@@ -24,16 +27,19 @@ bytes_at count bytes =
     if nat_le count (length bytes) then Ok (take count bytes, drop count bytes) else Err BadProto
 
 -- what a field holds, made of what is read, and what follows it
-abbrev pub content_by : {A : Type 0} → (A → Content) → Result (A × List ℕ) Fault → Result (Content × List ℕ) Fault
+abbrev pub content_by : {A : Type 0} → (A → Content) → Result (A × List ℕ) Fault →
+    Result (Content × List ℕ) Fault
 content_by make read = read >>= λ found. Ok (make found.0, found.1)
 
 -- what a field of this wire type holds, at the front, and what follows it
 unfoldable pub payload_at : ℕ → List ℕ → Result (Content × List ℕ) Fault
 payload_at wire bytes =
     if wire == 0 then content_by Varint (varint_at bytes)
-    else (if wire == 1 then content_by (λ fixed. Fixed64 (from_le_bytes w64 fixed)) (bytes_at 8 bytes)
+    else (if wire == 1
+    then content_by (λ fixed. Fixed64 (from_le_bytes w64 fixed)) (bytes_at 8 bytes)
     else (if wire == 2 then (varint_at bytes >>= λ len. content_by Chunk (bytes_at len.0 len.1))
-    else (if wire == 5 then content_by (λ fixed. Fixed32 (from_le_bytes w32 fixed)) (bytes_at 4 bytes)
+    else (if wire == 5
+    then content_by (λ fixed. Fixed32 (from_le_bytes w32 fixed)) (bytes_at 4 bytes)
     else Err BadProto)))
 
 -- a field may have this number
@@ -57,6 +63,7 @@ fields_within (suc most) (b ∷ bytes) = do
   others ← fields_within most first.1
   Ok (first.0 ∷ others)
 
--- the fields that the bytes, all of them, are: each field has a byte, so there are no more than bytes
+-- the fields that the bytes, all of them, are: each field has a byte, so there are no more than
+-- bytes
 unfoldable pub fields_of : List ℕ → Result (List Entry) Fault
 fields_of bytes = fields_within (length bytes) bytes

@@ -1,6 +1,6 @@
--- What a message is on the wire, in the words of the Protocol Buffers encoding: a list of fields, one
--- after the other. No code and no order of reading is in it. Groups (wire types 3 and 4) are left out, and
--- a varint longer than needed is taken modulo 2^64: these two rules are our own.
+-- What a message is on the wire, in the words of the Protocol Buffers encoding: a list of fields,
+-- one after the other. No code and no order of reading is in it. Groups (wire types 3 and 4) are
+-- left out, and a varint longer than needed is taken modulo 2^64: these two rules are our own.
 use Rattle.std.specs.Prelude.{◌≡◌, ℕ, ◌+◌, ◌*◌, ◌%◌, ◌^◌, ◌≤◌, ◌<◌, ◌++◌, List, [], ◌∷◌, length}
 use Rattle.std.specs.Int.{w32, w64, from_le_bytes}
 
@@ -31,7 +31,8 @@ abbrev pub groups_value : List ℕ → ℕ
 groups_value [] = 0
 groups_value (b ∷ bytes) = b % 128 + 128 * groups_value bytes
 
--- the bytes are a varint of this value: at most ten groups, and the value is what they say in 64 bits
+-- the bytes are a varint of this value: at most ten groups, and the value is what they say in 64
+-- bits
 pub record IsVarint (bytes : List ℕ) (value : ℕ) : Type 0 where
   pub groups : IsGroups bytes
   pub short : length bytes ≤ 10
@@ -70,7 +71,8 @@ pub record IsField (bytes : List ℕ) (entry : Entry) : Type 0 where
 abbrev pub IsFields : List ℕ → List Entry → Type 0
 IsFields bytes [] = bytes ≡ []
 IsFields bytes (entry ∷ entries) =
-    (first : List ℕ) × (rest : List ℕ) × (bytes ≡ first ++ rest) × IsField first entry × IsFields rest entries
+    (first : List ℕ) × (rest : List ℕ) × (bytes ≡ first ++ rest) × IsField first entry
+    × IsFields rest entries
 
 -- a front of the bytes is this field, and the rest follows it
 pub record StandsInFront (entry : Entry) (bytes rest : List ℕ) : Type 0 where

@@ -1,7 +1,10 @@
--- The bytes that are written for a field: the shortest varints, and everything else as the standard says.
-use Rattle.std.specs.Prelude.{ℕ, zero, suc, ◌+◌, ◌*◌, ◌/◌, ◌%◌, ◌^◌, ◌<◌, ◌++◌, List, [], ◌∷◌, length, nat_lt, if◌then◌else◌}
+-- The bytes that are written for a field: the shortest varints, and everything else as the standard
+-- says.
+use Rattle.std.specs.Prelude.{ℕ, zero, suc, ◌+◌, ◌*◌, ◌/◌, ◌%◌, ◌^◌, ◌<◌, ◌++◌, List, [], ◌∷◌}
+use Rattle.std.specs.Prelude.{length, nat_lt, if◌then◌else◌}
 use Rattle.std.specs.Int.{w32, w64, to_le_bytes}
-use Rattle.proto_wire.specs.Standard.{Content, Varint, Fixed64, Chunk, Fixed32, Entry, wire_type, IsFieldNumber}
+use Rattle.proto_wire.specs.Standard.{Content, Varint, Fixed64, Chunk, Fixed32, Entry, wire_type}
+use Rattle.proto_wire.specs.Standard.{IsFieldNumber}
 
 -- the shortest groups of a number, at most one and this many more
 abbrev pub groups_of : ℕ → ℕ → List ℕ
@@ -23,7 +26,8 @@ body (Fixed32 value) = to_le_bytes w32 value
 unfoldable pub spelling : Entry → List ℕ
 spelling entry = varint (8 * entry.number + wire_type entry.content) ++ body entry.content
 
--- what is written before the bytes of a field of so many bytes: its tag, of wire type 2, and its length
+-- what is written before the bytes of a field of so many bytes: its tag, of wire type 2, and its
+-- length
 unfoldable pub chunk_head : ℕ → ℕ → List ℕ
 chunk_head number len = varint (8 * number + 2) ++ varint len
 

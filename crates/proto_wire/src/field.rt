@@ -15,7 +15,7 @@ pub enum Payload<'a> {
     Varint(u64),
     /// Wire type 1: eight bytes, least significant first.
     Fixed64(u64),
-    /// Wire type 2: bytes behind their length. Texts and embedded messages are such bytes.
+    /// Wire type 2: bytes after their length. Texts and embedded messages are such bytes.
     Bytes(&'a [u8]),
     /// Wire type 5: four bytes, least significant first.
     Fixed32(u32),

@@ -36,7 +36,7 @@ pub fn spelling_keeps_standard()
     ensures { SpellingKeepsStandard }
 {}
 
-/// Bytes that are fields are, with a written field behind them, the same fields and one more.
+/// Bytes that are fields are, with a written field after them, the same fields and one more.
 pub fn fields_are_gained()
     ensures { FieldsAreGained }
 {}

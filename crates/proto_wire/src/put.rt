@@ -21,7 +21,7 @@ fn append_tag(out: &mut Vec<u8>, number: u32, wire_type: u64) -> Result<(), Allo
     append_varint(out, 8 * u64::from(number) + wire_type)
 }
 
-// Writes bytes behind their length at the end, and may leave a piece where memory runs out.
+// Writes bytes after their length at the end, and may leave a piece where memory runs out.
 fn append_chunk(out: &mut Vec<u8>, chunk: &[u8]) -> Result<(), AllocError>
     ensures ok { OnOk result (out.new.items
         ≡ out.old.items ++ (varint (length chunk.now) ++ chunk.now)) }
@@ -184,8 +184,8 @@ fn append_bytes_head(out: &mut Vec<u8>, number: u32, len: u64) -> Result<(), All
     append_varint(out, len)
 }
 
-/// Writes at the end what comes before the bytes of a field of so many bytes: its tag and its length.
-/// The caller writes the bytes behind it, and so copies them once.
+/// Writes at the end what comes before the bytes of a field of so many bytes: its tag and its
+/// length. The caller writes the bytes after it, and so copies them once.
 ///
 /// # Errors
 ///

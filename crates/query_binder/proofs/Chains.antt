@@ -27,7 +27,7 @@ operators (membership negated operand items) = 0
 operators (null_test negated operand) = 0
 operators (constant truth) = 0
 
--- a predicate with these behind it, the last first
+-- a predicate with these after it, the last first
 abbrev pub chained : Pred ColumnName → List SideAt → Pred ColumnName
 chained p [] = p
 chained p (side ∷ sides) = connected side.connective (chained p sides) side.predicate
@@ -43,7 +43,7 @@ chained_first (membership negated operand items) = refl
 chained_first (null_test negated operand) = refl
 chained_first (constant truth) = refl
 
--- the side that is nearest is behind the predicate
+-- the side that is nearest is after the predicate
 pub chained_nearest : (p : Pred ColumnName) (sides : List SideAt) (side : SideAt) →
     chained p (sides ++ side ∷ []) ≡ chained (connected side.connective p side.predicate) sides
 chained_nearest p [] side = refl

@@ -11,7 +11,7 @@ pub binds_as : {X : Type 0} (first other : Option Fault) (P Q : X → Type 0) (g
 binds_as first other P Q (Ok x) same more given = (sym same ∙ given.0, more x given.1)
 binds_as first other P Q (Err fault) same more given = λ other_one. sym same ∙ given other_one
 
--- behind a check without a fault
+-- after a check without a fault
 pub binds_then : {X : Type 0} (first second whole : Option Fault) (P Q : X → Type 0) (given : Result X Fault) →
     whole ≡ (first then second) → first ≡ None → ((x : X) → P x → Q x) → Binds second P given → Binds whole Q given
 binds_then first second whole P Q given is none more =

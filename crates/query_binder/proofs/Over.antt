@@ -88,7 +88,7 @@ joins_same catalog scope tree (join ∷ joins) (table ∷ tables) are =
     (tree_same catalog join.place table head)
     ∙ joins_same catalog wide (joined_over scope tree join table) joins tables tail
 
--- the tables behind the first
+-- the tables after the first
 pub others_are : (catalog : CatalogAt) (first : Place) (joins : List Join) (tables : List TableAt) →
     AreTablesOf catalog (places_of first joins) tables →
     AreTablesOf catalog (map (λ join. join.place) joins) (take (length tables - 1) (drop 1 tables))
@@ -103,7 +103,7 @@ pub some_tables : (catalog : CatalogAt) (first : Place) (joins : List Join) (tab
 some_tables catalog first joins [] are = cc
 some_tables catalog first joins (table ∷ tables) are = omega arith
 
--- what is found behind the places is what is found
+-- what is found after the places is what is found
 pub fault_is : (query : Sentence) (catalog : CatalogAt) (first : TableAt) (others : List TableAt) →
     is_left_out_whole query ≡ false → table_at catalog query.first.table ≡ Some first →
     AreTablesOf catalog (map (λ join. join.place) query.joins) others →

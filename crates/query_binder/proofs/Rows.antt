@@ -487,7 +487,7 @@ joined_groups = refl
 
 -- ---- which fault comes first
 
--- every place's table and name before any ON: a third place that is absent, behind an ON of no column
+-- every place's table and name before any ON: a third place that is absent, after an ON of no column
 third_is_missing : rules_fault (record (from_t select.All) {
   joins =
       join (place (codes "u")) (t_of_name (codes "z")) (u_of (codes "a"))

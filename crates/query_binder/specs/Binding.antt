@@ -19,7 +19,8 @@ pub record IsPlanOf (query : Sentence) (database : Database) (plan : PlanAt) : T
   pub schema : plan.schema ≡ result_schema query database
   pub over : IsOver plan.tree database
 
--- the plan that the parts of a query name is a plan of the query, and well typed, wherever the rules find no fault
+-- the plan that the parts of a query name is a plan of the query, and well typed, wherever the
+-- rules find no fault
 abbrev pub PlansMean : Type 0
 PlansMean = (query : Sentence) (database : Database) → fault_of query database ≡ None →
     IsPlanOf query database (plan_for query database) × IsTyped (plan_for query database)

@@ -5,7 +5,8 @@ use Rattle.std.specs.List.{list_any}
 use Rattle.std.specs.Str.{bytes_eq}
 use Rattle.scan_base.specs.Limits.{most_columns}
 use Rattle.scan_base.specs.declared.fault.Fault.{Fault}
-use Rattle.scan_base.specs.declared.fault.Fault.TheVariants.{TableMissing, LimitReached, UnknownName, TypeClash}
+use Rattle.scan_base.specs.declared.fault.Fault.TheVariants.{TableMissing, LimitReached}
+use Rattle.scan_base.specs.declared.fault.Fault.TheVariants.{UnknownName, TypeClash}
 use Rattle.scan_base.specs.declared.fault.Fault.TheVariants.{NotInSubset}
 use Rattle.sql_query.specs.declared.query.Place.{Place}
 use Rattle.sql_query.specs.declared.query.Equality.{Equality}
@@ -28,13 +29,15 @@ place_fault database earlier place =
     must (is_some (table_at database place.table)) TableMissing
     then must (not (list_any (bytes_eq (place_name place)) earlier)) UnknownName
 
--- the places in their order, behind places of these names
+-- the places in their order, after places of these names
 abbrev pub places_fault : Database → List Name → List Place → Option Fault
 places_fault database earlier [] = None
 places_fault database earlier (place ∷ places) =
-    place_fault database earlier place then places_fault database (earlier ++ place_name place ∷ []) places
+    place_fault database earlier place
+    then places_fault database (earlier ++ place_name place ∷ []) places
 
--- whether one column is of the new place, whose columns begin at this number, and one of an earlier place
+-- whether one column is of the new place, whose columns begin at this number, and one of an earlier
+-- place
 abbrev pub crosses : ℕ → ℕ → ℕ → Bool
 crosses seam left right = if nat_lt left seam then not (nat_lt right seam) else nat_lt right seam
 
@@ -42,7 +45,8 @@ crosses seam left right = if nat_lt left seam then not (nat_lt right seam) else 
 abbrev pub equality_fault : ℕ → Scope → Equality → Option Fault
 equality_fault seam scope equality =
     compare_fault (class_of_name scope equality.left) (class_of_name scope equality.right)
-    then must (crosses seam (numbered scope equality.left) (numbered scope equality.right)) NotInSubset
+    then must (crosses seam (numbered scope equality.left) (numbered scope equality.right))
+    NotInSubset
 
 -- each ON looks at the places up to its own
 abbrev pub joins_fault : Database → Scope → List Join → Option Fault
@@ -53,9 +57,11 @@ joins_fault database scope (join ∷ joins) =
 
 -- a column of a grouped query is one of GROUP BY, whose names mean columns
 abbrev pub may_select : Sentence → Scope → ℕ → Bool
-may_select query scope number = not (is_grouped query) || list_any (λ name. number == numbered scope name) query.group_by
+may_select query scope number =
+    not (is_grouped query) || list_any (λ name. number == numbered scope name) query.group_by
 
--- an expression's name; then of a column whether the query may select it, and of a SUM whether it takes its values
+-- an expression's name; then of a column whether the query may select it, and of a SUM whether it
+-- takes its values
 abbrev pub expression_fault : Sentence → Scope → Expression → Option Fault
 expression_fault query scope (expression.Column name) =
     found (column_of scope name) (λ number. must (may_select query scope number) NotInSubset)
@@ -72,7 +78,8 @@ width_fault columns = must (not (nat_lt most_columns columns)) LimitReached
 abbrev pub select_fault : Sentence → Scope → Select → Option Fault
 select_fault query scope select.All = width_fault (length scope)
 select_fault query scope (select.List items) =
-    first_in (λ item. expression_fault query scope item.expression) items then width_fault (length items)
+    first_in (λ item. expression_fault query scope item.expression) items
+    then width_fault (length items)
 
 -- why a query is refused, by the rules
 abbrev pub rules_fault : Sentence → Database → Option Fault
@@ -86,9 +93,11 @@ rules_fault query database =
 
 -- why a query is refused: what is left out comes before the rules
 abbrev pub fault_of : Sentence → Database → Option Fault
-fault_of query database = must (not (is_left_out_whole query)) NotInSubset then rules_fault query database
+fault_of query database =
+    must (not (is_left_out_whole query)) NotInSubset then rules_fault query database
 
--- what a query shows before any memory is taken: that it is left out, and then why a place of it is refused
+-- what a query shows before any memory is taken: that it is left out, and then why a place of it is
+-- refused
 abbrev pub glance_of : Sentence → Database → Option Fault
 glance_of query database =
     must (not (is_left_out_whole query)) NotInSubset

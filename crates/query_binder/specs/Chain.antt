@@ -7,7 +7,7 @@ use Rattle.query_binder.specs.declared.chain.Connective.{Connective}
 use Rattle.query_binder.specs.declared.chain.Connective.TheVariants.{And, Or}
 use Rattle.query_binder.specs.declared.chain.Side.{Side}
 
--- what stands behind a predicate in a chain
+-- what stands after a predicate in a chain
 pub record SideAt : Type 0 where
   pub connective : Connective
   pub predicate : Pred ColumnName
@@ -16,7 +16,7 @@ pub record SideAt : Type 0 where
 abbrev pub side_of : Side → SideAt
 side_of side = record { connective = side.connective; predicate = pred_of side.predicate.now }
 
--- a predicate with another behind it
+-- a predicate with another after it
 abbrev pub connected : {C : Type 0} → Connective → Pred C → Pred C → Pred C
 connected And p q = conjunction p q
 connected Or p q = disjunction p q
@@ -27,7 +27,7 @@ first_of (conjunction p q) = first_of p
 first_of (disjunction p q) = first_of p
 first_of p = p
 
--- what stands behind it, the last first
+-- what stands after it, the last first
 abbrev pub sides_of : Pred ColumnName → List SideAt
 sides_of (conjunction p q) = record { connective = And; predicate = q } ∷ sides_of p
 sides_of (disjunction p q) = record { connective = Or; predicate = q } ∷ sides_of p

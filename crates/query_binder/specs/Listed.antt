@@ -16,7 +16,8 @@ abbrev pub column_fault : Scope → Expression → Option Fault
 column_fault scope (Column name) = fault_in (column_of scope name)
 column_fault scope _ = Some NotInSubset
 
--- an item over groups of this key: its name, then whether the column is one of the key, or has a sum
+-- an item over groups of this key: its name, then whether the column is one of the key, or has a
+-- sum
 abbrev pub aggregate_fault : Scope → List ℕ → Expression → Option Fault
 aggregate_fault scope keys (Column name) =
     found (column_of scope name) (λ number. must (list_any (λ key. key == number) keys) NotInSubset)

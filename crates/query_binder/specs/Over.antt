@@ -27,7 +27,8 @@ names_of first joins = place_name first ∷ map (λ join. place_name join.place)
 -- these are the catalog's tables of the places
 abbrev pub AreTablesOf : CatalogAt → List Place → List TableAt → Type 0
 AreTablesOf catalog places tables =
-    map (λ place. table_at catalog place.table) places ≡ map (λ (table : TableAt). Some table) tables
+    map (λ place. table_at catalog place.table) places
+    ≡ map (λ (table : TableAt). Some table) tables
 
 -- the columns of a place over its table
 abbrev pub columns_over : Place → TableAt → Scope
@@ -45,11 +46,12 @@ joins_fault_over scope (join ∷ joins) (table ∷ tables) =
     first_in (equality_fault (length scope) (scope ++ columns_over join.place table)) join.on
     then joins_fault_over (scope ++ columns_over join.place table) joins tables
 
--- the columns behind the joins
+-- the columns after the joins
 abbrev pub scope_over : Scope → List Join → List TableAt → Scope
 scope_over scope [] tables = scope
 scope_over scope (join ∷ joins) [] = scope
-scope_over scope (join ∷ joins) (table ∷ tables) = scope_over (scope ++ columns_over join.place table) joins tables
+scope_over scope (join ∷ joins) (table ∷ tables) =
+    scope_over (scope ++ columns_over join.place table) joins tables
 
 -- the tree with one place more
 abbrev pub joined_over : Scope → Tree → Join → TableAt → Tree
@@ -57,12 +59,13 @@ joined_over scope tree join table =
     joined tree (scan_over join.place table)
     (keys_of (length scope) (scope ++ columns_over join.place table) join.on)
 
--- the tree behind the joins
+-- the tree after the joins
 abbrev pub tree_over : Scope → Tree → List Join → List TableAt → Tree
 tree_over scope tree [] tables = tree
 tree_over scope tree (join ∷ joins) [] = tree
 tree_over scope tree (join ∷ joins) (table ∷ tables) =
-    tree_over (scope ++ columns_over join.place table) (joined_over scope tree join table) joins tables
+    tree_over (scope ++ columns_over join.place table)
+    (joined_over scope tree join table) joins tables
 
 -- the columns of all places
 abbrev pub all_over : Sentence → TableAt → List TableAt → Scope
@@ -71,13 +74,14 @@ all_over query first others = scope_over (columns_over query.first first) query.
 -- GROUP BY, then the list
 abbrev pub output_fault : Sentence → Scope → Option Fault
 output_fault query scope =
-    first_in (λ name. fault_in (column_of scope name)) query.group_by then select_fault query scope query.select
+    first_in (λ name. fault_in (column_of scope name)) query.group_by
+    then select_fault query scope query.select
 
 -- WHERE, then GROUP BY and the list
 abbrev pub rest_fault : Sentence → Scope → Option Fault
 rest_fault query scope = filter_fault scope query.filter then output_fault query scope
 
--- what is found behind the places
+-- what is found after the places
 abbrev pub parts_fault : Sentence → TableAt → List TableAt → Option Fault
 parts_fault query first others =
     joins_fault_over (columns_over query.first first) query.joins others
@@ -88,7 +92,8 @@ abbrev pub plan_over : Sentence → TableAt → List TableAt → PlanAt
 plan_over query first others =
     record {
       tree = where_kept (numbered_filter (all_over query first others) query.filter)
-          (tree_over (columns_over query.first first) (scan_over query.first first) query.joins others);
+          (tree_over (columns_over query.first first)
+          (scan_over query.first first) query.joins others);
       output = output_for query (all_over query first others);
       schema = record { fields = select_fields (all_over query first others) query.select };
     }

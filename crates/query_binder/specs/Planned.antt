@@ -1,5 +1,6 @@
 -- The plan of a query: the tree that its parts name.
-use Rattle.std.specs.Prelude.{ℕ, ◌+◌, ◌==◌, nat_lt, if◌then◌else◌, List, [], ◌∷◌, ◌++◌, length, map, Option, Some, None}
+use Rattle.std.specs.Prelude.{ℕ, ◌+◌, ◌==◌, nat_lt, if◌then◌else◌, List, [], ◌∷◌, ◌++◌, length, map}
+use Rattle.std.specs.Prelude.{Option, Some, None}
 use Rattle.arrow_schema.specs.declared.schema.Schema.{Schema}
 use Rattle.scan_base.specs.Predicate.{Pred}
 use Rattle.sql_query.specs.declared.query.ColumnName.{ColumnName}
@@ -36,9 +37,11 @@ schema_in (Some table) = table.schema
 abbrev pub place_tree : Database → Place → Tree
 place_tree database place = scan place.table (schema_in (table_at database place.table)) All
 
--- the key of two columns, where those of the new place begin at this number: the one of an earlier place is the left one
+-- the key of two columns, where those of the new place begin at this number: the one of an earlier
+-- place is the left one
 abbrev pub key_of : ℕ → ℕ → ℕ → JoinKey
-key_of seam one other = if nat_lt one seam then record { left = one; right = other } else record { left = other; right = one }
+key_of seam one other = if nat_lt one seam then record { left = one; right = other }
+    else record { left = other; right = one }
 
 -- the keys of an ON, over the columns of the places up to its own
 abbrev pub keys_of : ℕ → Scope → List Equality → List JoinKey
@@ -50,12 +53,14 @@ abbrev pub joins_tree : Database → Scope → Tree → List Join → Tree
 joins_tree database scope tree [] = tree
 joins_tree database scope tree (join ∷ joins) =
     let wider = scope ++ place_columns database join.place in
-    joins_tree database wider (joined tree (place_tree database join.place) (keys_of (length scope) wider join.on)) joins
+    joins_tree database wider
+    (joined tree (place_tree database join.place) (keys_of (length scope) wider join.on)) joins
 
 -- the tree of FROM
 abbrev pub from_tree : Sentence → Database → Tree
 from_tree query database =
-    joins_tree database (place_columns database query.first) (place_tree database query.first) query.joins
+    joins_tree database (place_columns database query.first)
+    (place_tree database query.first) query.joins
 
 -- WHERE, over numbers of columns
 abbrev pub numbered_filter : Scope → Option (Pred ColumnName) → Option (Pred ℕ)
@@ -95,13 +100,15 @@ aggregate_of scope keys (expression.Sum name) = Sum (numbered scope name)
 -- the items that are selected of groups; `*` selects none
 abbrev pub aggregates : Scope → List ℕ → Select → List Aggregate
 aggregates scope keys select.All = []
-aggregates scope keys (select.List items) = map (λ item. aggregate_of scope keys item.expression) items
+aggregates scope keys (select.List items) =
+    map (λ item. aggregate_of scope keys item.expression) items
 
 -- what the result takes
 abbrev pub output_for : Sentence → Scope → Output
 output_for query scope =
     if is_grouped query
-    then Groups (map (numbered scope) query.group_by) (aggregates scope (map (numbered scope) query.group_by) query.select)
+    then Groups (map (numbered scope) query.group_by)
+    (aggregates scope (map (numbered scope) query.group_by) query.select)
     else Project (chosen scope query.select)
 
 -- the plan of a query at a database

@@ -1,5 +1,6 @@
 -- The columns of a query's result.
-use Rattle.std.specs.Prelude.{ℕ, ◌+◌, true, false, List, [], ◌∷◌, ◌++◌, slice_get, Option, Some, None, unwrap_or}
+use Rattle.std.specs.Prelude.{ℕ, ◌+◌, true, false, List, [], ◌∷◌, ◌++◌, slice_get, Option, Some}
+use Rattle.std.specs.Prelude.{None, unwrap_or}
 use Rattle.std.specs.Prelude.{codes}
 use Rattle.std.specs.Fmt.{decimal}
 use Rattle.arrow_schema.specs.declared.data_type.DataType.TheVariants.{Integer, Utf8, Decimal128}
@@ -18,8 +19,8 @@ use Rattle.table_versions.specs.Database.{Database}
 use Rattle.typed_plan.specs.Scope.{Scope, ScopeColumn, numbered}
 use Rattle.typed_plan.specs.Joined.{scope_of}
 
--- the result's column of this number, counted from 0, for a column of the scope; a query with a name that means none is
--- refused before
+-- the result's column of this number, counted from 0, for a column of the scope; a query with a
+-- name that means none is refused before
 abbrev pub field_at : ℕ → Option ScopeColumn → Field
 field_at number (Some column) = answered_field number column.field
 field_at number None = record { name = []; nullable = true; data_type = Utf8 }
@@ -30,7 +31,8 @@ aggregate_name number = codes "col" ++ decimal (number + 1)
 
 -- the result's column of this number for an expression, before an alias
 abbrev pub expression_field : Scope → ℕ → Expression → Field
-expression_field scope number (Column name) = field_at number (slice_get scope (numbered scope name))
+expression_field scope number (Column name) =
+    field_at number (slice_get scope (numbered scope name))
 expression_field scope number CountRows =
     record { name = aggregate_name number; nullable = false; data_type = Integer Int64 }
 expression_field scope number (Count name) =
@@ -47,12 +49,14 @@ item_field scope number item =
 -- the columns of a list, the first of which has this number
 abbrev pub list_fields : Scope → ℕ → List SelectItem → List Field
 list_fields scope number [] = []
-list_fields scope number (item ∷ items) = item_field scope number item ∷ list_fields scope (number + 1) items
+list_fields scope number (item ∷ items) =
+    item_field scope number item ∷ list_fields scope (number + 1) items
 
 -- the columns for all of a scope, the first of which has this number
 abbrev pub numbered_fields : ℕ → Scope → List Field
 numbered_fields number [] = []
-numbered_fields number (column ∷ scope) = answered_field number column.field ∷ numbered_fields (number + 1) scope
+numbered_fields number (column ∷ scope) =
+    answered_field number column.field ∷ numbered_fields (number + 1) scope
 
 -- the columns of what is selected
 abbrev pub select_fields : Scope → Select → List Field
@@ -61,4 +65,5 @@ select_fields scope (select.List items) = list_fields scope 0 items
 
 -- the schema of a query's result
 abbrev pub result_schema : Sentence → Database → Schema
-result_schema query database = record { fields = select_fields (scope_of query database) query.select }
+result_schema query database =
+    record { fields = select_fields (scope_of query database) query.select }

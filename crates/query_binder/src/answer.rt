@@ -7,8 +7,8 @@ use arrow_schema::Field;
 use scan_base::Text;
 use std::alloc::AllocError;
 
-// The column of a result that has this number and gives the values of a column, with the alias as its name where there is
-// one.
+// The column of a result that has this number and gives the values of a column, with the alias as
+// its name where there is one.
 pub(crate) fn answer_field(
     field: &Field,
     number: u64,

@@ -29,26 +29,31 @@ use std::alloc::{AllocError, Global};
 use table_versions::{CatalogVersion, TableVersion};
 use typed_plan::{Output, Plan, TypedPlan};
 
-/// The plan of a query at a version of the catalog: the one tree that the parts of the query name. It gives the rows that
-/// the query means, on every range of the first place, and has the schema of the result, which can be written where the
-/// query's aliases are names. It shares the tables of its places.
+/// The plan of a query at a version of the catalog: the one tree that the parts of the query name.
+/// It gives the rows that the query means, on every range of the first place, and has the schema of
+/// the result, which can be written where the query's aliases are names. It shares the tables of
+/// its places.
 ///
 /// # Errors
 ///
-/// The first of these. F16 (`Fault::NotInSubset`) where the query has a JOIN and makes groups, or selects `*` of groups.
-/// Then, place by place, F9 (`Fault::TableMissing`) where a table is absent, and F14 (`Fault::UnknownName`) where an earlier
-/// place goes by the name. Then, from the left, the ON of each join, WHERE, GROUP BY and the list: F14 at a name that means
-/// no column of the places so far, or several; F15 (`Fault::TypeClash`) where the two sides of a comparison are of different
-/// classes, and at a SUM of what is no integer; F16 where an equality of an ON has not one column of its new place and one
-/// of an earlier one, and at a column that is selected of groups and is none of GROUP BY. F12 (`Fault::LimitReached`) where
-/// the result has more than 64 columns. F21 (`Fault::OutOfMemory`) where memory is refused, which is not asked for before the
+/// The first of these. F16 (`Fault::NotInSubset`) where the query has a JOIN and makes groups, or
+/// selects `*` of groups. Then, place by place, F9 (`Fault::TableMissing`) where a table is absent,
+/// and F14 (`Fault::UnknownName`) where an earlier place goes by the name. Then, from the left, the
+/// ON of each join, WHERE, GROUP BY and the list: F14 at a name that means no column of the places
+/// so far, or several; F15 (`Fault::TypeClash`) where the two sides of a comparison are of
+/// different classes, and at a SUM of what is no integer; F16 where an equality of an ON has not
+/// one column of its new place and one of an earlier one, and at a column that is selected of
+/// groups and is none of GROUP BY. F12 (`Fault::LimitReached`) where the result has more than 64
+/// columns. F21 (`Fault::OutOfMemory`) where memory is refused, which is not asked for before the
 /// places are looked at.
 pub fn bind(alloc: Global, query: &Query, catalog: &CatalogVersion) -> Result<TypedPlan, Fault>
     ensures bound { Binds (fault_of (sentence_of query.now) (tables_of catalog.now))
         (λ plan. plan_of plan ≡ plan_for (sentence_of query.now) (tables_of catalog.now)) result }
-    ensures means { IfOk result (λ plan. IsPlanOf (sentence_of query.now) (tables_of catalog.now) (plan_of plan)) }
+    ensures means { IfOk result
+        (λ plan. IsPlanOf (sentence_of query.now) (tables_of catalog.now) (plan_of plan)) }
     ensures named { HasNames query.now.select → IfOk result (λ plan. IsSchema plan.schema) }
-    ensures first { IfSome (glance_of (sentence_of query.now) (tables_of catalog.now)) (λ fault. result ≡ Err fault) }
+    ensures first { IfSome (glance_of (sentence_of query.now) (tables_of catalog.now))
+        (λ fault. result ≡ Err fault) }
     ensures held { IfOk result (λ plan. HoldsFrom catalog.now plan) }
     ensures places { IfOk result (λ plan. tree_tables (tree_of plan.plan)
         ≡ query.now.first.table ∷ map (λ join. join.place.table) query.now.joins) }
@@ -92,10 +97,13 @@ fn bind_rest(
     requires { is_left_out_whole (sentence_of query.now) ≡ false }
     ensures bound { Binds (rest_fault (sentence_of query.now) joined.entry.scope)
         (λ parts. (tree_of parts.0
-        ≡ where_kept (numbered_filter joined.entry.scope (option_map pred_of query.now.filter)) (tree_of joined.entry.tree))
+        ≡ where_kept (numbered_filter joined.entry.scope (option_map pred_of query.now.filter))
+        (tree_of joined.entry.tree))
         × (parts.1 ≡ output_for (sentence_of query.now) joined.entry.scope)
-        × (parts.2 ≡ record { fields = select_fields joined.entry.scope query.now.select })) result }
-    ensures named { CanBeWritten joined.entry.scope → HasNames query.now.select → IfOk result (λ parts. IsSchema parts.2) }
+        × (parts.2 ≡ record { fields = select_fields joined.entry.scope query.now.select }))
+        result }
+    ensures named { CanBeWritten joined.entry.scope → HasNames query.now.select →
+        IfOk result (λ parts. IsSchema parts.2) }
 {
     let Joined { scope, tree } = joined;
     let filter = bind_filter(alloc, &scope, &query.filter)?;
@@ -111,7 +119,8 @@ fn bind_filter(
     filter: &Option<Predicate<ColumnName>>,
 ) -> Result<Option<Predicate<usize>>, Fault>
     ensures { Binds (filter_fault scope.now (option_map pred_of filter.now))
-        (λ bound. option_map pred_of bound ≡ numbered_filter scope.now (option_map pred_of filter.now)) result }
+        (λ bound. option_map pred_of bound
+        ≡ numbered_filter scope.now (option_map pred_of filter.now)) result }
 {
     match filter {
         None => Ok(None),
@@ -121,7 +130,8 @@ fn bind_filter(
 
 // The rows of a tree for which the filter is true.
 fn filtered(alloc: Global, filter: Option<Predicate<usize>>, tree: Plan) -> Result<Plan, AllocError>
-    ensures { IfOk result (λ plan. tree_of plan ≡ where_kept (option_map pred_of filter) (tree_of tree)) }
+    ensures { IfOk result
+        (λ plan. tree_of plan ≡ where_kept (option_map pred_of filter) (tree_of tree)) }
 {
     match filter {
         None => Ok(tree),

@@ -1,4 +1,5 @@
-//! Chains of ANDs and ORs. A query may have thousands in a row, and each is a level of its tree, down the left.
+//! Chains of ANDs and ORs. A query may have thousands in a row, and each is a level of its tree,
+//! down the left.
 
 ghost use Rattle.std.specs.Prelude.{◌≡◌, ◌++◌, IfOk, OnOk, map};
 ghost use Rattle.scan_base.specs.View.{pred_of};
@@ -15,7 +16,7 @@ pub(crate) enum Connective {
     Or,
 }
 
-// What stands behind a predicate in a chain.
+// What stands after a predicate in a chain.
 #[derive(Drop)]
 pub(crate) struct Side<'p> {
     pub(crate) connective: Connective,
@@ -30,7 +31,8 @@ impl Connective {
         left: Predicate<usize>,
         right: Predicate<usize>,
     ) -> Result<Predicate<usize>, AllocError>
-        ensures { IfOk result (λ whole. pred_of whole ≡ connected self (pred_of left) (pred_of right)) }
+        ensures { IfOk result
+            (λ whole. pred_of whole ≡ connected self (pred_of left) (pred_of right)) }
     {
         let left = Box::new(alloc, left).map_err(|_| AllocError)?;
         let right = Box::new(alloc, right).map_err(|_| AllocError)?;
@@ -41,7 +43,7 @@ impl Connective {
     }
 }
 
-// The first predicate of a chain. What stands behind it is added to the sides, the last first.
+// The first predicate of a chain. What stands after it is added to the sides, the last first.
 pub(crate) fn first_of<'p>(
     chain: &'p Predicate<ColumnName>,
     sides: &mut Vec<Side<'p>>,

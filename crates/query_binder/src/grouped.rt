@@ -1,10 +1,19 @@
 //! GROUP BY: the columns of a key, and what each item of the list gives of a group.
 
-ghost use Rattle.std.specs.Prelude.{◌≡◌, ◌==◌, ◌<◌, ◌+◌, ◌^◌, [], true, false, IfOk, MatchOption, length, map, unwrap_or};
+ghost use Rattle.std.specs.Prelude.{◌≡◌, ◌==◌, ◌<◌, ◌+◌, ◌^◌, [], true, false, IfOk, MatchOption};
+ghost use Rattle.std.specs.Prelude.{length, map, unwrap_or};
 ghost use Rattle.std.specs.List.{list_any};
-ghost use Rattle.arrow_schema.specs.declared.data_type.DataType.TheVariants.{Integer as IntegerColumn, Decimal128 as DecimalColumn};
-ghost use Rattle.arrow_schema.specs.declared.data_type.IntegerType.TheVariants.{Int64 as SignedLong};
-ghost use Rattle.sql_query.specs.declared.query.Expression.TheVariants.{Column as Named, Sum as Summed};
+ghost use Rattle.arrow_schema.specs.declared.data_type.DataType.TheVariants.{
+  Integer as IntegerColumn,
+};
+ghost use Rattle.arrow_schema.specs.declared.data_type.DataType.TheVariants.{
+  Decimal128 as DecimalColumn,
+};
+ghost use Rattle.arrow_schema.specs.declared.data_type.IntegerType.TheVariants.{
+  Int64 as SignedLong,
+};
+ghost use Rattle.sql_query.specs.declared.query.Expression.TheVariants.{Column as Named};
+ghost use Rattle.sql_query.specs.declared.query.Expression.TheVariants.{Sum as Summed};
 ghost use Rattle.query_binder.specs.Bound.{width_fault};
 ghost use Rattle.typed_plan.specs.Class.{can_sum as sums};
 ghost use Rattle.typed_plan.specs.declared.plan.Output.TheVariants.{Groups as Grouping};
@@ -12,7 +21,8 @@ ghost use Rattle.typed_plan.specs.Faults.{◌then◌, fault_in, first_in};
 ghost use Rattle.query_binder.specs.Listed.{aggregate_fault};
 ghost use Rattle.query_binder.specs.Outcome.{Binds};
 ghost use Rattle.query_binder.specs.Planned.{aggregate_of, key_place as place_in};
-ghost use Rattle.query_binder.specs.ResultSchema.{aggregate_name as name_of, item_field, list_fields};
+ghost use Rattle.query_binder.specs.ResultSchema.{aggregate_name as name_of, item_field};
+ghost use Rattle.query_binder.specs.ResultSchema.{list_fields};
 ghost use Rattle.typed_plan.specs.Scope.{column_of, numbered};
 
 use crate::answer::answer_field;
@@ -39,10 +49,12 @@ pub(crate) fn bind_groups(
     items: &[SelectItem],
 ) -> Result<(Output, Schema), Fault>
     ensures { Binds (first_in (λ name. fault_in (column_of scope.now name)) names.now
-        then first_in (λ item. aggregate_fault scope.now (map (numbered scope.now) names.now) item.expression) items.now
+        then first_in (λ item. aggregate_fault scope.now
+        (map (numbered scope.now) names.now) item.expression) items.now
         then width_fault (length items.now))
         (λ bound. (bound.0 ≡ Grouping (map (numbered scope.now) names.now)
-        (map (λ item. aggregate_of scope.now (map (numbered scope.now) names.now) item.expression) items.now))
+        (map (λ item. aggregate_of scope.now (map (numbered scope.now) names.now) item.expression)
+        items.now))
         × (bound.1 ≡ record { fields = list_fields scope.now 0 items.now })) result }
 {
     let keys = bind_keys(alloc, scope, names)?;
@@ -78,8 +90,9 @@ impl<'k> Key<'k> {
         alloc: Global,
         items: &[SelectItem],
     ) -> Result<(Items<Aggregate>, Items<Field>), Fault>
-        ensures { Binds (first_in (λ item. aggregate_fault self.now.scope.now self.now.numbers.now item.expression) items.now)
-            (λ bound. (bound.0 ≡ map (λ item. aggregate_of self.now.scope.now self.now.numbers.now item.expression) items.now)
+        ensures { Binds (first_in (λ item. aggregate_fault self.now.scope.now self.now.numbers.now
+            item.expression) items.now) (λ bound. (bound.0 ≡ map (λ item.
+            aggregate_of self.now.scope.now self.now.numbers.now item.expression) items.now)
             × (bound.1 ≡ list_fields self.now.scope.now 0 items.now)) result }
     {
         let mut aggregates = Items::new(alloc);
@@ -100,8 +113,9 @@ impl<'k> Key<'k> {
         item: &SelectItem,
     ) -> Result<(Aggregate, Field), Fault>
         requires { place + 1 < 2 ^ 64 }
-        ensures { Binds (aggregate_fault self.now.scope.now self.now.numbers.now item.now.expression)
-            (λ bound. (bound.0 ≡ aggregate_of self.now.scope.now self.now.numbers.now item.now.expression)
+        ensures { Binds
+            (aggregate_fault self.now.scope.now self.now.numbers.now item.now.expression) (λ bound.
+            (bound.0 ≡ aggregate_of self.now.scope.now self.now.numbers.now item.now.expression)
             × (bound.1 ≡ item_field self.now.scope.now place item.now)) result }
     {
         match &item.expression {
@@ -131,8 +145,10 @@ impl<'k> Key<'k> {
         alias: &Option<Text>,
     ) -> Result<(Aggregate, Field), Fault>
         ensures { Binds (aggregate_fault self.now.scope.now self.now.numbers.now (Named name.now))
-            (λ bound. (bound.0 ≡ aggregate_of self.now.scope.now self.now.numbers.now (Named name.now))
-            × (bound.1 ≡ item_field self.now.scope.now place (record { expression = Named name.now; alias = alias.now })))
+            (λ bound.
+            (bound.0 ≡ aggregate_of self.now.scope.now self.now.numbers.now (Named name.now))
+            × (bound.1 ≡ item_field self.now.scope.now place
+            (record { expression = Named name.now; alias = alias.now })))
             result }
     {
         let number = self.scope.column_of(name)?;
@@ -147,7 +163,8 @@ impl<'k> Key<'k> {
 // The place of a column in a key.
 fn key_place(numbers: &[usize], number: usize) -> Option<usize>
     ensures { MatchOption result (list_any (λ key. key == number) numbers.now ≡ false)
-        (λ place. (list_any (λ key. key == number) numbers.now ≡ true) × (place ≡ place_in numbers.now number)) }
+        (λ place. (list_any (λ key. key == number) numbers.now ≡ true)
+        × (place ≡ place_in numbers.now number)) }
 {
     for (place, key) in numbers.iter().enumerate() {
         if *key == number {
@@ -159,7 +176,8 @@ fn key_place(numbers: &[usize], number: usize) -> Option<usize>
 
 // The number of the column that is summed.
 fn bind_sum(scope: &Scope<'_>, name: &ColumnName) -> Result<usize, Fault>
-    ensures { Binds (aggregate_fault scope.now [] (Summed name.now)) (λ number. number ≡ numbered scope.now name.now) result }
+    ensures { Binds (aggregate_fault scope.now [] (Summed name.now))
+        (λ number. number ≡ numbered scope.now name.now) result }
 {
     let number = scope.column_of(name)?;
     if can_sum(scope.field(number).data_type) {
@@ -199,7 +217,8 @@ fn aggregate_name(alloc: Global, place: usize, alias: &Option<Text>) -> Result<T
 
 // The column of a COUNT.
 fn count_field(name: Text) -> Field
-    ensures { result ≡ record { name = name; nullable = false; data_type = IntegerColumn SignedLong } }
+    ensures { result
+        ≡ record { name = name; nullable = false; data_type = IntegerColumn SignedLong } }
 {
     Field {
         name,

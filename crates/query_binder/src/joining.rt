@@ -5,7 +5,8 @@ ghost use Rattle.query_binder.specs.Bound.{crosses, equality_fault};
 ghost use Rattle.typed_plan.specs.Faults.{must, first_in};
 ghost use Rattle.query_binder.specs.Listed.{CanBeWritten};
 ghost use Rattle.query_binder.specs.Outcome.{Binds};
-ghost use Rattle.query_binder.specs.Over.{columns_over, scan_over, joined_over, joins_fault_over, scope_over, tree_over};
+ghost use Rattle.query_binder.specs.Over.{columns_over, scan_over, joined_over, joins_fault_over};
+ghost use Rattle.query_binder.specs.Over.{scope_over, tree_over};
 ghost use Rattle.typed_plan.specs.Plan.{joined as joined_trees};
 ghost use Rattle.query_binder.specs.Planned.{key_of, keys_of};
 ghost use Rattle.typed_plan.specs.Scope.{numbered};
@@ -53,8 +54,10 @@ impl<'a> Joined<'a> {
     ) -> Result<Joined<'a>, Fault>
         ensures bound { Binds (joins_fault_over self.entry.scope joins.now tables.now)
             (λ joined. (joined.scope ≡ scope_over self.entry.scope joins.now tables.now)
-            × (tree_of joined.tree ≡ tree_over self.entry.scope (tree_of self.entry.tree) joins.now tables.now)) result }
-        ensures written { CanBeWritten self.entry.scope → IfOk result (λ joined. CanBeWritten joined.scope) }
+            × (tree_of joined.tree
+            ≡ tree_over self.entry.scope (tree_of self.entry.tree) joins.now tables.now)) result }
+        ensures written { CanBeWritten self.entry.scope →
+            IfOk result (λ joined. CanBeWritten joined.scope) }
     {
         match joins {
             [] => Ok(self),
@@ -74,10 +77,13 @@ impl<'a> Joined<'a> {
         join: &'a Join,
         table: &'a TableVersion,
     ) -> Result<Joined<'a>, Fault>
-        ensures bound { Binds (first_in (equality_fault (length self.entry.scope) (self.entry.scope ++ columns_over join.now.place table.now)) join.now.on)
+        ensures bound { Binds (first_in (equality_fault (length self.entry.scope)
+            (self.entry.scope ++ columns_over join.now.place table.now)) join.now.on)
             (λ joined. (joined.scope ≡ self.entry.scope ++ columns_over join.now.place table.now)
-            × (tree_of joined.tree ≡ joined_over self.entry.scope (tree_of self.entry.tree) join.now table.now)) result }
-        ensures written { CanBeWritten self.entry.scope → IfOk result (λ joined. CanBeWritten joined.scope) }
+            × (tree_of joined.tree
+            ≡ joined_over self.entry.scope (tree_of self.entry.tree) join.now table.now)) result }
+        ensures written { CanBeWritten self.entry.scope →
+            IfOk result (λ joined. CanBeWritten joined.scope) }
     {
         let Joined { mut scope, tree } = self;
         let on = push_join(alloc, &mut scope, join, table)?;
@@ -86,16 +92,18 @@ impl<'a> Joined<'a> {
     }
 }
 
-// The columns of one place more, behind the others, and the keys of its ON.
+// The columns of one place more, after the others, and the keys of its ON.
 fn push_join<'a>(
     alloc: Global,
     scope: &mut Scope<'a>,
     join: &'a Join,
     table: &'a TableVersion,
 ) -> Result<Items<JoinKey>, Fault>
-    ensures bound { Binds (first_in (equality_fault (length scope.old) (scope.old ++ columns_over join.now.place table.now)) join.now.on)
+    ensures bound { Binds (first_in (equality_fault (length scope.old)
+        (scope.old ++ columns_over join.now.place table.now)) join.now.on)
         (λ keys. (scope.new ≡ scope.old ++ columns_over join.now.place table.now)
-        × (keys ≡ keys_of (length scope.old) (scope.old ++ columns_over join.now.place table.now) join.now.on)) result }
+        × (keys ≡ keys_of (length scope.old)
+        (scope.old ++ columns_over join.now.place table.now) join.now.on)) result }
     ensures written { CanBeWritten scope.old → IfOk result (λ keys. CanBeWritten scope.new) }
 {
     let seam = scope.len();
@@ -145,10 +153,12 @@ fn bind_on(
     Ok(keys)
 }
 
-// An equality: the left name, the right name, whether their classes agree, and whether it crosses the seam.
+// An equality: the left name, the right name, whether their classes agree, and whether it crosses
+// the seam.
 fn bind_equality(scope: &Scope<'_>, seam: usize, equality: &Equality) -> Result<JoinKey, Fault>
     ensures { Binds (equality_fault seam scope.now equality.now)
-        (λ key. key ≡ key_of seam (numbered scope.now equality.now.left) (numbered scope.now equality.now.right)) result }
+        (λ key. key ≡ key_of seam (numbered scope.now equality.now.left)
+        (numbered scope.now equality.now.right)) result }
 {
     let left = scope.column_of(&equality.left)?;
     let right = scope.column_of(&equality.right)?;
@@ -161,7 +171,8 @@ fn bind_equality(scope: &Scope<'_>, seam: usize, equality: &Equality) -> Result<
 
 // The key of two columns, of which one stands before the seam and one does not.
 fn key_across(seam: usize, left: usize, right: usize) -> Result<JoinKey, Fault>
-    ensures { Binds (must (crosses seam left right) LeftOut) (λ key. key ≡ key_of seam left right) result }
+    ensures { Binds (must (crosses seam left right) LeftOut)
+        (λ key. key ≡ key_of seam left right) result }
 {
     match (left < seam, right < seam) {
         (true, false) => Ok(JoinKey { left, right }),

@@ -15,7 +15,8 @@ use sql_query::{Join, Place, Query};
 use std::alloc::Global;
 use table_versions::{CatalogVersion, TableVersion};
 
-// Whether each further place has a table, and goes by a name that no earlier one has. It takes no memory.
+// Whether each further place has a table, and goes by a name that no earlier one has. It takes no
+// memory.
 pub(crate) fn check_joins(query: &Query, catalog: &CatalogVersion) -> Result<(), Fault>
     ensures { fault_in result ≡ places_fault (tables_of catalog.now) (names_of query.now.first [])
         (map (λ join. join.place) query.now.joins) }
@@ -35,8 +36,10 @@ pub(crate) fn place_tables(
     first: &TableVersion,
 ) -> Result<Vec<TableVersion>, Fault>
     requires { table_at catalog.now query.now.first.table ≡ Some first.now }
-    ensures { Binds (places_fault (tables_of catalog.now) [] (places_of query.now.first query.now.joins))
-        (λ tables. AreTablesOf catalog.now (places_of query.now.first query.now.joins) tables.items) result }
+    ensures { Binds (places_fault (tables_of catalog.now) []
+        (places_of query.now.first query.now.joins))
+        (λ tables. AreTablesOf catalog.now (places_of query.now.first query.now.joins) tables.items)
+        result }
 {
     let mut tables = Vec::new(alloc);
     tables.push(first.share()?)?;
@@ -48,7 +51,7 @@ pub(crate) fn place_tables(
     Ok(tables)
 }
 
-// The table of a place, behind the first place and those of these joins.
+// The table of a place, after the first place and those of these joins.
 fn place_table<'c>(
     catalog: &'c CatalogVersion,
     first: &Place,

@@ -204,7 +204,8 @@ fn number_truth_test(
     })
 }
 
-// `left AND right` or `left OR right`: what the left side is a chain of comes first, from the left, and then the right.
+// `left AND right` or `left OR right`: what the left side is a chain of comes first, from the left,
+// and then the right.
 #[cycle(number)]
 fn number_chain(
     alloc: Global,
@@ -213,7 +214,8 @@ fn number_chain(
     left: &Predicate<ColumnName>,
     right: &Predicate<ColumnName>,
 ) -> Result<Predicate<usize>, Fault>
-    ensures { BindsPredicate scope.now (connected connective (pred_of left.now) (pred_of right.now)) result }
+    ensures { BindsPredicate scope.now
+        (connected connective (pred_of left.now) (pred_of right.now)) result }
 {
     let mut sides = Vec::new(alloc);
     sides.push(Side {

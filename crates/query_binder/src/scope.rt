@@ -1,6 +1,7 @@
 //! The columns that the names of a query may stand for.
 
-ghost use Rattle.std.specs.Prelude.{◌≡◌, ◌<◌, ◌++◌, IfOk, OnOk, Some, length, option_map, slice_get};
+ghost use Rattle.std.specs.Prelude.{◌≡◌, ◌<◌, ◌++◌, IfOk, OnOk, Some, length, option_map};
+ghost use Rattle.std.specs.Prelude.{slice_get};
 ghost use Rattle.typed_plan.specs.Scope.{columns_in, stands_for as is_named, column_of};
 ghost use Rattle.query_binder.specs.ResultSchema.{select_fields};
 ghost use Rattle.sql_query.specs.declared.query.Select.TheVariants.{All};
@@ -58,7 +59,7 @@ impl<'a> Scope<'a> {
         Ok(Scope { columns })
     }
 
-    // The columns of one place more, behind the others.
+    // The columns of one place more, after the others.
     pub(crate) fn push_place(
         &mut self,
         place: &'a Text,
@@ -82,7 +83,8 @@ impl<'a> Scope<'a> {
     // The column of a number, counted from 0.
     pub(crate) fn field(&self, number: usize) -> &Field
         requires { number < length self.now }
-        ensures { option_map (λ column. column.field) (slice_get self.now number) ≡ Some result.now }
+        ensures { option_map (λ column. column.field) (slice_get self.now number)
+            ≡ Some result.now }
     {
         self.columns[number].field
     }

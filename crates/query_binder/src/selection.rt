@@ -63,7 +63,8 @@ fn bind_columns(
     scope: &Scope<'_>,
     items: &[SelectItem],
 ) -> Result<(Output, Schema), Fault>
-    ensures { Binds (first_in (λ item. column_fault scope.now item.expression) items.now then width_fault (length items.now))
+    ensures { Binds (first_in (λ item. column_fault scope.now item.expression) items.now
+        then width_fault (length items.now))
         (λ bound. (bound.0 ≡ Taking (Chosen (map (number_of_item scope.now) items.now)))
         × (bound.1 ≡ record { fields = list_fields scope.now 0 items.now })) result }
 {
@@ -92,7 +93,8 @@ fn bind_items(
     Ok((numbers, fields))
 }
 
-// The number of an item's column, and the column of this place of the result. A list without groups has no aggregate.
+// The number of an item's column, and the column of this place of the result. A list without groups
+// has no aggregate.
 fn bind_item(scope: &Scope<'_>, place: u64, item: &SelectItem) -> Result<(usize, Field), Fault>
     ensures { Binds (column_fault scope.now item.now.expression)
         (λ bound. (bound.0 ≡ number_of_item scope.now item.now)

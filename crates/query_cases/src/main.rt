@@ -1,5 +1,6 @@
-//! What the layers from tokens to rows answer, case by case: `stdin` holds the cases, a line each, and `stdout` what is
-//! wanted of them. `vectors/queries` writes both files, by tools of another making and answers worked out by hand.
+//! What the layers from tokens to rows answer, case by case: `stdin` holds the cases, a line each,
+//! and `stdout` what is wanted of them. `vectors/queries` writes both files, by tools of another
+//! making and answers worked out by hand.
 #![tactic(auto)]
 
 mod cases;

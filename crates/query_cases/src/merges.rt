@@ -1,4 +1,4 @@
-//! Groups of two parts of rows, of which those of the second are merged behind those of the first.
+//! Groups of two parts of rows, of which those of the second are merged after those of the first.
 
 ghost use Rattle.std.specs.Prelude.{◌≡◌, ◌≤◌, ◌<◌, ◌∷◌, [], All, IfOk, None, length};
 ghost use Rattle.arrow_schema.specs.declared.data_type.DataType.TheVariants.{Integer};
@@ -82,7 +82,8 @@ fn numbers_of(alloc: Global, rows: &[Row]) -> Result<Column, AllocError>
 // The batch of the rows that words say.
 fn batch_of(alloc: Global, words: &str) -> Result<Batch, Fault>
     ensures few { IfOk result (λ batch. batch.rows ≤ 1000) }
-    ensures typed { IfOk result (λ (batch : BatchAt). AreOf (Integer Int64 ∷ Integer Int64 ∷ []) batch.columns) }
+    ensures typed { IfOk result
+        (λ (batch : BatchAt). AreOf (Integer Int64 ∷ Integer Int64 ∷ []) batch.columns) }
 {
     let rows = rows_of(alloc, words)?;
     let mut columns = Vec::new(alloc);
@@ -139,7 +140,7 @@ fn groups_of<'t>(
     Ok(groups)
 }
 
-// What is answered of the first part's groups, behind which those of the second are merged.
+// What is answered of the first part's groups, after which those of the second are merged.
 fn merged_of(alloc: Global, seed: HashSeed, shape: Grouping<'_>) -> Result<Option<Batch>, Fault>
     requires typed { AreTyped shape.types.now shape.batches.now }
     requires has { HasItems shape.types.now shape.keys.now shape.items.now }

@@ -34,7 +34,7 @@ fn parts(alloc: Global, message: &str) -> Result<(Bytes, Bytes), AllocError> {
     Ok((bytes_of(alloc, header)?, bytes_of(alloc, body)?))
 }
 
-// The put behind the table's name: a schema, dictionaries, and last a batch.
+// The put after the table's name: a schema, dictionaries, and last a batch.
 fn put(alloc: Global, case: &str) -> Result<Put, Fault> {
     let (name, messages) = case.split_once(' ').unwrap_or((case, ""));
     let (before, last) = messages.rsplit_once(' ').unwrap_or(("", messages));
@@ -53,7 +53,7 @@ fn put(alloc: Global, case: &str) -> Result<Put, Fault> {
     Ok(Put::new(name, IfNotExist::Create, IfExists::Append, schema, batches))
 }
 
-/// The version behind such a put, which makes the table or appends to it.
+/// The version after such a put, which makes the table or appends to it.
 pub fn next_version(alloc: Global, snapshot: &Snapshot, case: &str) -> Result<Snapshot, Fault> {
     let catalog = apply(alloc, snapshot, put(alloc, case)?)?;
     let number = snapshot.number().saturating_add(1);

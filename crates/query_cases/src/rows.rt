@@ -27,7 +27,7 @@ fn push_cell(alloc: Global, cells: &mut String, value: ValueRef<'_>) -> Result<(
     cells.push_str(told.as_str())
 }
 
-/// Appends the cells of a batch, with a comma behind each and a semicolon behind each row.
+/// Appends the cells of a batch, with a comma after each and a semicolon after each row.
 pub fn push_rows(alloc: Global, cells: &mut String, batch: &Batch) -> Result<(), AllocError> {
     for row in 0..batch.rows() {
         for column in batch.columns() {
@@ -106,7 +106,8 @@ pub fn of_range(alloc: Global, catalog: &CatalogVersion, case: &str) -> Result<S
     Ok(format!(in alloc; "{cells} {batches} of {opened}")?)
 }
 
-/// How many rows a range gives, and which batches were opened, in order: each by its place and its number there, as `0.3`.
+/// How many rows a range gives, and which batches were opened, in order: each by its place and its
+/// number there, as `0.3`.
 pub fn opened_batches(
     alloc: Global,
     catalog: &CatalogVersion,

@@ -14,7 +14,8 @@ pub fn tokens(alloc: Global, sql: &str) -> Result<String, Fault> {
     Ok(told)
 }
 
-/// What each token says, how many bytes that has, its number, and whether this server leaves the token out.
+/// What each token says, how many bytes that has, its number, and whether this server leaves the
+/// token out.
 pub fn values(alloc: Global, sql: &str) -> Result<String, Fault> {
     let mut told = String::new(alloc);
     for token in &sql_text::tokens(alloc, sql)? {

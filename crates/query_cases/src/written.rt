@@ -1,8 +1,9 @@
-//! How cases are written: `{64:NOT }` for 64 times `NOT `, and a backslash before a letter for what no line holds.
+//! How cases are written: `{64:NOT }` for 64 times `NOT `, and a backslash before a letter for what
+//! no line holds.
 
 use std::alloc::{AllocError, Global};
 
-// Appends a piece, in which a letter behind a backslash stands for another one.
+// Appends a piece, in which a letter after a backslash stands for another one.
 fn push_piece(text: &mut String, piece: &str) -> Result<(), AllocError> {
     let mut is_behind = false;
     for letter in piece.chars() {

@@ -88,7 +88,7 @@ module _ (database : Database) where
   abbrev rows_at : Name → List Row
   rows_at name = rows_in (table_at database name)
 
-  -- the places of a tree may have others behind them
+  -- the places of a tree may have others after them
   over_places : (tree : Tree) (cut : List Row → List Row) (more : List (List Row)) →
       rows_over tree (cut_first cut (map rows_at (tree_tables tree)) ++ more) ≡ tree_rows tree database cut
   over_places (scan table schema columns) cut more = refl

@@ -1,4 +1,4 @@
--- Filters behind each other, and of mapped and joined lists.
+-- Filters after each other, and of mapped and joined lists.
 use Rattle.std.proofs.Common.{◌≡◌, Bool, true, false, cond, ◌&&◌, List, [], ◌∷◌, ◌++◌, map, filter, refl, ap, ◌∙◌}
 use Rattle.std.specs.List.{flat_map}
 use Rattle.std.proofs.lemmas.List.Elements.{filter-append}
@@ -17,7 +17,7 @@ both_filters true true p x xs ys e h = rw (e, h) refl
 both_filters true false p x xs ys e h = rw (e, h) refl
 both_filters false b p x xs ys e h = h
 
--- one filter behind another
+-- one filter after another
 pub filter-filter : {X : Type 0} (p q : X → Bool) (xs : List X) → filter p (filter q xs) ≡ filter (λ x. q x && p x) xs
 filter-filter p q [] = refl
 filter-filter p q (x ∷ xs) = both_filters (q x) (p x) p x (filter q xs) (filter (λ y. q y && p y) xs) refl (filter-filter p q xs)
@@ -32,7 +32,7 @@ filter-map p f [] = refl
 filter-map p f (x ∷ xs) =
     ap (λ ys. cond (p (f x)) (f x ∷ ys) ys) (filter-map p f xs) ∙ mapped_one (p (f x)) f x (filter (λ y. p (f y)) xs)
 
--- a filter of lists one behind another
+-- a filter of lists one after another
 pub filter-flat_map : {X Y : Type 0} (p : Y → Bool) (f : X → List Y) (xs : List X) →
     filter p (flat_map f xs) ≡ flat_map (λ x. filter p (f x)) xs
 filter-flat_map p f [] = refl

@@ -71,7 +71,7 @@ module _ (t u : Name) (one other : Schema) (on : List JoinKey) where
   count_reads_none = refl
 
   -- the second column of t and the one of u are to be equal, and the result takes that of u: the first of t is left out, and
-  -- the others are counted anew
+  -- the others are counted again
   abbrev same : JoinKey
   same = record { left = 1; right = 2 }
 

@@ -89,7 +89,7 @@ number_there uses n e =
     ap (λ some. nat_lt (number_in uses n) (count some)) (sym (take-length uses))
     ∙ number_lt uses (length uses) n e ∙ lt-ltb n (length uses) (used_within uses n e)
 
--- and behind it
+-- and after it
 pub number_le : (uses : List Bool) (k n : ℕ) → is_used uses n ≡ true → nat_le (count (take k uses)) (number_in uses n) ≡ nat_le k n
 number_le uses k n e = by (nat_lt n k) refl
   where

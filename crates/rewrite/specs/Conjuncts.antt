@@ -1,5 +1,6 @@
 -- The parts of a predicate that its outermost ANDs join, and which columns they name.
-use Rattle.std.specs.Prelude.{ℕ, ◌+◌, Bool, true, false, not, ◌&&◌, ◌||◌, nat_le, nat_lt, List, [], ◌∷◌, ◌++◌}
+use Rattle.std.specs.Prelude.{ℕ, ◌+◌, Bool, true, false, not, ◌&&◌, ◌||◌, nat_le, nat_lt, List, []}
+use Rattle.std.specs.Prelude.{◌∷◌, ◌++◌}
 use Rattle.std.specs.List.{list_all, filter}
 use Rattle.scan_base.specs.declared.truth.Truth.TheVariants.{True}
 use Rattle.scan_base.specs.Predicate.{Pred, conjunction, constant, names_only}
@@ -38,7 +39,8 @@ names_some predicate = not (names_only (λ column. false) predicate)
 abbrev pub is_between : ℕ → ℕ → ℕ → Bool
 is_between first width column = nat_le first column && nat_lt column (first + width)
 
--- whether all columns that a predicate names are of one of the places that have so many columns, from this number on
+-- whether all columns that a predicate names are of one of the places that have so many columns,
+-- from this number on
 abbrev pub is_of_one : ℕ → List ℕ → Pred ℕ → Bool
 is_of_one first [] predicate = false
 is_of_one first (width ∷ widths) predicate =

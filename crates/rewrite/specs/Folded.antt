@@ -3,7 +3,9 @@ use Rattle.std.specs.Prelude.{◌≡◌, ℕ, Bool, true, false, not, ◌&&◌, 
 use Rattle.scan_base.specs.declared.value.Value.{Value}
 use Rattle.scan_base.specs.declared.value.Value.TheVariants.{Null}
 use Rattle.typed_plan.specs.Plan.{Tree, scan, filtered, joined}
-use Rattle.scan_base.specs.Predicate.{Pred, conjunction, disjunction, negation, truth_test, comparing, between, membership, null_test, constant, truth_of, names_only}
+use Rattle.scan_base.specs.Predicate.{Pred, conjunction, disjunction, negation, truth_test}
+use Rattle.scan_base.specs.Predicate.{comparing, between, membership, null_test, constant, truth_of}
+use Rattle.scan_base.specs.Predicate.{names_only}
 
 -- whether a predicate is a comparison, BETWEEN, IN or IS NULL
 abbrev pub is_atom : {C : Type 0} → Pred C → Bool
@@ -19,7 +21,8 @@ names_none predicate = names_only (λ column. false) predicate
 
 -- one that names no column becomes its truth
 abbrev pub folded_atom : {C : Type 0} → Pred C → Pred C
-folded_atom predicate = if names_none predicate then constant (truth_of (λ column. Null) predicate) else predicate
+folded_atom predicate =
+    if names_none predicate then constant (truth_of (λ column. Null) predicate) else predicate
 
 -- each comparison, BETWEEN, IN and IS NULL of literals alone becomes its truth
 abbrev pub folded : {C : Type 0} → Pred C → Pred C
@@ -44,7 +47,8 @@ is_folded p = not (names_none p)
 
 -- a folded predicate has the truth that it had: unknown stays unknown
 abbrev pub FoldingKeepsTruths : Type 0
-FoldingKeepsTruths = (predicate : Pred ℕ) (cell : ℕ → Value) → truth_of cell (folded predicate) ≡ truth_of cell predicate
+FoldingKeepsTruths = (predicate : Pred ℕ) (cell : ℕ → Value) →
+    truth_of cell (folded predicate) ≡ truth_of cell predicate
 
 abbrev pub FoldedNamesColumns : Type 0
 FoldedNamesColumns = (predicate : Pred ℕ) → is_folded (folded predicate) ≡ true

@@ -11,23 +11,29 @@ use Rattle.typed_plan.specs.Plan.{Tree, scan, filtered, joined, taken}
 
 -- each row of a place has a cell for each column of its table
 abbrev pub AreWide : Tree → List (List Row) → Type 0
-AreWide (scan table schema columns) places = AllByRecursion (λ (row : Row). length row ≡ length schema.fields) (first_rows places)
+AreWide (scan table schema columns) places =
+    AllByRecursion (λ (row : Row). length row ≡ length schema.fields) (first_rows places)
 AreWide (filtered predicate tree) places = AreWide tree places
-AreWide (joined left right on) places = AreWide left places × AreWide right (drop (length (tree_schemas left)) places)
+AreWide (joined left right on) places =
+    AreWide left places × AreWide right (drop (length (tree_schemas left)) places)
 
 -- pushed filters keep the rows of every tree, in order
 abbrev pub PushingKeepsRows : Type 0
-PushingKeepsRows = (tree : Tree) (places : List (List Row)) → AreWide tree places → rows_over (pushed [] tree) places ≡ rows_over tree places
+PushingKeepsRows = (tree : Tree) (places : List (List Row)) → AreWide tree places →
+    rows_over (pushed [] tree) places ≡ rows_over tree places
 
 -- and stand below the joins
 abbrev pub PushedStandBelow : Type 0
 PushedStandBelow = (tree : Tree) → is_pushed (pushed [] tree) ≡ true
 
--- the conjuncts that name no column of another place let the same rows of each place through, of some and of all
+-- the conjuncts that name no column of another place let the same rows of each place through, of
+-- some and of all
 abbrev pub SameThrough : List (Pred ℕ) → Tree → List (List Row) → List (List Row) → Type 0
 SameThrough ps (scan table schema columns) some all =
-    filter (all_true ps) (taken columns (first_rows some)) ≡ filter (all_true ps) (taken columns (first_rows all))
-SameThrough ps (filtered predicate tree) some all = SameThrough (conjuncts predicate ++ ps) tree some all
+    filter (all_true ps) (taken columns (first_rows some))
+    ≡ filter (all_true ps) (taken columns (first_rows all))
+SameThrough ps (filtered predicate tree) some all =
+    SameThrough (conjuncts predicate ++ ps) tree some all
 SameThrough ps (joined left right on) some all =
     SameThrough (filter (is_left (tree_width left)) ps) left some all
     × SameThrough (map (moved (tree_width left)) (filter (is_behind (tree_width left)) ps)) right
@@ -35,5 +41,5 @@ SameThrough ps (joined left right on) some all =
 
 -- so the rows of some are those of all
 abbrev pub SkippingKeepsRows : Type 0
-SkippingKeepsRows = (tree : Tree) (some all : List (List Row)) → AreWide tree some → AreWide tree all → SameThrough [] tree some all →
-    rows_over tree some ≡ rows_over tree all
+SkippingKeepsRows = (tree : Tree) (some all : List (List Row)) → AreWide tree some →
+    AreWide tree all → SameThrough [] tree some all → rows_over tree some ≡ rows_over tree all

@@ -1,5 +1,6 @@
 -- Columns that are not used are not read.
-use Rattle.std.specs.Prelude.{◌≡◌, ◌<◌, ℕ, zero, suc, ◌-◌, Bool, true, false, not, ◌&&◌, ◌||◌, ◌==◌, nat_lt, if◌then◌else◌, List, [], ◌∷◌, length, map, take, drop}
+use Rattle.std.specs.Prelude.{◌≡◌, ◌<◌, ℕ, zero, suc, ◌-◌, Bool, true, false, not, ◌&&◌, ◌||◌, ◌==◌}
+use Rattle.std.specs.Prelude.{nat_lt, if◌then◌else◌, List, [], ◌∷◌, length, map, take, drop}
 use Rattle.std.specs.List.{list_all, list_any, range_with_len}
 use Rattle.scan_base.specs.Predicate.{Pred, names_only}
 use Rattle.rewrite.specs.Laws.{AreWide}
@@ -25,13 +26,16 @@ names_column predicate number = not (names_only (λ column. not (column == numbe
 abbrev pub key_names : ℕ → JoinKey → Bool
 key_names number key = (key.left == number) || (key.right == number)
 
--- whether a filter or an ON names a column of a tree's rows: those of the right stand behind those of the left
+-- whether a filter or an ON names a column of a tree's rows: those of the right stand after those
+-- of the left
 abbrev pub tree_names : Tree → ℕ → Bool
 tree_names (scan table schema columns) number = false
-tree_names (filtered predicate tree) number = names_column predicate number || tree_names tree number
+tree_names (filtered predicate tree) number =
+    names_column predicate number || tree_names tree number
 tree_names (joined left right on) number =
     list_any (key_names number) on
-    || (if nat_lt number (tree_width left) then tree_names left number else tree_names right (number - tree_width left))
+    || (if nat_lt number (tree_width left) then tree_names left number
+    else tree_names right (number - tree_width left))
 
 -- whether an item of a grouped result names a column of the rows
 abbrev pub item_names : ℕ → Aggregate → Bool
@@ -44,11 +48,14 @@ item_names number (Sum column) = column == number
 abbrev pub output_names : Output → ℕ → Bool
 output_names (Project All) number = true
 output_names (Project (These columns)) number = list_any (λ column. column == number) columns
-output_names (Groups keys items) number = list_any (λ key. key == number) keys || list_any (item_names number) items
+output_names (Groups keys items) number =
+    list_any (λ key. key == number) keys || list_any (item_names number) items
 
--- A filter, an ON or the result names each column of the rows. These are the columns that the scans give.
+-- A filter, an ON or the result names each column of the rows. These are the columns that the scans
+-- give.
 abbrev pub IsPruned : PlanAt → Type 0
-IsPruned plan = (number : ℕ) → number < tree_width plan.tree → (output_names plan.output number || tree_names plan.tree number) ≡ true
+IsPruned plan = (number : ℕ) → number < tree_width plan.tree →
+    (output_names plan.output number || tree_names plan.tree number) ≡ true
 
 -- ---- trees and results without the other columns
 
@@ -83,10 +90,13 @@ key_in uses key = record { left = number_in uses key.left; right = number_in use
 
 -- a tree whose scans give the used columns alone
 abbrev pub pruned : List Bool → Tree → Tree
-pruned uses (scan table schema columns) = scan table schema (These (kept uses (numbers_of columns (length schema.fields))))
-pruned uses (filtered predicate tree) = filtered (predicate_map (number_in uses) predicate) (pruned uses tree)
+pruned uses (scan table schema columns) =
+    scan table schema (These (kept uses (numbers_of columns (length schema.fields))))
+pruned uses (filtered predicate tree) =
+    filtered (predicate_map (number_in uses) predicate) (pruned uses tree)
 pruned uses (joined left right on) =
-    joined (pruned (take (tree_width left) uses) left) (pruned (drop (tree_width left) uses) right) (map (key_in uses) on)
+    joined (pruned (take (tree_width left) uses) left) (pruned (drop (tree_width left) uses) right)
+    (map (key_in uses) on)
 
 -- an item and a result of the columns that are used
 abbrev pub item_in : List Bool → Aggregate → Aggregate
@@ -107,9 +117,11 @@ uses_key uses key = is_used uses key.left && is_used uses key.right
 -- what a filter and a key name is used
 abbrev pub AreUsed : List Bool → Tree → Type 0
 AreUsed uses (scan table schema columns) = length uses ≡ tree_width (scan table schema columns)
-AreUsed uses (filtered predicate tree) = (names_only (is_used uses) predicate ≡ true) × AreUsed uses tree
+AreUsed uses (filtered predicate tree) =
+    (names_only (is_used uses) predicate ≡ true) × AreUsed uses tree
 AreUsed uses (joined left right on) =
-    (list_all (uses_key uses) on ≡ true) × AreUsed (take (tree_width left) uses) left × AreUsed (drop (tree_width left) uses) right
+    (list_all (uses_key uses) on ≡ true) × AreUsed (take (tree_width left) uses) left
+    × AreUsed (drop (tree_width left) uses) right
 
 -- whether what an item names is used
 abbrev pub uses_item : List Bool → Aggregate → Bool
@@ -122,9 +134,11 @@ uses_item uses (Sum column) = is_used uses column
 abbrev pub uses_output : List Bool → Output → Bool
 uses_output uses (Project All) = list_all (λ used. used) uses
 uses_output uses (Project (These columns)) = list_all (is_used uses) columns
-uses_output uses (Groups keys items) = list_all (is_used uses) keys && list_all (uses_item uses) items
+uses_output uses (Groups keys items) =
+    list_all (is_used uses) keys && list_all (uses_item uses) items
 
 -- a pruned tree gives the used cells of the same rows
 abbrev pub PruningKeepsRows : Type 0
-PruningKeepsRows = (uses : List Bool) (tree : Tree) (places : List (List Row)) → AreUsed uses tree → AreWide tree places →
+PruningKeepsRows = (uses : List Bool) (tree : Tree) (places : List (List Row)) → AreUsed uses tree →
+    AreWide tree places →
     rows_over (pruned uses tree) places ≡ map (kept uses) (rows_over tree places)

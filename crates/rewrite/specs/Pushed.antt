@@ -24,7 +24,7 @@ is_right seam predicate = not (is_left seam predicate) && is_behind seam predica
 abbrev pub is_both : ℕ → Pred ℕ → Bool
 is_both seam predicate = not (is_left seam predicate) && not (is_behind seam predicate)
 
--- with the numbers of the columns behind the seam
+-- with the numbers of the columns after the seam
 abbrev pub moved : ℕ → Pred ℕ → Pred ℕ
 moved seam predicate = predicate_map (λ column. column - seam) predicate
 
@@ -33,19 +33,23 @@ abbrev pub above : List (Pred ℕ) → Tree → Tree
 above [] tree = tree
 above (part ∷ parts) tree = filtered (all_of part parts) tree
 
--- a tree below these parts of filters, each of which stands as low as it may: one that names columns of both sides of a join
--- stands above it
+-- a tree below these parts of filters, each of which stands as low as it may: one that names
+-- columns of both sides of a join stands above it
 abbrev pub pushed : List (Pred ℕ) → Tree → Tree
 pushed predicates (scan table schema columns) = above predicates (scan table schema columns)
 pushed predicates (filtered predicate tree) = pushed (parts_of predicate ++ predicates) tree
 pushed predicates (joined left right on) =
     let seam = tree_width left in
     above (filter (is_both seam) predicates)
-    (joined (pushed (filter (is_left seam) predicates) left) (pushed (map (moved seam) (filter (is_right seam) predicates)) right) on)
+    (joined (pushed (filter (is_left seam) predicates) left)
+    (pushed (map (moved seam) (filter (is_right seam) predicates)) right) on)
 
--- whether no outermost conjunct of a filter that names columns of exactly one place stands above a join
+-- whether no outermost conjunct of a filter that names columns of exactly one place stands above a
+-- join
 abbrev pub is_pushed : Tree → Bool
 is_pushed (scan table schema columns) = true
 is_pushed (filtered predicate tree) =
-    (is_place tree || list_all (λ part. not (is_of_one_place (place_widths tree) part)) (conjuncts predicate)) && is_pushed tree
+    (is_place tree
+    || list_all (λ part. not (is_of_one_place (place_widths tree) part)) (conjuncts predicate))
+    && is_pushed tree
 is_pushed (joined left right on) = is_pushed left && is_pushed right

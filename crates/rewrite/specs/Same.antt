@@ -19,9 +19,11 @@ SameRows new old =
 abbrev pub SameOverPlaces : PlanAt → PlanAt → Type 0
 SameOverPlaces new old =
     (places : List (List Row)) → AreWide old.tree places →
-    output_rows new.output (rows_over new.tree places) ≡ output_rows old.output (rows_over old.tree places)
+    output_rows new.output (rows_over new.tree places)
+    ≡ output_rows old.output (rows_over old.tree places)
 
--- a new plan gives what an old one gives: the same rows of the same tables, grouped or not as the old one, with the same columns
+-- a new plan gives what an old one gives: the same rows of the same tables, grouped or not as the
+-- old one, with the same columns
 pub record StandsFor (new old : BoundAt) : Type 0 where
   pub rows : SameRows (plan_of new) (plan_of old)
   pub places : SameOverPlaces (plan_of new) (plan_of old)

@@ -1,8 +1,10 @@
 -- Inside: columns that are marked as used, one by one.
-use Rattle.std.specs.Prelude.{ℕ, Bool, true, false, List, [], ◌∷◌, ◌++◌, length, take, drop, replicate, slice_set}
+use Rattle.std.specs.Prelude.{ℕ, Bool, true, false, List, [], ◌∷◌, ◌++◌, length, take, drop}
+use Rattle.std.specs.Prelude.{replicate, slice_set}
 use Rattle.scan_base.specs.declared.predicate.Operand.{Operand}
 use Rattle.scan_base.specs.declared.predicate.Operand.TheVariants.{Column, Literal, Date}
-use Rattle.scan_base.specs.Predicate.{Pred, conjunction, disjunction, negation, truth_test, comparing, between, membership, null_test, constant}
+use Rattle.scan_base.specs.Predicate.{Pred, conjunction, disjunction, negation, truth_test}
+use Rattle.scan_base.specs.Predicate.{comparing, between, membership, null_test, constant}
 use Rattle.rewrite.specs.Places.{tree_width}
 use Rattle.typed_plan.specs.Plan.{Tree, scan, filtered, joined}
 use Rattle.typed_plan.specs.declared.plan.Aggregate.{Aggregate}
@@ -38,8 +40,10 @@ with_predicate (disjunction p q) uses = with_predicate q (with_predicate p uses)
 with_predicate (negation p) uses = with_predicate p uses
 with_predicate (truth_test negated tested p) uses = with_predicate p uses
 with_predicate (comparing comparison left right) uses = with_operand right (with_operand left uses)
-with_predicate (between negated operand low high) uses = with_operand high (with_operand low (with_operand operand uses))
-with_predicate (membership negated operand items) uses = with_operands items (with_operand operand uses)
+with_predicate (between negated operand low high) uses =
+    with_operand high (with_operand low (with_operand operand uses))
+with_predicate (membership negated operand items) uses =
+    with_operands items (with_operand operand uses)
 with_predicate (null_test negated operand) uses = with_operand operand uses
 with_predicate (constant truth) uses = uses
 

@@ -4,8 +4,8 @@ ghost use Rattle.rewrite.specs.Folded.{FoldingKeepsTruths, FoldedNamesColumns};
 ghost use Rattle.rewrite.specs.Laws.{PushingKeepsRows, PushedStandBelow, SkippingKeepsRows};
 ghost use Rattle.rewrite.specs.Pruned.{PruningKeepsRows};
 
-/// A folded predicate has the truth that it had, in every row, and each comparison, BETWEEN, IN and IS NULL of it names a
-/// column.
+/// A folded predicate has the truth that it had, in every row, and each comparison, BETWEEN, IN and
+/// IS NULL of it names a column.
 pub fn folding_keeps_truths()
     ensures truths { FoldingKeepsTruths }
     ensures columns { FoldedNamesColumns }
@@ -16,7 +16,8 @@ pub fn pushing_keeps_rows()
     ensures { PushingKeepsRows }
 {}
 
-/// No outermost conjunct of a pushed filter that names columns of exactly one place stands above a join.
+/// No outermost conjunct of a pushed filter that names columns of exactly one place stands above a
+/// join.
 pub fn pushed_stand_below()
     ensures { PushedStandBelow }
 {}

@@ -4,7 +4,8 @@ ghost use Rattle.std.specs.Prelude.{◌≡◌, true, false};
 ghost use Rattle.std.specs.List.{list_all};
 ghost use Rattle.scan_base.specs.Predicate.{operand_names};
 ghost use Rattle.scan_base.specs.View.{pred_of};
-ghost use Rattle.rewrite.specs.Folded.{names_none, folded, folded_atom, folded_tree, is_atom, is_folded_tree};
+ghost use Rattle.rewrite.specs.Folded.{names_none, folded, folded_atom, folded_tree, is_atom};
+ghost use Rattle.rewrite.specs.Folded.{is_folded_tree};
 ghost use Rattle.rewrite.specs.Same.{StandsFor};
 ghost use Rattle.typed_plan.specs.View.{tree_of};
 
@@ -124,8 +125,8 @@ fn fold_filters(plan: &mut Plan)
     }
 }
 
-/// The plan with each comparison, BETWEEN, IN and IS NULL of literals alone replaced by its truth, which may be unknown. It
-/// gives the same rows, takes no memory and cannot fail.
+/// The plan with each comparison, BETWEEN, IN and IS NULL of literals alone replaced by its truth,
+/// which may be unknown. It gives the same rows, takes no memory and cannot fail.
 pub fn fold(plan: TypedPlan) -> TypedPlan
     ensures same { StandsFor result plan }
     ensures tree { tree_of result.plan ≡ folded_tree (tree_of plan.plan) }

@@ -92,7 +92,7 @@ pub(crate) fn renumber<N: NewNumbers>(alloc: Global, predicate: &mut Predicate<u
     }
 }
 
-// The numbers of the columns behind a seam, counted from it.
+// The numbers of the columns after a seam, counted from it.
 #[derive(Drop)]
 pub(crate) struct FromSeam {
     pub(crate) seam: usize,

@@ -11,7 +11,8 @@ use std::mem;
 
 // The sides of an AND, taken out of it.
 fn take_sides(predicate: &mut Predicate<usize>) -> Option<(Predicate<usize>, Predicate<usize>)>
-    ensures { MatchOption result ((conjuncts (pred_of predicate.old) ≡ pred_of predicate.old ∷ []) × (predicate.new ≡ predicate.old))
+    ensures { MatchOption result ((conjuncts (pred_of predicate.old) ≡ pred_of predicate.old ∷ [])
+        × (predicate.new ≡ predicate.old))
         (λ sides. pred_of predicate.old ≡ conjunction (pred_of sides.0) (pred_of sides.1)) }
 {
     match predicate {
@@ -31,7 +32,8 @@ fn is_sure(predicate: &Predicate<usize>) -> bool
     matches!(predicate, Predicate::Constant(Truth::True))
 }
 
-// The parts of a predicate that have to be looked at, in order. A loop: a query may be a chain of thousands of ANDs.
+// The parts of a predicate that have to be looked at, in order. A loop: a query may be a chain of
+// thousands of ANDs.
 pub(crate) fn parts_of(
     alloc: Global,
     predicate: Predicate<usize>,
@@ -58,7 +60,8 @@ pub(crate) fn all_of(
     first: Predicate<usize>,
     parts: Vec<Predicate<usize>>,
 ) -> Result<Predicate<usize>, AllocError>
-    ensures { IfOk result (λ whole. pred_of whole ≡ all_of (pred_of first) (map pred_of parts.items)) }
+    ensures { IfOk result
+        (λ whole. pred_of whole ≡ all_of (pred_of first) (map pred_of parts.items)) }
 {
     let mut whole = first;
     for part in parts {

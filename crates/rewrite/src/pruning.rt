@@ -60,7 +60,8 @@ fn kept_columns(
     }
 }
 
-// Leaves in the scans of a tree the used ones of its columns, and gives each filter and ON their new numbers.
+// Leaves in the scans of a tree the used ones of its columns, and gives each filter and ON their
+// new numbers.
 fn prune_tree(alloc: Global, plan: &mut Plan, uses: &[bool]) -> Result<(), AllocError>
     requires { AreUsed uses.now (tree_of plan.old) }
     ensures { OnOk result (tree_of plan.new ≡ pruned uses.now (tree_of plan.old)) }
@@ -89,8 +90,9 @@ fn prune_tree(alloc: Global, plan: &mut Plan, uses: &[bool]) -> Result<(), Alloc
     }
 }
 
-/// The plan without the columns that nothing uses: its scans give those columns alone that a filter, an ON or the result
-/// names. It gives the same rows, and each filter stands where it stood.
+/// The plan without the columns that nothing uses: its scans give those columns alone that a
+/// filter, an ON or the result names. It gives the same rows, and each filter stands where it
+/// stood.
 ///
 /// # Errors
 ///
@@ -98,8 +100,10 @@ fn prune_tree(alloc: Global, plan: &mut Plan, uses: &[bool]) -> Result<(), Alloc
 pub fn prune(alloc: Global, plan: TypedPlan) -> Result<TypedPlan, AllocError>
     ensures same { IfOk result (λ made. StandsFor made plan) }
     ensures pruned { IfOk result (λ made. IsPruned (plan_of made)) }
-    ensures folded { IfOk result (λ made. is_folded_tree (tree_of made.plan) ≡ is_folded_tree (tree_of plan.plan)) }
-    ensures below { IfOk result (λ made. is_pushed (tree_of made.plan) ≡ is_pushed (tree_of plan.plan)) }
+    ensures folded { IfOk result
+        (λ made. is_folded_tree (tree_of made.plan) ≡ is_folded_tree (tree_of plan.plan)) }
+    ensures below { IfOk result
+        (λ made. is_pushed (tree_of made.plan) ≡ is_pushed (tree_of plan.plan)) }
 {
     let (tables, mut plan, output, schema) = plan.into_parts();
     let uses = uses_of(alloc, &plan, &output)?;

@@ -4,7 +4,8 @@ ghost use Rattle.std.specs.Prelude.{◌≡◌, [], ◌++◌, IfOk, true, map};
 ghost use Rattle.std.specs.List.{filter};
 ghost use Rattle.scan_base.specs.View.{pred_of};
 ghost use Rattle.rewrite.specs.Conjuncts.{parts_of};
-ghost use Rattle.rewrite.specs.Pushed.{above, is_behind, is_both, is_left, is_pushed, is_right, moved, pushed};
+ghost use Rattle.rewrite.specs.Pushed.{above, is_behind, is_both, is_left, is_pushed, is_right};
+ghost use Rattle.rewrite.specs.Pushed.{moved, pushed};
 ghost use Rattle.rewrite.specs.Same.{StandsFor};
 ghost use Rattle.typed_plan.specs.Plan.{joined as joined_trees};
 ghost use Rattle.typed_plan.specs.View.{tree_of};
@@ -17,7 +18,8 @@ use scan_base::{Items, Predicate};
 use std::alloc::{AllocError, Global};
 use typed_plan::{JoinKey, Plan, TypedPlan};
 
-// Parts of filters over the rows of a join, by where their columns are. Those of the right count them from its first.
+// Parts of filters over the rows of a join, by where their columns are. Those of the right count
+// them from its first.
 #[derive(Drop)]
 struct Sides {
     left: Vec<Predicate<usize>>,
@@ -27,9 +29,12 @@ struct Sides {
 
 // The parts of a join whose left has so many columns, each on its side.
 fn split(alloc: Global, parts: Vec<Predicate<usize>>, seam: usize) -> Result<Sides, AllocError>
-    ensures left { IfOk result (λ sides. map pred_of sides.left.items ≡ filter (is_left seam) (map pred_of parts.items)) }
-    ensures right { IfOk result (λ sides. map pred_of sides.right.items ≡ map (moved seam) (filter (is_right seam) (map pred_of parts.items))) }
-    ensures both { IfOk result (λ sides. map pred_of sides.both.items ≡ filter (is_both seam) (map pred_of parts.items)) }
+    ensures left { IfOk result
+        (λ sides. map pred_of sides.left.items ≡ filter (is_left seam) (map pred_of parts.items)) }
+    ensures right { IfOk result (λ sides. map pred_of sides.right.items
+        ≡ map (moved seam) (filter (is_right seam) (map pred_of parts.items))) }
+    ensures both { IfOk result
+        (λ sides. map pred_of sides.both.items ≡ filter (is_both seam) (map pred_of parts.items)) }
 {
     let mut left = Vec::new(alloc);
     let mut right = Vec::new(alloc);
@@ -46,7 +51,7 @@ fn split(alloc: Global, parts: Vec<Predicate<usize>>, seam: usize) -> Result<Sid
     Ok(Sides { left, right, both })
 }
 
-// A predicate whose columns are all behind a seam, counted from it.
+// A predicate whose columns are all after a seam, counted from it.
 fn counted_from(alloc: Global, predicate: Predicate<usize>, seam: usize) -> Predicate<usize>
     requires { is_behind seam (pred_of predicate) ≡ true }
     ensures { pred_of result ≡ moved seam (pred_of predicate) }
@@ -58,7 +63,8 @@ fn counted_from(alloc: Global, predicate: Predicate<usize>, seam: usize) -> Pred
 
 // A tree below one filter of these parts, in their order.
 fn above(alloc: Global, parts: Vec<Predicate<usize>>, plan: Plan) -> Result<Plan, AllocError>
-    ensures { IfOk result (λ filtered. tree_of filtered ≡ above (map pred_of parts.items) (tree_of plan)) }
+    ensures { IfOk result
+        (λ filtered. tree_of filtered ≡ above (map pred_of parts.items) (tree_of plan)) }
 {
     if parts.is_empty() {
         return Ok(plan);
@@ -79,13 +85,14 @@ fn joined(alloc: Global, left: Plan, right: Plan, on: Items<JoinKey>) -> Result<
     Ok(Plan::Join { left, right, on })
 }
 
-// The parts of a filter, and these behind them.
+// The parts of a filter, and these after them.
 fn with_parts(
     alloc: Global,
     predicate: Predicate<usize>,
     parts: Vec<Predicate<usize>>,
 ) -> Result<Vec<Predicate<usize>>, AllocError>
-    ensures { IfOk result (λ all. map pred_of all.items ≡ parts_of (pred_of predicate) ++ map pred_of parts.items) }
+    ensures { IfOk result
+        (λ all. map pred_of all.items ≡ parts_of (pred_of predicate) ++ map pred_of parts.items) }
 {
     let mut all = parts_of(alloc, predicate)?;
     for part in parts {
@@ -127,8 +134,9 @@ fn push(alloc: Global, parts: Vec<Predicate<usize>>, plan: Plan) -> Result<Plan,
     }
 }
 
-/// The plan with each filter as low as it may stand: of the parts that its outermost ANDs join, each that names columns of
-/// one place alone stands at that place, and none is the constant TRUE. It gives the same rows.
+/// The plan with each filter as low as it may stand: of the parts that its outermost ANDs join,
+/// each that names columns of one place alone stands at that place, and none is the constant TRUE.
+/// It gives the same rows.
 ///
 /// # Errors
 ///

@@ -2,7 +2,8 @@
 
 ghost use Rattle.std.specs.Prelude.{◌≡◌, EachIndex, IfOk, length, map, slice_index, true};
 ghost use Rattle.std.specs.List.{list_all};
-ghost use Rattle.rewrite.specs.Pruned.{is_used, item_in, key_in, number_in, output_in, uses_item, uses_key, uses_output};
+ghost use Rattle.rewrite.specs.Pruned.{is_used, item_in, key_in, number_in, output_in, uses_item};
+ghost use Rattle.rewrite.specs.Pruned.{uses_key, uses_output};
 
 use crate::numbers::NewNumbers;
 use scan_base::Items;
@@ -15,7 +16,8 @@ pub(crate) struct UsedNumbers<'a> {
     pub(crate) uses: &'a [bool],
     pub(crate) numbers: Vec<usize>,
     ghost all: { length numbers.items ≡ length uses.now },
-    ghost counts: { EachIndex numbers.items (λ column. slice_index numbers.items column ≡ number_in uses.now column) },
+    ghost counts: { EachIndex numbers.items
+        (λ column. slice_index numbers.items column ≡ number_in uses.now column) },
 }
 
 impl NewNumbers for UsedNumbers<'_> {

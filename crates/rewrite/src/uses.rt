@@ -4,7 +4,9 @@ ghost use Rattle.std.specs.Prelude.{◌≡◌, IfOk, OnOk, length};
 ghost use Rattle.scan_base.specs.View.{pred_of};
 ghost use Rattle.typed_plan.specs.View.{tree_of};
 ghost use Rattle.rewrite.specs.Places.{tree_width};
-ghost use Rattle.rewrite.specs.Uses.{uses_of, with_column, with_columns, with_item, with_items, with_keys, with_operand, with_operands, with_output, with_predicate, with_tree};
+ghost use Rattle.rewrite.specs.Uses.{uses_of, with_column, with_columns, with_item, with_items};
+ghost use Rattle.rewrite.specs.Uses.{with_keys, with_operand, with_operands, with_output};
+ghost use Rattle.rewrite.specs.Uses.{with_predicate, with_tree};
 
 use crate::widths::width;
 use scan_base::{Operand, Predicate};

@@ -13,8 +13,8 @@ use crate::pushing::push_down;
 use std::alloc::{AllocError, Global};
 use typed_plan::TypedPlan;
 
-/// The plan with its literals worked out, its filters as low as they may stand, and scans that give those columns alone that
-/// something uses. It gives the same rows.
+/// The plan with its literals worked out, its filters as low as they may stand, and scans that give
+/// those columns alone that something uses. It gives the same rows.
 ///
 /// # Errors
 ///

@@ -53,7 +53,7 @@ goes_still rows front = record { types = refl; batches = refl; depth = refl; ope
     take_same [] = refl
     take_same (x ∷ xs) = ap (λ rest. x ∷ rest) (take_same xs)
 
--- behind the last
+-- after the last
 pub all_collected : (first before after : RowsAt) (batches : List BatchAt) → GoesOn first before → Ends before after →
     flat_map rows_of batches ++ plain_rows before.ahead ≡ plain_rows first.ahead → All (IsBatchOf first.types) batches → AreCollected first batches after
 all_collected first before after batches on ends is each = record {

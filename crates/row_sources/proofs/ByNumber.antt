@@ -61,7 +61,7 @@ counted_first first xs lists =
     ∙ ap (λ some. with_number first xs ++ some) (counted_none first (first + 1) lists (omega arith))
     ∙ append-nil (with_number first xs)
 
--- and of those behind it
+-- and of those after it
 counted_later : (first number : ℕ) (xs : List Row) (lists : List (List Row)) → first < number →
     of_number number (counted first (xs ∷ lists)) ≡ of_number number (counted (first + 1) lists)
 counted_later first number xs lists h =

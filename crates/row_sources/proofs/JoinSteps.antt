@@ -32,7 +32,7 @@ joined_one joiner number (left ∷ lefts) =
     ap (λ (rest : List (ℕ × Row)). map (λ row. (number, row)) (joined_with joiner left) ++ rest) (joined_one joiner number lefts)
     ∙ sym (map-append (λ row. (number, row)) (joined_with joiner left) (joined_of joiner lefts))
 
--- and of others behind them
+-- and of others after them
 joined_more : (joiner : JoinerAt) (number : ℕ) (lefts : List Row) (rest : List (ℕ × Row)) →
     numbered_joined joiner (map (λ row. (number, row)) lefts ++ rest)
     ≡ map (λ row. (number, row)) (joined_of joiner lefts) ++ numbered_joined joiner rest

@@ -43,7 +43,7 @@ all_alike (t ∷ types) (one ∷ lies) all =
     ap (λ (copied : DataType). copied ∷ map copied_type lies) (alike t one all.0)
     ∙ ap (λ (more : List DataType). copied_type t ∷ more) (all_alike types lies all.1)
 
--- one list behind another
+-- one list after another
 pub lie_behind : (types lies others more : List DataType) → AllZip LiesAs types lies → AllZip LiesAs others more →
     AllZip LiesAs (types ++ others) (lies ++ more)
 lie_behind [] [] others more all behind = behind

@@ -55,7 +55,7 @@ listed_within from to batches low (number ∷ numbers) listed =
 -- ---- where a batch stands
 
 module _ (from to : ℕ) (batches : List BatchAt) where
-  -- its rows stand behind those before it
+  -- its rows stand after those before it
   pub before_next : (i : ℕ) (batch : BatchAt) → slice_get batches i ≡ Some batch → rows_before batches (i + 1) ≡ rows_before batches i + batch.rows
   before_next i batch there =
       ap (λ (some : List BatchAt). length (flat_map rows_of some)) (split_at batches i batch there).1
@@ -90,7 +90,7 @@ take_more (suc n) (suc m) (x ∷ xs) h = ap (λ rest. x ∷ rest) (take_more n m
 pub between_same : (from a b : ℕ) (rows : List Row) → min a (length rows) ≡ min b (length rows) → rows_between from a rows ≡ rows_between from b rows
 between_same from a b rows h = take_more (a - from) (b - from) (drop from rows) (omega (arith, h, length-drop from rows))
 
--- what stands at a place, and what stands behind it
+-- what stands at a place, and what stands after it
 at_drop : {X : Type 0} (xs : List X) (i : ℕ) (x : X) (rest : List X) → drop i xs ≡ x ∷ rest → (slice_get xs i ≡ Some x) × (drop (i + 1) xs ≡ rest)
 at_drop [] zero x rest e = cc
 at_drop [] (suc i) x rest e = cc
@@ -179,7 +179,7 @@ module _ {Y : Type 0} (from to : ℕ) (batches : List BatchAt) (make : ℕ → L
           let e : k + 1 + j ≡ k + suc j = omega arith in
           ap number_of e ∙ named (suc j) (omega (arith, h))
 
-      -- where the next one begins behind this one, the range goes on behind it too
+      -- where the next one begins after this one, the range goes on after it too
       behind_first : (number : ℕ) (batch : BatchAt) (numbers : List ℕ) → slice_get batches number ≡ Some batch → AreListed from to batches low (number ∷ numbers) →
           (narrowed_from from batches numbers ≡ 0) × ((narrowed_to to batches numbers ≡ 0) ⊎ (rows_before batches (number + 1) ≤ to))
       behind_first number batch [] there listed = (refl, inl refl)

@@ -25,7 +25,7 @@ filter_none f first (suc n) none =
     let here : f first ≡ false = none first (omega arith) (omega arith) in
     rw (here, filter_none f (first + 1) n (λ k low high. none k (omega (arith, low)) (omega (arith, high)))) refl
 
--- one number more, behind all others that pass
+-- one number more, after all others that pass
 filter_more : (f g : ℕ → Bool) (first n i : ℕ) → first ≤ i → i < first + n → ((k : ℕ) → k < i → f k ≡ g k) →
     f i ≡ false → g i ≡ true →
     ((k : ℕ) → i < k → k < first + n → f k ≡ false) → ((k : ℕ) → i < k → k < first + n → g k ≡ false) →
@@ -83,7 +83,7 @@ grows batches i j h =
     let front = ap (λ (some : List BatchAt). length (flat_map rows_of some)) (take-take i j batches h) in
     omega (arith, whole, front)
 
--- and all rows behind the last one
+-- and all rows after the last one
 pub in_all : (batches : List BatchAt) (i : ℕ) → i ≤ length batches →
     rows_before batches i ≤ length (flat_map rows_of batches)
 in_all batches i h =
@@ -184,7 +184,7 @@ module _ (from a b : ℕ) (batches : List BatchAt) (i : ℕ) (there : i < length
   now_there = lt-ltb (max (rows_before batches i) from) (min (rows_before batches (i + 1)) b)
       (omega (arith, begun, behind, more, high))
 
-  -- the batches behind it
+  -- the batches after it
   none_yet : (to : ℕ) → to ≤ b → (k : ℕ) → i < k → has_row_in from to batches k ≡ false
   none_yet to h k above =
       let begins = grows batches (i + 1) k (omega (arith, above)) in

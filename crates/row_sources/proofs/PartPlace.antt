@@ -129,7 +129,7 @@ module _ (table : TableAt) (cursor : Cursor) (is : IsPlaced table cursor) (i : �
     next : rows_before batches (i + 1) ≡ rows_before batches i + batch.rows
     next = before_next cursor.from cursor.to batches i batch found
 
-    -- the range goes on behind a batch that is not the last
+    -- the range goes on after a batch that is not the last
     pub ends_later : i + 1 < length batches → batch.rows ≡ end_in table cursor i
     ends_later more =
         let behind = in_range cursor.from cursor.to batches (i + 1) (each_in cursor.from cursor.to batches (i + 1) is.each more) in

@@ -11,15 +11,18 @@ use Rattle.row_sources.specs.Parts.{first_batches, further_rows, numbered_parts,
 use Rattle.batch_skipping.specs.Opened.{batches_in}
 use Rattle.row_sources.specs.Running.{RowsAt}
 
--- the rows that a tree gives of rows `from` up to, not with, `to` of its first place, each with the number of its batch
+-- the rows that a tree gives of rows `from` up to, not with, `to` of its first place, each with the
+-- number of its batch
 abbrev pub tree_given : Tree → List TableAt → ℕ → ℕ → List (ℕ × Row)
 tree_given tree tables from to =
-    numbered_rows (map (λ (part : ℕ × List Row). (part.0, rows_over tree (part.1 ∷ further_rows tables)))
+    numbered_rows
+    (map (λ (part : ℕ × List Row). (part.0, rows_over tree (part.1 ∷ further_rows tables)))
     (numbered_parts from to (first_batches tables)))
 
--- rows before the first one: their columns lie as those of the tree, all that it gives of a range are to come, each as wide as
--- there are types, and no batch of the first place was opened
-pub record IsBegun (tree : Tree) (tables : List TableAt) (from to : ℕ) (rows : RowsAt) : Type 0 where
+-- rows before the first one: their columns lie as those of the tree, all that it gives of a range
+-- are to come, each as wide as there are types, and no batch of the first place was opened
+pub record IsBegun (tree : Tree) (tables : List TableAt) (from to : ℕ)
+    (rows : RowsAt) : Type 0 where
   pub types : AllZip LiesAs (tree_types tree) rows.types
   pub ahead : rows.ahead ≡ tree_given tree tables from to
   pub wide : All (λ (row : ℕ × Row). length row.1 ≡ length rows.types) rows.ahead

@@ -11,7 +11,8 @@ use Rattle.row_sources.specs.Placed.{IsNextPart}
 
 -- a choice that was made is that of the part that comes next
 abbrev pub IsChoice : TableAt → Cursor → PickAt → Choice → Type 0
-IsChoice table cursor pick choice = choice.made ≡ true → (part : Part) → IsNextPart table cursor part → choice.selection ≡ chosen_rows pick part
+IsChoice table cursor pick choice = choice.made ≡ true → (part : Part) →
+    IsNextPart table cursor part → choice.selection ≡ chosen_rows pick part
 
 -- what holds of the choice of a source; of joined rows none is made
 abbrev pub IsChoiceOf : Source → PickAt → Choice → Type 0

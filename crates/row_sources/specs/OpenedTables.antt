@@ -11,6 +11,7 @@ narrow_all _ _ = []
 
 -- the batches of each are there
 abbrev pub CanAll : List TableAt → List OpenedList → Type 0
-CanAll (table ∷ tables) (list ∷ lists) = CanNarrow table list.numbers.items list.rows × CanAll tables lists
+CanAll (table ∷ tables) (list ∷ lists) =
+    CanNarrow table list.numbers.items list.rows × CanAll tables lists
 CanAll [] [] = Unit {0}
 CanAll _ _ = ⊥

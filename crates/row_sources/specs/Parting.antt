@@ -8,7 +8,8 @@ use Rattle.row_sources.specs.Running.{RowsAt}
 abbrev pub of_number : ℕ → List (ℕ × Row) → List (ℕ × Row)
 of_number number rows = filter (λ (row : ℕ × Row). row.0 == number) rows
 
--- the rows of that batch alone, as those of a first place that has no other, before the first one; so many are to be looked at
+-- the rows of that batch alone, as those of a first place that has no other, before the first one;
+-- so many are to be looked at
 abbrev pub part_of : ℕ → ℕ → RowsAt → RowsAt
 part_of number unseen rows = record rows {
   ahead = map (λ (row : ℕ × Row). (0, row.1)) (of_number number rows.ahead);
@@ -19,4 +20,5 @@ part_of number unseen rows = record rows {
 
 -- rows come batch by batch, where no batch was opened
 abbrev pub ComeInOrder : RowsAt → Type 0
-ComeInOrder rows = rows.opened ≡ [] → rows.ahead ≡ flat_map (λ number. of_number number rows.ahead) rows.batches
+ComeInOrder rows =
+    rows.opened ≡ [] → rows.ahead ≡ flat_map (λ number. of_number number rows.ahead) rows.batches

@@ -21,7 +21,8 @@ parts from to [] = []
 parts from to (batch ∷ batches) =
     rows_between from to (rows_of batch) ∷ parts (from - batch.rows) (to - batch.rows) batches
 
--- the parts with rows `from` up to, not with, `to` of batches, each with the number of its batch, counted from 0
+-- the parts with rows `from` up to, not with, `to` of batches, each with the number of its batch,
+-- counted from 0
 abbrev pub numbered_parts : ℕ → ℕ → List BatchAt → List (ℕ × List Row)
 numbered_parts from to batches = zip (range_with_len 0 (length batches)) (parts from to batches)
 

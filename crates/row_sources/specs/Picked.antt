@@ -1,5 +1,6 @@
 -- Batches of the rows of a source that are given.
-use Rattle.std.specs.Prelude.{◌≡◌, ◌<◌, ℕ, IsTrue, All, List, [], length, map, Option, Some, None, Result, Ok, Err}
+use Rattle.std.specs.Prelude.{◌≡◌, ◌<◌, ℕ, IsTrue, All, List, [], length, map, Option, Some, None}
+use Rattle.std.specs.Prelude.{Result, Ok, Err}
 use Rattle.std.specs.List.{AllZip, filter}
 use Rattle.std.specs.declared.alloc.AllocError.{AllocError}
 use Rattle.arrow_schema.specs.declared.data_type.DataType.{DataType}
@@ -20,7 +21,8 @@ given pick rows = map (cells_at pick.shown) (filter (holds pick) rows)
 pub record HasSlotsAt (places : List ℕ) (column made : ColumnAt) : Type 0 where
   pub values : values_of made ≡ map (slot_of column) places
   pub long : made.len ≡ length places
-  pub typed : (data_type : DataType) → IsOfType data_type column.layout → IsOfType data_type made.layout
+  pub typed : (data_type : DataType) → IsOfType data_type column.layout →
+      IsOfType data_type made.layout
 
 -- a batch has these columns of the rows of another at these places
 pub record HasRowsAt (places numbers : List ℕ) (batch made : BatchAt) : Type 0 where
@@ -31,11 +33,13 @@ pub record HasRowsAt (places numbers : List ℕ) (batch made : BatchAt) : Type 0
 abbrev pub given_of_part : PickAt → Part → List Row
 given_of_part pick part = given pick (rows_of (cut_batch part.batch.now part.from part.to))
 
--- a batch is what is given of a part: one row or more, in columns of the types of those that are shown
+-- a batch is what is given of a part: one row or more, in columns of the types of those that are
+-- shown
 pub record IsPicked (pick : PickAt) (part : Part) (batch : BatchAt) : Type 0 where
   pub rows : rows_of batch ≡ given_of_part pick part
   pub some : 0 < batch.rows
-  pub typed : (types : List DataType) → AreOf types part.batch.now.columns → AreOf (map (type_at types) pick.shown) batch.columns
+  pub typed : (types : List DataType) → AreOf types part.batch.now.columns →
+      AreOf (map (type_at types) pick.shown) batch.columns
 
 -- a batch of what is given of a part, or nothing where that is no row
 abbrev pub Picks : PickAt → Part → Result (Option BatchAt) AllocError → Type 0

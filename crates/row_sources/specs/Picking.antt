@@ -18,7 +18,11 @@ pub record PickAt : Type 0 where
 
 -- what a picker picks
 abbrev pub pick_of : Picker → PickAt
-pick_of picker = record { filters = map pred_of picker.filters.items; read = picker.read.items; shown = picker.shown.items }
+pick_of picker = record {
+  filters = map pred_of picker.filters.items;
+  read = picker.read.items;
+  shown = picker.shown.items;
+}
 
 -- the cells of these numbers
 abbrev pub cells_at : List ℕ → Row → Row
@@ -35,13 +39,15 @@ holds pick row = passes pick.filters (cells_at pick.read row)
 -- what is given of rows with the numbers of the batches of which they come
 abbrev pub given_numbered : PickAt → List (ℕ × Row) → List (ℕ × Row)
 given_numbered pick rows =
-    map (λ (row : ℕ × Row). (row.0, cells_at pick.shown row.1)) (filter (λ (row : ℕ × Row). holds pick row.1) rows)
+    map (λ (row : ℕ × Row). (row.0, cells_at pick.shown row.1))
+    (filter (λ (row : ℕ × Row). holds pick row.1) rows)
 
 -- the columns are there, of so many of the source
 pub record IsPick (width : ℕ) (pick : PickAt) : Type 0 where
   pub read : IsTrue (are_within width pick.read)
   pub shown : IsTrue (are_within width pick.shown)
-  pub named : All (λ (predicate : Pred ℕ). IsTrue (names_only (λ column. nat_lt column (length pick.read)) predicate)) pick.filters
+  pub named : All (λ (predicate : Pred ℕ).
+      IsTrue (names_only (λ column. nat_lt column (length pick.read)) predicate)) pick.filters
 
 -- the numbers of a part's rows in its batch
 abbrev pub rows_of_part : Part → List ℕ
@@ -49,4 +55,5 @@ rows_of_part part = range_with_len part.from (part.to - part.from)
 
 -- the numbers of those that hold
 abbrev pub chosen_rows : PickAt → Part → List ℕ
-chosen_rows pick part = filter (λ row. holds pick (row_of part.batch.now.columns row)) (rows_of_part part)
+chosen_rows pick part =
+    filter (λ row. holds pick (row_of part.batch.now.columns row)) (rows_of_part part)

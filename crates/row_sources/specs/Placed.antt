@@ -1,5 +1,6 @@
 -- Inside: where a cursor stands among the batches of a table, and how it goes on.
-use Rattle.std.specs.Prelude.{◌≡◌, ◌≤◌, ◌<◌, ◌⊎◌, ℕ, ◌+◌, List, ◌++◌, length, map, slice_get, Some, None, min, ◌-◌}
+use Rattle.std.specs.Prelude.{◌≡◌, ◌≤◌, ◌<◌, ◌⊎◌, ℕ, ◌+◌, List, ◌++◌, length, map, slice_get, Some}
+use Rattle.std.specs.Prelude.{None, min, ◌-◌}
 use Rattle.std.specs.List.{last_or, range_with_len}
 use Rattle.arrays.specs.Batch.{rows_of, cut_batch}
 use Rattle.arrays.specs.Typed.{AreOf}
@@ -14,20 +15,22 @@ use Rattle.row_sources.specs.Parts.{numbered_parts, numbered_rows}
 use Rattle.batch_skipping.specs.Opened.{batches_in}
 use Rattle.array_select.specs.Room.{most_batch_rows}
 
--- Where a cursor stands: between the range's ends, in its batch or at its begin, behind the batches that were opened. Each
--- batch before its own has a row, and each of the table has one of the range. One row at least is looked at at once, and not
--- too many are.
+-- Where a cursor stands: between the range's ends, in its batch or at its begin, after the batches
+-- that were opened. Each batch before its own has a row, and each of the table has one of the
+-- range. One row at least is looked at at once, and not too many are.
 pub record IsPlaced (table : TableAt) (cursor : Cursor) : Type 0 where
   pub begun : cursor.from ≤ cursor.at
   pub ordered : cursor.at ≤ cursor.to
   pub few : cursor.at < cursor.to → cursor.to ≤ length (table_of table).rows
   pub start : cursor.start ≡ rows_before table.batches cursor.batch
   pub behind : cursor.at < cursor.to → cursor.start ≤ cursor.at
-  pub within : cursor.at < cursor.to → (cursor.at ≡ cursor.start) ⊎ (cursor.at < rows_before table.batches (cursor.batch + 1))
+  pub within : cursor.at < cursor.to →
+      (cursor.at ≡ cursor.start) ⊎ (cursor.at < rows_before table.batches (cursor.batch + 1))
   pub filled : cursor.batch ≤ cursor.start
   pub opened : cursor.opened ≡ length (batches_in cursor.from cursor.at table.batches)
   pub fresh : cursor.opened ≡ 0 → cursor.at ≡ cursor.from
-  pub each : batches_in cursor.from cursor.to table.batches ≡ range_with_len 0 (length table.batches)
+  pub each : batches_in cursor.from cursor.to table.batches
+      ≡ range_with_len 0 (length table.batches)
   pub looks : 1 ≤ cursor.most
   pub bounded : cursor.most ≤ most_batch_rows
 
@@ -50,7 +53,8 @@ pub record IsPart (table : TableAt) (part : Part) : Type 0 where
 pub record IsNextPart (table : TableAt) (cursor : Cursor) (part : Part) : Type 0 where
   pub batch : slice_get table.batches cursor.batch ≡ Some part.batch.now
   pub from : part.from ≡ cursor.at - cursor.start
-  pub to : part.to ≡ min (min part.batch.now.rows (cursor.to - cursor.start)) (cursor.at - cursor.start + cursor.most)
+  pub to : part.to ≡ min (min part.batch.now.rows (cursor.to - cursor.start))
+      (cursor.at - cursor.start + cursor.most)
 
 -- the rows that a cursor has still to look at
 abbrev pub rows_ahead : TableAt → Cursor → List (ℕ × Row)
@@ -63,12 +67,15 @@ pub record Opens (table : TableAt) (before : Cursor) (part : Part) (after : Curs
   pub most : after.most ≡ before.most
   pub forth : before.at < after.at
   pub rows : rows_ahead table before
-      ≡ map (λ row. (before.batch, row)) (rows_of (cut_batch part.batch.now part.from part.to)) ++ rows_ahead table after
+      ≡ map (λ row. (before.batch, row)) (rows_of (cut_batch part.batch.now part.from part.to))
+      ++ rows_ahead table after
   pub latest : last_or None (batches_in after.from after.at table.batches) ≡ Some before.batch
 
--- the first row of a cursor's range in a batch, counted from the batch's first row, and the first behind those in it
+-- the first row of a cursor's range in a batch, counted from the batch's first row, and the first
+-- after those in it
 abbrev pub begin_in : TableAt → Cursor → ℕ → ℕ
 begin_in table cursor number = cursor.from - rows_before table.batches number
 
 abbrev pub end_in : TableAt → Cursor → ℕ → ℕ
-end_in table cursor number = min (rows_before table.batches (number + 1)) cursor.to - rows_before table.batches number
+end_in table cursor number =
+    min (rows_before table.batches (number + 1)) cursor.to - rows_before table.batches number

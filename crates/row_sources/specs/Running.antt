@@ -1,5 +1,6 @@
 -- Rows that are given piece by piece.
-use Rattle.std.specs.Prelude.{◌≡◌, ◌≢◌, ◌≤◌, ◌<◌, ℕ, List, [], ◌++◌, length, map, take, Option, Some, None, Result, Ok, Err}
+use Rattle.std.specs.Prelude.{◌≡◌, ◌≢◌, ◌≤◌, ◌<◌, ℕ, List, [], ◌++◌, length, map, take, Option}
+use Rattle.std.specs.Prelude.{Some, None, Result, Ok, Err}
 use Rattle.std.specs.List.{last_or}
 use Rattle.std.specs.declared.alloc.AllocError.{AllocError}
 use Rattle.arrow_schema.specs.declared.data_type.DataType.{DataType}
@@ -15,9 +16,10 @@ use Rattle.row_sources.specs.declared.turn.Turn.TheVariants.{Given, Working, End
 use Rattle.row_sources.specs.Picking.{PickAt, given_numbered}
 use Rattle.array_select.specs.Room.{most_batch_rows}
 
--- The types of the columns; the rows that are still to be given, each with the number of the batch of the first place of
--- which it comes; the numbers of the batches of that place that are to be opened, and of those that were; how deep joins
--- stand in each other; and how many rows are still to be looked at: those of the first place, and joined ones.
+-- The types of the columns; the rows that are still to be given, each with the number of the batch
+-- of the first place of which it comes; the numbers of the batches of that place that are to be
+-- opened, and of those that were; how deep joins stand in each other; and how many rows are still
+-- to be looked at: those of the first place, and joined ones.
 pub record RowsAt : Type 0 where
   pub types : List DataType
   pub ahead : List (ℕ × Row)
@@ -33,8 +35,8 @@ picked_of pick source = record source {
   ahead = given_numbered pick source.ahead;
 }
 
--- Rows go on over the same batches. Those opened are the first ones of those that are to be, and go on from those opened
--- before.
+-- Rows go on over the same batches. Those opened are the first ones of those that are to be, and go
+-- on from those opened before.
 pub record GoesOn (before after : RowsAt) : Type 0 where
   pub types : after.types ≡ before.types
   pub batches : after.batches ≡ before.batches
@@ -69,13 +71,17 @@ pub record FindsNone (before after : RowsAt) : Type 0 where
 abbrev pub EndsAtChoice : Patience → Type 0
 EndsAtChoice patience = patience ≡ Choice
 
--- A turn that finds none yet has a patience with an end. It looked at one row or more, unless it ends at a choice.
+-- A turn that finds none yet has a patience with an end. It looked at one row or more, unless it
+-- ends at a choice.
 abbrev pub LooksOn : Patience → ℕ → ℕ → Type 0
-LooksOn patience before after = (patience ≢ Endless) × ((EndsAtChoice patience → ⊥) → after < before)
+LooksOn patience before after =
+    (patience ≢ Endless) × ((EndsAtChoice patience → ⊥) → after < before)
 
--- What a turn finds: the next piece, or none where no row is left. One whose patience has an end may find none yet.
+-- What a turn finds: the next piece, or none where no row is left. One whose patience has an end
+-- may find none yet.
 abbrev pub FindsTurn : Patience → RowsAt → Result (Turn Piece) AllocError → RowsAt → Type 0
 FindsTurn patience before (Ok (Given piece)) after = FindsPiece before piece after
-FindsTurn patience before (Ok Working) after = FindsNone before after × LooksOn patience before.unseen after.unseen
+FindsTurn patience before (Ok Working) after =
+    FindsNone before after × LooksOn patience before.unseen after.unseen
 FindsTurn patience before (Ok End) after = Ends before after
 FindsTurn patience before (Err _) after = GoesOn before after

@@ -9,7 +9,11 @@ use Rattle.row_sources.specs.Running.{RowsAt, picked_of}
 
 -- the filters of a source, over the columns that are given
 abbrev pub sourced_pick : Sourced → PickAt
-sourced_pick s = record { filters = map pred_of s.filters.items; read = s.columns.items; shown = s.columns.items }
+sourced_pick s = record {
+  filters = map pred_of s.filters.items;
+  read = s.columns.items;
+  shown = s.columns.items;
+}
 
 -- the rows that a source gives through its filters
 abbrev pub sourced_at : Sourced → RowsAt
@@ -21,7 +25,8 @@ source_of s = record { rows = sourced_at s; count = length (source_at s.source).
 
 -- these columns of all rows of a source
 abbrev pub unfiltered : List ℕ → RowsAt → RowsAt
-unfiltered columns source = picked_of (record { filters = []; read = columns; shown = columns }) source
+unfiltered columns source =
+    picked_of (record { filters = []; read = columns; shown = columns }) source
 
 -- the columns are there, and of the types
 pub record IsSourced (s : Sourced) : Type 0 where

@@ -28,7 +28,8 @@ use typed_plan::Plan;
 use typed_plan::laws::typed_predicates_name_columns;
 use work_watch::Watches;
 
-// A source, the filters over its rows, and the numbers of its columns that they see and that are given, with their types.
+// A source, the filters over its rows, and the numbers of its columns that they see and that are
+// given, with their types.
 #[derive(Drop)]
 pub(crate) struct Sourced {
     pub(crate) source: Source,
@@ -37,8 +38,9 @@ pub(crate) struct Sourced {
     pub(crate) types: Vec<DataType>,
 }
 
-// What gives the rows of a plan over a range of its first place, which begins in the first batch that is read, and of which
-// each such batch has a row. The tables are those of its places, in order. The further places are read here, watched.
+// What gives the rows of a plan over a range of its first place, which begins in the first batch
+// that is read, and of which each such batch has a row. The tables are those of its places, in
+// order. The further places are read here, watched.
 pub(crate) fn build<W: Watches>(
     alloc: Global,
     plan: Plan,
@@ -47,15 +49,18 @@ pub(crate) fn build<W: Watches>(
     watch: &mut W,
 ) -> Result<Sourced, AllocError>
     requires typed { IsTypedTree (tree_of plan) }
-    requires schemas { tree_schemas (tree_of plan) ≡ map (λ (table : TableAt). table.schema) tables.items }
+    requires schemas { tree_schemas (tree_of plan)
+        ≡ map (λ (table : TableAt). table.schema) tables.items }
     requires first { BeginsInFirst reading.from (first_batches tables.items) }
     requires each { batches_in reading.from reading.to (first_batches tables.items)
         ≡ range_with_len 0 (length (first_batches tables.items)) }
     requires ready { W.ready watch.old }
     ensures sourced { IfOk result IsSourced }
-    ensures begun { IfOk result (λ made. IsBegun (tree_of plan) tables.items reading.from reading.to (sourced_at made)) }
+    ensures begun { IfOk result
+        (λ made. IsBegun (tree_of plan) tables.items reading.from reading.to (sourced_at made)) }
     ensures few { IfOk result (λ made. is_place (tree_of plan) ≡ true →
-        length (source_at made.source).ahead ≤ length (flat_map rows_of (first_batches tables.items))) }
+        length (source_at made.source).ahead
+        ≤ length (flat_map rows_of (first_batches tables.items))) }
     ensures ready { OnOk result (W.ready watch.new) }
     ensures watched { W.watched watch.old watch.new }
 {

@@ -10,7 +10,8 @@ use arrays::Batch;
 use std::alloc::{AllocError, Global};
 use work_watch::{Watches, tell};
 
-/// All rows that are still to be given, batch by batch. Behind each batch, and each turn that gives none, who watches may end it.
+/// All rows that are still to be given, batch by batch. After each batch, and each turn that gives
+/// none, who watches may end it.
 ///
 /// # Errors
 ///

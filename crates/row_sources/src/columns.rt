@@ -55,7 +55,8 @@ pub(crate) fn slice_of(
     requires there { IsTrue (are_within (length part.now.batch.now.columns) numbers.now) }
     requires ordered { part.now.from ≤ part.now.to }
     requires within { part.now.to ≤ part.now.batch.now.rows }
-    ensures { IfOk result (λ slice. HasRowsAt (rows_of_part part.now) numbers.now part.now.batch.now slice) }
+    ensures { IfOk result
+        (λ slice. HasRowsAt (rows_of_part part.now) numbers.now part.now.batch.now slice) }
 {
     let columns = part.batch.columns();
     let mut slices = Vec::with_capacity(alloc, numbers.len())?;

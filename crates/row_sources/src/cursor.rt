@@ -30,13 +30,14 @@ pub(crate) struct Cursor {
 }
 
 impl Cursor {
-    // Before the rows `from` up to, not with, `to` of a table, of which the first is one of its first batch, and each batch has
-    // one.
+    // Before the rows `from` up to, not with, `to` of a table, of which the first is one of its
+    // first batch, and each batch has one.
     pub(crate) fn new(table: &OpenedTable, from: usize, to: usize) -> Cursor
         requires ordered { from ≤ to }
         requires within { from < to → to ≤ length (table_of table.now).rows }
         requires first { BeginsInFirst from table.now.batches }
-        requires each { batches_in from to table.now.batches ≡ range_with_len 0 (length table.now.batches) }
+        requires each { batches_in from to table.now.batches
+            ≡ range_with_len 0 (length table.now.batches) }
         ensures placed { IsPlaced table.now result }
         ensures begins { Begins from to result }
     {
@@ -66,7 +67,7 @@ impl Cursor {
         Part { batch, from, to }
     }
 
-    // The same rows. The cursor goes on behind them.
+    // The same rows. The cursor goes on after them.
     pub(crate) fn open<'a>(&mut self, table: &'a OpenedTable) -> Part<'a>
         requires more { self.old.at < self.old.to }
         requires placed { IsPlaced table.now self.old }

@@ -4,7 +4,8 @@ ghost use Rattle.std.specs.Prelude.{◌≡◌, ◌≤◌, [], ◌++◌, IfOk, le
 ghost use Rattle.arrow_schema.specs.Answer.{copied_type};
 ghost use Rattle.join_batches.specs.Joiner.{joined_types};
 ghost use Rattle.scan_base.specs.Limits.{most_rows};
-ghost use Rattle.row_sources.specs.Joining.{CanJoin, JoinsRows, HasKeys, IsSides, all_joined, joiner_with};
+ghost use Rattle.row_sources.specs.Joining.{CanJoin, JoinsRows, HasKeys, IsSides, all_joined};
+ghost use Rattle.row_sources.specs.Joining.{joiner_with};
 ghost use Rattle.row_sources.specs.Sourced.{IsSourced, sourced_at};
 ghost use Rattle.row_sources.specs.Collected.{plain_rows};
 ghost use Rattle.row_sources.specs.Joined.{IsJoined};
@@ -40,7 +41,8 @@ pub(crate) fn join_source<W: Watches>(
     requires joinable { CanJoin on.now (sourced_at sides.left) (sourced_at sides.right) }
     requires ready { W.ready watch.old }
     ensures sourced { IfOk result IsSourced }
-    ensures joins { IfOk result (λ made. JoinsRows on.now (sourced_at sides.left) (sourced_at sides.right) (sourced_at made)) }
+    ensures joins { IfOk result (λ made. JoinsRows on.now (sourced_at sides.left)
+        (sourced_at sides.right) (sourced_at made)) }
     ensures ready { OnOk result (W.ready watch.new) }
     ensures watched { W.watched watch.old watch.new }
 {
@@ -102,7 +104,8 @@ fn joiner_of<W: Watches>(
     requires typed { seeded.sides.right.types.items ≡ (sourced_at right).types }
     requires keys { HasKeys seeded.sides }
     requires ready { W.ready watch.old }
-    ensures joiner { IfOk result (λ joiner. joiner ≡ joiner_with seeded.sides (plain_rows (sourced_at right).ahead)) }
+    ensures joiner { IfOk result
+        (λ joiner. joiner ≡ joiner_with seeded.sides (plain_rows (sourced_at right).ahead)) }
     ensures ready { OnOk result (W.ready watch.new) }
     ensures watched { W.watched watch.old watch.new }
 {

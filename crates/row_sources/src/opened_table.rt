@@ -84,7 +84,8 @@ impl OpenedTable {
     pub(crate) fn only(&self, alloc: Global, index: usize) -> Result<OpenedTable, AllocError>
         requires { index < length self.now.batches }
         ensures { IfOk result
-            (λ table. table ≡ record self.now { batches = option_to_list (slice_get self.now.batches index) }) }
+            (λ table. table
+            ≡ record self.now { batches = option_to_list (slice_get self.now.batches index) }) }
     {
         let number = self.numbers[index];
         let rows = self.table.batch(number).rows();
@@ -116,7 +117,8 @@ pub fn opened_tables(
     lists: Vec<OpenedList>,
 ) -> Result<Vec<OpenedTable>, AllocError>
     requires { CanAll tables.now lists.items }
-    ensures { IfOk result (λ opened. opened.items ≡ narrow_all (map (λ list. list.numbers.items) lists.items) tables.now) }
+    ensures { IfOk result (λ opened. opened.items
+        ≡ narrow_all (map (λ list. list.numbers.items) lists.items) tables.now) }
 {
     let mut opened = Vec::new(alloc);
     for list in lists {

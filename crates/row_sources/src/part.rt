@@ -9,6 +9,6 @@ pub struct Part<'a> {
     pub batch: &'a Batch,
     /// Its first row that is of the part.
     pub from: usize,
-    /// The first row behind the part.
+    /// The first row after the part.
     pub to: usize,
 }

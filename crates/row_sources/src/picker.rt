@@ -42,8 +42,9 @@ impl Drop for Picker {
 }
 
 impl Picker {
-    /// What is given of a part of a batch of the source, or nothing where that is no row: a slice where its rows stand next
-    /// to each other, else in buffers of their own. The selection's memory is used again.
+    /// What is given of a part of a batch of the source, or nothing where that is no row: a slice
+    /// where its rows stand next to each other, else in buffers of their own. The selection's
+    /// memory is used again.
     ///
     /// # Errors
     ///
@@ -67,8 +68,9 @@ impl Picker {
         self.give(alloc, part, selection)
     }
 
-    /// How many comparisons the filters make for each row at most, and one at least. Contracts say no more of it: it tells what a
-    /// row costs. Two texts that are compared may have 65,536 bytes each, and a batch of one row is asked each comparison apart.
+    /// How many comparisons the filters make for each row at most, and one at least. Contracts say
+    /// no more of it: it tells what a row costs. Two texts that are compared may have 65,536 bytes
+    /// each, and a batch of one row is asked each comparison apart.
     pub fn weight(&self) -> usize
         ensures { 1 ≤ result }
     {
@@ -79,8 +81,8 @@ impl Picker {
         comparisons.max(1)
     }
 
-    /// How many rows the filters look at at once: as many as take 4,194,304 comparisons, but 64 at least and 65,536 at most. Whether
-    /// the client is still there is seen between two such pieces.
+    /// How many rows the filters look at at once: as many as take 4,194,304 comparisons, but 64 at
+    /// least and 65,536 at most. Whether the client is still there is seen between two such pieces.
     pub fn most_rows(&self) -> usize
         ensures some { 1 ≤ result }
         ensures few { result ≤ most_batch_rows }
@@ -90,7 +92,8 @@ impl Picker {
             .min(MOST_BATCH_ROWS)
     }
 
-    /// The numbers in their batch of those rows of a part that the filters let through, in order, into an empty selection.
+    /// The numbers in their batch of those rows of a part that the filters let through, in order,
+    /// into an empty selection.
     ///
     /// # Errors
     ///
@@ -134,7 +137,8 @@ impl Picker {
         requires pick { IsPick (length part.now.batch.now.columns) (pick_of self.now) }
         requires some { part.now.from < part.now.to }
         requires within { part.now.to ≤ part.now.batch.now.rows }
-        requires selected { 0 < length self.now.filters.items → selection.now ≡ chosen_rows (pick_of self.now) part.now }
+        requires selected { 0 < length self.now.filters.items →
+            selection.now ≡ chosen_rows (pick_of self.now) part.now }
         ensures { Picks (pick_of self.now) part.now result }
     {
         if self.filters.is_empty() {
@@ -143,7 +147,8 @@ impl Picker {
         self.selected(alloc, part, selection)
     }
 
-    // The rows of a part that are selected: a slice where they stand next to each other, else in buffers of their own.
+    // The rows of a part that are selected: a slice where they stand next to each other, else in
+    // buffers of their own.
     fn selected(
         &self,
         alloc: Global,

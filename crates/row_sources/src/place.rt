@@ -35,7 +35,8 @@ impl Drop for PlaceRows {
 }
 
 impl PlaceRows {
-    // What is picked of the next piece of a batch of the table of which a row is, where the turn comes to it.
+    // What is picked of the next piece of a batch of the table of which a row is, where the turn
+    // comes to it.
     pub(crate) fn turn(
         &mut self,
         picker: &Picker,
@@ -49,8 +50,10 @@ impl PlaceRows {
         ensures choice { IsChoice self.new.table self.new.cursor (pick_of picker.now) choice.new }
         ensures table { self.new.table ≡ self.old.table }
         ensures endless { looking.old.patience ≡ Endless → looking.new.patience ≡ Endless }
-        ensures choice_kept { EndsAtChoice looking.new.patience → EndsAtChoice looking.old.patience }
-        ensures found { FindsTurn looking.old.patience (picked_of (pick_of picker.now) (place_at self.old)) result
+        ensures choice_kept { EndsAtChoice looking.new.patience →
+            EndsAtChoice looking.old.patience }
+        ensures found { FindsTurn looking.old.patience
+            (picked_of (pick_of picker.now) (place_at self.old)) result
             (picked_of (pick_of picker.now) (place_at self.new)) }
     {
         while self.cursor.at < self.cursor.to {
@@ -72,7 +75,8 @@ impl PlaceRows {
         Ok(Turn::End)
     }
 
-    // Chooses the rows of the next part, where they are not chosen yet. Without a filter nothing is to be chosen.
+    // Chooses the rows of the next part, where they are not chosen yet. Without a filter nothing is
+    // to be chosen.
     fn choose(&self, alloc: Global, picker: &Picker, choice: &mut Choice) -> Result<(), AllocError>
         requires more { self.now.cursor.at < self.now.cursor.to }
         requires placed { IsPlaced self.now.table self.now.cursor }
@@ -91,7 +95,8 @@ impl PlaceRows {
         Ok(())
     }
 
-    // The first row of the range in a batch, counted from the batch's first row. The range begins in the first batch.
+    // The first row of the range in a batch, counted from the batch's first row. The range begins
+    // in the first batch.
     fn begin_in(&self, number: usize) -> usize
         requires placed { IsPlaced self.now.table self.now.cursor }
         requires there { number < length self.now.table.batches }
@@ -100,7 +105,8 @@ impl PlaceRows {
         if number == 0 { self.cursor.from } else { 0 }
     }
 
-    // The first row behind those of the range in a batch, counted from the batch's first row. The range ends in the last batch.
+    // The first row after those of the range in a batch, counted from the batch's first row. The
+    // range ends in the last batch.
     fn end_in(&self, number: usize) -> usize
         requires placed { IsPlaced self.now.table self.now.cursor }
         requires there { number < length self.now.table.batches }
@@ -120,7 +126,8 @@ impl PlaceRows {
         requires unopened { (place_at self.now).opened ≡ [] }
         requires there { number < length (place_at self.now).batches }
         ensures placed { IfOk result (λ part. IsPlaced part.table part.cursor) }
-        ensures part { IfOk result (λ part. place_at part ≡ part_of number (place_at part).unseen (place_at self.now)) }
+        ensures part { IfOk result
+            (λ part. place_at part ≡ part_of number (place_at part).unseen (place_at self.now)) }
     {
         let (from, to) = (self.begin_in(number), self.end_in(number));
         let table = self.table.only(alloc, number)?;

@@ -45,12 +45,12 @@ pub struct Reading {
     pub seed: HashSeed,
     /// The first row that is read.
     pub from: usize,
-    /// The first row behind those that are read.
+    /// The first row after those that are read.
     pub to: usize,
 }
 
-/// What gives the rows of a plan's tree. A contract sees the rows that are to be given, and how many there are before the
-/// filters.
+/// What gives the rows of a plan's tree. A contract sees the rows that are to be given, and how
+/// many there are before the filters.
 pub struct RowSource {
     sourced: Sourced,
 }
@@ -73,7 +73,8 @@ impl Drop for RowSource {
     }
 }
 
-/// All rows of a source, in the columns that it gives, and what lets through those rows that it gives.
+/// All rows of a source, in the columns that it gives, and what lets through those rows that it
+/// gives.
 #[derive(Drop)]
 pub struct UnfilteredRows {
     /// All rows.
@@ -85,9 +86,10 @@ pub struct UnfilteredRows {
 }
 
 impl RowSource {
-    /// What gives the rows of a rewritten plan's tree over a range of its first place, which begins in the first batch that is read,
-    /// and of which each such batch has a row. The tables are those of its places, in order. The further places are read here. Who
-    /// watches may end it behind each batch of one that is read, and while its rows are hashed.
+    /// What gives the rows of a rewritten plan's tree over a range of its first place, which begins
+    /// in the first batch that is read, and of which each such batch has a row. The tables are
+    /// those of its places, in order. The further places are read here. Who watches may end it
+    /// after each batch of one that is read, and while its rows are hashed.
     ///
     /// # Errors
     ///
@@ -101,14 +103,17 @@ impl RowSource {
     ) -> Result<RowSource, AllocError>
         requires folded { is_folded_tree (tree_of plan.tree) ≡ true }
         requires below { is_pushed (tree_of plan.tree) ≡ true }
-        requires pruned { (schema : Schema) → IsPruned (record { tree = tree_of plan.tree; output = plan.output.now; schema = schema }) }
+        requires pruned { (schema : Schema) → IsPruned
+            (record { tree = tree_of plan.tree; output = plan.output.now; schema = schema }) }
         requires typed { IsTypedTree (tree_of plan.tree) }
-        requires schemas { tree_schemas (tree_of plan.tree) ≡ map (λ (table : TableAt). table.schema) tables.items }
+        requires schemas { tree_schemas (tree_of plan.tree)
+            ≡ map (λ (table : TableAt). table.schema) tables.items }
         requires first { BeginsInFirst reading.from (first_batches tables.items) }
         requires each { batches_in reading.from reading.to (first_batches tables.items)
             ≡ range_with_len 0 (length (first_batches tables.items)) }
         requires ready { W.ready watch.old }
-        ensures begun { IfOk result (λ source. IsBegun (tree_of plan.entry.tree) tables.items reading.from reading.to source.rows) }
+        ensures begun { IfOk result (λ source. IsBegun (tree_of plan.entry.tree) tables.items
+            reading.from reading.to source.rows) }
         ensures few { IfOk result (λ source. is_place (tree_of plan.entry.tree) ≡ true →
             source.count ≤ length (flat_map rows_of (first_batches tables.items))) }
         ensures ready { OnOk result (W.ready watch.new) }

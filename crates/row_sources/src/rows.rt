@@ -4,7 +4,8 @@ ghost use Rattle.std.specs.Prelude.{◌≡◌, ◌≤◌, ◌<◌, [], IfOk, len
 ghost use Rattle.std.specs.Arc.{arc_value};
 ghost use Rattle.array_select.specs.Room.{most_batch_rows};
 ghost use Rattle.join_batches.specs.Joiner.{joined_types};
-ghost use Rattle.row_sources.specs.Joined.{FeedsNext, IsJoined, IsSource, TakesLeft, joined_at, source_at};
+ghost use Rattle.row_sources.specs.Joined.{FeedsNext, IsJoined, IsSource, TakesLeft, joined_at};
+ghost use Rattle.row_sources.specs.Joined.{source_at};
 ghost use Rattle.row_sources.specs.Parting.{ComeInOrder, part_of};
 ghost use Rattle.row_sources.specs.Picking.{IsPick, PickAt, pick_of};
 ghost use Rattle.row_sources.specs.Running.{EndsAtChoice, FindsTurn, picked_of};
@@ -22,9 +23,9 @@ use std::alloc::{AllocError, Global};
 use std::marker::Model;
 use std::sync::Arc;
 
-/// Rows that are still to be given, piece by piece: those of a place, or joined ones. A contract sees the types of their
-/// columns, the rows, each with the number of the batch of the first place of which it comes, and which batches of that place
-/// are to be opened and were.
+/// Rows that are still to be given, piece by piece: those of a place, or joined ones. A contract
+/// sees the types of their columns, the rows, each with the number of the batch of the first place
+/// of which it comes, and which batches of that place are to be opened and were.
 #[cycle(rows)]
 #[derive(Drop)]
 pub struct Rows {
@@ -42,8 +43,8 @@ pub(crate) enum Source {
     Joined(Box<Rows>, Joining),
 }
 
-// The right side of a join with the left batch that it joins, and the number of the batch of the first place of which the
-// left batch comes.
+// The right side of a join with the left batch that it joins, and the number of the batch of the
+// first place of which the left batch comes.
 #[derive(Drop)]
 pub(crate) struct Joining {
     pub(crate) joiner: Joiner,
@@ -63,7 +64,8 @@ impl Model for Rows {
 
     ghost view = { λ r. picked_of (pick_of (arc_value r.picker)) (source_at r.source) };
 
-    ghost invariant = { λ r. IsSource r.source × IsPick (length (source_at r.source).types) (pick_of (arc_value r.picker))
+    ghost invariant = { λ r. IsSource r.source
+        × IsPick (length (source_at r.source).types) (pick_of (arc_value r.picker))
         × IsChoiceOf r.source (pick_of (arc_value r.picker)) r.choice };
 
     ghost size = { λ r. r.depth };
@@ -74,9 +76,10 @@ impl Model for Rows {
 }
 
 impl Rows {
-    /// The next rows, one or more, of one batch of the first place: at most 65,536. `Turn::Working` where none is given of so
-    /// many that were looked at: joined ones, and those of each place. Then the next turn goes on behind them. With
-    /// `Patience::Choice` it is so too once the next rows are chosen: the next turn gives them.
+    /// The next rows, one or more, of one batch of the first place: at most 65,536. `Turn::Working`
+    /// where none is given of so many that were looked at: joined ones, and those of each place.
+    /// Then the next turn goes on after them. With `Patience::Choice` it is so too once the next
+    /// rows are chosen: the next turn gives them.
     ///
     /// # Errors
     ///
@@ -103,7 +106,8 @@ impl Rows {
 }
 
 impl Source {
-    // From now on no more than so many of its rows are looked at at once. The same rows are to come.
+    // From now on no more than so many of its rows are looked at at once. The same rows are to
+    // come.
     fn bound_rows(&mut self, most: usize)
         requires some { 1 ≤ most }
         requires few { most ≤ most_batch_rows }
@@ -145,8 +149,8 @@ impl Rows {
         }
     }
 
-    /// The rows of one batch of the first place, counted from 0 among those that are read, of rows of which no batch was
-    /// opened. Tables, filters and the right sides of joins are shared.
+    /// The rows of one batch of the first place, counted from 0 among those that are read, of rows
+    /// of which no batch was opened. Tables, filters and the right sides of joins are shared.
     ///
     /// # Errors
     ///
@@ -188,8 +192,10 @@ impl Joining {
         ensures depth { left.new.depth ≡ left.old.depth }
         ensures endless { looking.old.patience ≡ Endless → looking.new.patience ≡ Endless }
         ensures choice { EndsAtChoice looking.new.patience → EndsAtChoice looking.old.patience }
-        ensures found { FindsTurn looking.old.patience (picked_of (pick_of picker.now) (joined_at left.old self.old.joiner self.old.number))
-            result (picked_of (pick_of picker.now) (joined_at left.new self.new.joiner self.new.number)) }
+        ensures found { FindsTurn looking.old.patience
+            (picked_of (pick_of picker.now) (joined_at left.old self.old.joiner self.old.number))
+            result
+            (picked_of (pick_of picker.now) (joined_at left.new self.new.joiner self.new.number)) }
     {
         loop {
             if let Some(batch) = self.joiner.next(looking.alloc)? {
@@ -217,7 +223,8 @@ impl Joining {
         }
     }
 
-    // The same where there is no filter: of the joined rows only the columns that are shown are made.
+    // The same where there is no filter: of the joined rows only the columns that are shown are
+    // made.
     #[cycle(turn)]
     fn turn_shown(
         &mut self,
@@ -233,7 +240,8 @@ impl Joining {
         ensures depth { left.new.depth ≡ left.old.depth }
         ensures endless { looking.old.patience ≡ Endless → looking.new.patience ≡ Endless }
         ensures choice { EndsAtChoice looking.new.patience → EndsAtChoice looking.old.patience }
-        ensures found { FindsTurn looking.old.patience (picked_of (pick_of picker.now) (joined_at left.old self.old.joiner self.old.number)) result
+        ensures found { FindsTurn looking.old.patience (picked_of (pick_of picker.now)
+            (joined_at left.old self.old.joiner self.old.number)) result
             (picked_of (pick_of picker.now) (joined_at left.new self.new.joiner self.new.number)) }
     {
         let shown = picker.shown.as_slice();
@@ -251,7 +259,8 @@ impl Joining {
         }
     }
 
-    // Finds the next pairs of rows that join, of one further left batch at most. Their rows are not given yet.
+    // Finds the next pairs of rows that join, of one further left batch at most. Their rows are not
+    // given yet.
     #[cycle(turn)]
     fn choose(&mut self, left: &mut Rows, looking: &Looking) -> Result<Turn<Piece>, AllocError>
         requires joined { IsJoined left.old self.old.joiner self.old.number }
@@ -259,7 +268,8 @@ impl Joining {
         ensures joined { IsJoined left.new self.new.joiner self.new.number }
         ensures types { joined_types self.new.joiner ≡ joined_types self.old.joiner }
         ensures depth { left.new.depth ≡ left.old.depth }
-        ensures found { (pick : PickAt) → FindsTurn looking.now.patience (picked_of pick (joined_at left.old self.old.joiner self.old.number))
+        ensures found { (pick : PickAt) → FindsTurn looking.now.patience
+            (picked_of pick (joined_at left.old self.old.joiner self.old.number))
             result (picked_of pick (joined_at left.new self.new.joiner self.new.number)) }
     {
         let alloc = looking.alloc;
@@ -285,7 +295,8 @@ impl Joining {
         ensures depth { left.new.depth ≡ left.old.depth }
         ensures endless { looking.old.patience ≡ Endless → looking.new.patience ≡ Endless }
         ensures choice { EndsAtChoice looking.new.patience → EndsAtChoice looking.old.patience }
-        ensures feeds { FeedsNext looking.old.patience (joined_at left.old self.old.joiner self.old.number) result
+        ensures feeds { FeedsNext looking.old.patience
+            (joined_at left.old self.old.joiner self.old.number) result
             (joined_at left.new self.new.joiner self.new.number) }
         ensures fewer { TakesLeft result (length left.old.ahead) (length left.new.ahead) }
     {

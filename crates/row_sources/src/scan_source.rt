@@ -33,11 +33,14 @@ pub(crate) fn scan_source(
 ) -> Result<Sourced, AllocError>
     requires there { IsTrue (has_columns (length table.schema.fields) columns.now) }
     requires first { BeginsInFirst reading.from table.batches }
-    requires each { batches_in reading.from reading.to table.batches ≡ range_with_len 0 (length table.batches) }
+    requires each { batches_in reading.from reading.to table.batches
+        ≡ range_with_len 0 (length table.batches) }
     ensures sourced { IfOk result IsSourced }
     ensures begun { IfOk result (λ made. (name : Name) →
-        IsBegun (scan name table.schema columns.now) (table ∷ []) reading.from reading.to (sourced_at made)) }
-    ensures few { IfOk result (λ made. length (source_at made.source).ahead ≤ length (flat_map rows_of table.batches)) }
+        IsBegun (scan name table.schema columns.now) (table ∷ []) reading.from reading.to
+        (sourced_at made)) }
+    ensures few { IfOk result
+        (λ made. length (source_at made.source).ahead ≤ length (flat_map rows_of table.batches)) }
 {
     let fields = table.schema().fields.as_slice();
     let numbers = numbers_below(alloc, fields.len())?;

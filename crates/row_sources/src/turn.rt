@@ -9,7 +9,8 @@ use std::alloc::Global;
 // How many rows a turn of watched work looks at.
 const WATCHED_ROWS: usize = 1_048_576;
 
-// As how many rows those count at least that are looked at together: to begin with a batch costs something too.
+// As how many rows those count at least that are looked at together: to begin with a batch costs
+// something too.
 const LEAST_ROWS: usize = 64;
 
 /// What a turn gives.
@@ -28,8 +29,8 @@ pub enum Turn<T> {
 pub enum Patience {
     /// As many as it takes to the next one that is given, or to the end.
     Endless,
-    /// So many, and behind them those of the batch in hand. A row counts as often as filters compare in it, and rows that are looked
-    /// at together count as 64 at least.
+    /// So many, and after them those of the batch in hand. A row counts as often as filters compare
+    /// in it, and rows that are looked at together count as 64 at least.
     Rows(usize),
     /// Until the next rows are chosen. None of them is given yet: they are those of the next turn.
     Choice,
@@ -45,7 +46,8 @@ pub struct Looking {
 }
 
 impl Looking {
-    // So many rows are looked at together. One counts as often as the filters of a picker compare in it, and fewer than 64 as 64.
+    // So many rows are looked at together. One counts as often as the filters of a picker compare
+    // in it, and fewer than 64 as 64.
     pub(crate) fn spend(&mut self, rows: usize, picker: &Picker)
         ensures endless { self.old.patience ≡ Endless → self.new.patience ≡ Endless }
         ensures choice { self.new.patience ≡ Choice → self.old.patience ≡ Choice }

@@ -31,7 +31,7 @@ unfinished_no_message message rest is e =
     let four : 4 ≡ length ((message.header ++ message.body) ++ rest) = ap length said.1 in
     omega (arith, eight, four, length-append (message.header ++ message.body) rest, length-append message.header message.body)
 
--- behind whole messages the start of one more is no stream
+-- after whole messages the start of one more is no stream
 pub unfinished_refused : (messages : List IpcMessage) → All IsMessage messages → ¬ IsStream (flat_map frame messages ++ unfinished)
 unfinished_refused messages each =
     reached_stuck (flat_map frame messages ++ unfinished) messages unfinished (record { whole = refl; each = each }) (record { no_end = unfinished_no_end; no_message = unfinished_no_message })

@@ -40,7 +40,7 @@ parts_join a b c xs low high =
     sym (ap (λ n. take n (drop a xs)) (sym long) ∙ take-add (b - a) (c - b) (drop a xs)
     ∙ ap (λ rest. take (b - a) (drop a xs) ++ take (c - b) rest) (drop_more a (b - a) xs ∙ ap (λ n. drop n xs) there))
 
--- rows of a batch, and those behind them
+-- rows of a batch, and those after them
 cuts_join : (batch : BatchAt) (from at to : ℕ) → from ≤ at → at ≤ to → to ≤ batch.rows
     → rows_of (cut_batch batch from at) ++ rows_of (cut_batch batch at to) ≡ rows_of (cut_batch batch from to)
 cuts_join batch from at to low high within =
@@ -89,7 +89,7 @@ sent_cut schema batch at most cut a b c before mid after is sent more rows start
     subst (λ (r : Rows). SoFar schema r start c after) join
     (went_on schema some part start b c mid after (sent rows start so) cut.parcel is.says more)
 
--- what is left behind the rows up to one
+-- what is left after the rows up to one
 left_behind : (batch : BatchAt) (at : ℕ) (rows : Rows) → at ≤ batch.rows → rows ++ rows_of batch ≡ (rows ++ rows_of (cut_batch batch 0 at)) ++ rows_of (cut_batch batch at batch.rows)
 left_behind batch at rows within =
     sym (append_assoc rows (rows_of (cut_batch batch 0 at)) (rows_of (cut_batch batch at batch.rows))

@@ -1,4 +1,4 @@
--- Batches behind the dictionaries of their texts, as messages of a stream.
+-- Batches after the dictionaries of their texts, as messages of a stream.
 use Rattle.std.proofs.Common.{◌≡◌, ◌≤◌, ◌<◌, ◌^◌, inl, inr, ℕ, ◌+◌, List, [], ◌∷◌, ◌++◌, length, map, Option, Some, None, Result, Ok, Err, IfOk, IfSome, refl, sym, ap, subst, ◌∙◌, append-nil, arith}
 use Rattle.std.specs.Prelude.{All}
 use Rattle.std.specs.List.{flat_map, AllZip}
@@ -97,7 +97,7 @@ say_dressed schema batch made room messages low is behind =
           (All-append (HasBodyWithin room) dictionaries (last ∷ []) within (All-cons (HasBodyWithin room) last [] (omega (arith, behind.short)) (All-nil (HasBodyWithin room))));
     }
 
--- how long the bodies are of dictionaries and of the batch behind them
+-- how long the bodies are of dictionaries and of the batch after them
 pub short_behind : (messages : List WrittenMessage) (last : IpcMessage) (room left : ℕ) → bodies_length (map written_seen messages) + left ≡ room → length last.body ≤ left
     → bodies_length (map sent_in (map as_message messages)) + length last.body ≤ room
 short_behind messages last room left sum short = omega (arith, ap bodies_length (seen_again messages), sum, short)
@@ -160,7 +160,7 @@ say_row schema batch room messages one say =
           (All-cons (HasShortBody schema) say.last [] (inr (inr (record { row = row; adds = adds }))) (All-nil (HasShortBody schema))));
     }
 
--- ---- one behind another
+-- ---- one after another
 
 -- the messages of a batch are dressed
 pub batch_dressed : (schema : Schema) (batch : BatchAt) (messages : List IpcMessage) → SayBatch (HasShortBody schema) schema batch messages → AreDressed schema (map sent_in messages) (rows_of batch)
@@ -175,7 +175,7 @@ batch_dressed schema batch messages say =
       whole = sym (append-nil (rows_of batch));
     }
 
--- and behind others that are
+-- and after others that are
 dressed_more : (schema : Schema) (front more : List Sent) (rows new : Rows) → AreDressed schema front rows → AreDressed schema more new → AreDressed schema (front ++ more) (rows ++ new)
 dressed_more schema front more rows new one other =
     let messages : Dressing → List Sent = λ d. d.dictionaries ++ d.batch ∷ [] in
@@ -196,6 +196,6 @@ pub stands_behind : (schema : Schema) (front more : List IpcMessage) (rows new :
 stands_behind schema front more rows new one other =
     subst (λ (l : List Sent). AreDressedBehind schema l (rows ++ new)) (sym (map-append sent_in front more)) (behind_more schema (map sent_in front) (map sent_in more) rows new one other)
 
--- none is behind the schema alone
+-- none is after the schema alone
 pub none_behind : (schema : Schema) (first : IpcMessage) → AreDressedBehind schema (map sent_in (first ∷ [])) []
 none_behind schema first = record { dressings = []; are = refl; all = All-nil (IsDressed schema); whole = refl }

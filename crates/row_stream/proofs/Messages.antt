@@ -84,7 +84,7 @@ first_said message schema tells =
     let news : News = record { state = Some known; batch = None } in
     (known, refl, (news, [], tells.said, refl, (refl, refl)))
 
--- a batch more says its rows behind the others
+-- a batch more says its rows after the others
 pub more_said : (front more : List IpcMessage) (schema : Schema) (rows new : Rows) → AreDressed schema (map sent_in more) new → Says (map sent_in front) schema rows → Says (map sent_in (front ++ more)) schema (rows ++ new)
 more_said front more schema rows new dressed said =
     let known = said.0 in

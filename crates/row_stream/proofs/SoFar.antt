@@ -58,7 +58,7 @@ say_so_far schema rows a b waiting so = record { each = so.each; said = so.said;
 so_far : (messages : List IpcMessage) (schema : Schema) (rows : Rows) (a b : Option (List ℕ)) (waiting : List ℕ) → Say messages schema rows → Sent a b [] waiting (flat_map frame messages) → SoFar schema rows a b waiting
 so_far messages schema rows a b waiting say sent = record { messages = messages; each = say.each; said = say.said; dressed = say.dressed; short = say.short; sent = sent }
 
--- with no more behind them they are a stream
+-- with no more after them they are a stream
 messages_alone : (messages : List IpcMessage) (schema : Schema) (rows : Rows) → Say messages schema rows → StreamSays (flat_map frame messages) [] schema rows
 messages_alone messages schema rows say = record {
   messages = messages;
@@ -68,7 +68,7 @@ messages_alone messages schema rows say = record {
   short = say.short;
 }
 
--- ---- what waited was written, and bytes behind it
+-- ---- what waited was written, and bytes after it
 
 written_behind : (a b c : Option (List ℕ)) (mid bytes part : List ℕ) → Sent a b [] mid bytes → Appends b c (mid ++ part) → Appends a c (bytes ++ part)
 written_behind a b c mid bytes part sent wrote =
@@ -78,7 +78,7 @@ begun_behind : (a b c : Option (List ℕ)) (mid bytes part : List ℕ) → Sent 
 begun_behind a b c mid bytes part sent wrote =
     subst (AppendsBeginning a c) (sym (append_assoc sent.written mid part) ∙ ap (λ (l : List ℕ). l ++ part) sent.whole) (beginning_of_content a b c sent.written (mid ++ part) sent.wrote wrote)
 
--- what was gathered was written with bytes that were gathered behind it
+-- what was gathered was written with bytes that were gathered after it
 pub flushed_behind : {A E : Type 0} (r : Result A E) (a b c : Option (List ℕ)) (before mid part : List ℕ) → Sent a b before mid part → Writes r b c mid → Writes r a c (before ++ part)
 flushed_behind (Ok x) a b c before mid part sent wrote = subst (Appends a c) sent.whole (Appends-trans a b c sent.written mid sent.wrote wrote)
 flushed_behind (Err e) a b c before mid part sent wrote = subst (AppendsBeginning a c) sent.whole (beginning_of_content a b c sent.written mid sent.wrote wrote)

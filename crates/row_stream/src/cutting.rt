@@ -29,8 +29,8 @@ pub(crate) struct Cut {
 ///
 /// # Errors
 ///
-/// `Fault::OutOfMemory` where memory is refused, and `Fault::LimitReached` where the bodies of one row have 2 to the 31 bytes or
-/// more.
+/// `Fault::OutOfMemory` where memory is refused, and `Fault::LimitReached` where the bodies of one
+/// row have 2 to the 31 bytes or more.
 pub(crate) fn some_cut(
     dresser: &Dresser,
     batch: &Batch,
@@ -41,7 +41,8 @@ pub(crate) fn some_cut(
     requires more { at < batch.now.rows }
     requires some { 0 < most }
     requires few { most ≤ 65536 }
-    ensures { MatchResult result (IsCut dresser.now batch.now at most) (IsUncut dresser.now batch.now) }
+    ensures { MatchResult result (IsCut dresser.now batch.now at most)
+        (IsUncut dresser.now batch.now) }
 {
     match next_cut(dresser, batch, at, most)? {
         Some(cut) => Ok(cut),
@@ -49,9 +50,9 @@ pub(crate) fn some_cut(
     }
 }
 
-// The messages of the rows of a batch from `at` on: of as many as a message may have, or of all that are left. Where their
-// bodies would have too many bytes, they are of half as many rows, down to one. Nothing where those of one row have 2 to the 31
-// bytes or more.
+// The messages of the rows of a batch from `at` on: of as many as a message may have, or of all
+// that are left. Where their bodies would have too many bytes, they are of half as many rows, down
+// to one. Nothing where those of one row have 2 to the 31 bytes or more.
 fn next_cut(
     dresser: &Dresser,
     batch: &Batch,

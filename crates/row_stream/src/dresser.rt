@@ -10,8 +10,9 @@ use scan_base::Items;
 use std::alloc::{AllocError, Global};
 use std::marker::Model;
 
-/// What batches are dressed by: whence memory is taken, what the hashes of texts begin with, and the schema of the stream, in
-/// which the id of each dictionary is the number of its column. A contract sees the schema.
+/// What batches are dressed by: whence memory is taken, what the hashes of texts begin with, and
+/// the schema of the stream, in which the id of each dictionary is the number of its column. A
+/// contract sees the schema.
 #[derive(Drop)]
 pub(crate) struct Dresser {
     pub alloc: Global,
@@ -46,7 +47,8 @@ impl Dresser {
     }
 }
 
-// The same columns, where the id of each dictionary is the number of its column, and its indices have 32 bits.
+// The same columns, where the id of each dictionary is the number of its column, and its indices
+// have 32 bits.
 fn number(alloc: Global, schema: &Schema) -> Result<Schema, AllocError>
     ensures { IfOk result (λ made. made ≡ numbered_schema schema.now) }
 {

@@ -1,6 +1,7 @@
 //! Rows as an Arrow IPC stream.
 //!
-//! `specs/Stream.antt` says what a written stream is, and `specs/Writing.antt` how it is written, batch by batch.
+//! `specs/Stream.antt` says what a written stream is, and `specs/Writing.antt` how it is written,
+//! batch by batch.
 #![tactic(auto)]
 
 mod cutting;

@@ -1,6 +1,7 @@
 //! Messages of a stream, ready to be sent.
 
-ghost use Rattle.std.specs.Prelude.{◌≡◌, ◌↔◌, ◌≤◌, ◌<◌, ◌^◌, ◌+◌, length, map, IfNone, IfOk, IfSome, IsSome, MatchOption};
+ghost use Rattle.std.specs.Prelude.{◌≡◌, ◌↔◌, ◌≤◌, ◌<◌, ◌^◌, ◌+◌, length, map, IfNone, IfOk};
+ghost use Rattle.std.specs.Prelude.{IfSome, IsSome, MatchOption};
 ghost use Rattle.arrow_schema.specs.Schema.{IsSchema};
 ghost use Rattle.scan_base.specs.Limits.{most_columns, most_values};
 ghost use Rattle.arrays.specs.Typed.{AreOfTypes};
@@ -21,7 +22,8 @@ use ipc_batch::{SizedBatch, WrittenMessage};
 use std::alloc::{AllocError, Global};
 use std::marker::Model;
 
-/// A message of a stream: its header, and the buffers of its body, of which no copy is made. A contract sees the message.
+/// A message of a stream: its header, and the buffers of its body, of which no copy is made. A
+/// contract sees the message.
 #[derive(Drop)]
 pub(crate) struct Ready {
     pub header: Vec<u8>,
@@ -34,10 +36,12 @@ impl Model for Ready {
 
     ghost Value = { IpcMessage };
 
-    ghost view = { λ ready. record { header = ready.header.items; body = body_of ready.buffers.items } };
+    ghost view = { λ ready.
+        record { header = ready.header.items; body = body_of ready.buffers.items } };
 }
 
-/// The messages of a batch: its dictionaries, and behind them its rows. A contract sees the messages.
+/// The messages of a batch: its dictionaries, and after them its rows. A contract sees the
+/// messages.
 #[derive(Drop)]
 pub(crate) struct Parcel {
     pub dictionaries: Vec<WrittenMessage>,
@@ -72,7 +76,8 @@ fn rows_message(alloc: Global, batch: &Batch, room: usize) -> Result<Option<Read
     requires room { room < 2 ^ 31 }
     ensures found { IfOk result (λ found. IsSome found ↔ (body_length batch.now ≤ room)) }
     ensures fits { IfOk result (λ found. IfSome found IsMessage) }
-    ensures says { IfOk result (λ found. IfSome found (λ message. SaysBatch (sent_in message) batch.now)) }
+    ensures says { IfOk result
+        (λ found. IfSome found (λ message. SaysBatch (sent_in message) batch.now)) }
     ensures short { IfOk result (λ found. IfSome found (λ message. length message.body ≤ room)) }
 {
     match SizedBatch::new(alloc, batch)? {
@@ -84,8 +89,8 @@ fn rows_message(alloc: Global, batch: &Batch, room: usize) -> Result<Option<Read
     }
 }
 
-// How many bytes a body may have beside those of these messages, where all together have room for so many: `None` where they
-// have more.
+// How many bytes a body may have next to those of these messages, where all together have room for
+// so many: `None` where they have more.
 fn room_beside(messages: &[WrittenMessage], room: usize) -> Option<usize>
     ensures { MatchOption result (room < bodies_length (map written_seen messages.now))
         (λ left. bodies_length (map written_seen messages.now) + left ≡ room) }
@@ -101,7 +106,8 @@ fn room_beside(messages: &[WrittenMessage], room: usize) -> Option<usize>
     Some(left)
 }
 
-// The messages of a batch and of its dictionaries, or nothing where their bodies would have more bytes than there is room for.
+// The messages of a batch and of its dictionaries, or nothing where their bodies would have more
+// bytes than there is room for.
 fn dressed_parcel(
     alloc: Global,
     dressed: DressedBatch,
@@ -112,7 +118,8 @@ fn dressed_parcel(
     ensures behind { IfOk result (λ found. IfSome found
         (AreBehind (map as_message dressed.dictionaries.items) dressed.batch room)) }
     ensures full { IfOk result (λ found. IfNone found
-        (room < bodies_length (map written_seen dressed.dictionaries.items) + body_length dressed.batch)) }
+        (room < bodies_length (map written_seen dressed.dictionaries.items)
+        + body_length dressed.batch)) }
 {
     let DressedBatch {
         dictionaries,
@@ -127,8 +134,9 @@ fn dressed_parcel(
     }
 }
 
-/// The messages of a batch: one for each column that is a dictionary, of the texts that the batch holds, and behind them that of
-/// its rows. Nothing where their bodies together would have more bytes than there is room for.
+/// The messages of a batch: one for each column that is a dictionary, of the texts that the batch
+/// holds, and after them that of its rows. Nothing where their bodies together would have more
+/// bytes than there is room for.
 pub(crate) fn batch_parcel(
     dresser: &Dresser,
     batch: &Batch,
@@ -137,8 +145,10 @@ pub(crate) fn batch_parcel(
     requires rows { batch.now.rows ≤ most_values }
     requires room { room < 2 ^ 31 }
     requires typed { AreOfTypes dresser.now.fields batch.now.columns }
-    ensures says { IfOk result (λ found. IfSome found (SayBatch (HasBodyWithin room) dresser.now batch.now)) }
-    ensures full { IfOk result (λ found. IfNone found (room < dressed_length dresser.now.fields batch.now.columns)) }
+    ensures says { IfOk result
+        (λ found. IfSome found (SayBatch (HasBodyWithin room) dresser.now batch.now)) }
+    ensures full { IfOk result
+        (λ found. IfNone found (room < dressed_length dresser.now.fields batch.now.columns)) }
 {
     match dress(dresser.alloc, dresser.seed, &dresser.schema, batch, room)? {
         Some(dressed) => dressed_parcel(dresser.alloc, dressed, room),

@@ -38,7 +38,7 @@ fn send_announcement<W: Output>(writer: &mut W, outbox: &mut Outbox, len: u32) -
     outbox.send_parts(writer, &[0xff; 4], &len.to_le_bytes())
 }
 
-// Sends a buffer, and zeros behind it up to a multiple of 8.
+// Sends a buffer, and zeros after it up to a multiple of 8.
 fn send_buffer<W: Output>(writer: &mut W, outbox: &mut Outbox, buffer: &Bytes) -> Result<(), Fault>
     requires { CanFail (W.failures writer.old) }
     ensures bytes { Sends result (W.contents writer.old) (W.contents writer.new)
@@ -128,7 +128,7 @@ fn send_parcel<W: Output>(writer: &mut W, outbox: &mut Outbox, parcel: &Parcel) 
     send_frame(writer, outbox, &parcel.rows)
 }
 
-/// Writes what waits, and these bytes behind it.
+/// Writes what waits, and these bytes after it.
 ///
 /// # Errors
 ///
@@ -139,7 +139,8 @@ pub(crate) fn write_last<W: Output>(
     part: &[u8],
 ) -> Result<(), Fault>
     requires { CanFail (W.failures writer.old) }
-    ensures bytes { Writes result (W.contents writer.old) (W.contents writer.new) (outbox.old ++ part.now) }
+    ensures bytes { Writes result (W.contents writer.old) (W.contents writer.new)
+        (outbox.old ++ part.now) }
     ensures counted { CountsFailure result (W.failures writer.old) (W.failures writer.new) }
     ensures fault { FailsByTransport result }
 {
@@ -147,16 +148,17 @@ pub(crate) fn write_last<W: Output>(
     outbox.flush(writer)
 }
 
-/// Breaks a stream off: writes what waits, and the start of a message that never ends. A write that failed is counted.
+/// Breaks a stream off: writes what waits, and the start of a message that never ends. A write that
+/// failed is counted.
 pub(crate) fn break_off<W: Output>(writer: &mut W, outbox: &mut Outbox)
     requires { CanFail (W.failures writer.old) }
-    ensures { WritesCounted (W.contents writer.old) (W.contents writer.new) (outbox.old ++ unfinished)
-        (W.failures writer.old) (W.failures writer.new) }
+    ensures { WritesCounted (W.contents writer.old) (W.contents writer.new)
+        (outbox.old ++ unfinished) (W.failures writer.old) (W.failures writer.new) }
 {
     let _written = write_last(writer, outbox, &UNFINISHED);
 }
 
-/// Writes a message in its frame, behind what waits.
+/// Writes a message in its frame, after what waits.
 ///
 /// # Errors
 ///
@@ -168,7 +170,8 @@ pub(crate) fn write_frame<W: Output>(
 ) -> Result<(), Fault>
     requires failures { CanFail (W.failures writer.old) }
     requires fits { length message.now.header < 2 ^ 31 }
-    ensures bytes { Writes result (W.contents writer.old) (W.contents writer.new) (outbox.old ++ frame message.now) }
+    ensures bytes { Writes result (W.contents writer.old) (W.contents writer.new)
+        (outbox.old ++ frame message.now) }
     ensures empty { outbox.new ≡ [] }
     ensures counted { CountsFailure result (W.failures writer.old) (W.failures writer.new) }
     ensures fault { FailsByTransport result }
@@ -177,13 +180,15 @@ pub(crate) fn write_frame<W: Output>(
     outbox.flush(writer)
 }
 
-/// Sends the messages of a batch, cut by cut: each cut has as many of the next rows as it may, behind the dictionaries of their
-/// texts. Bodies that together have more than 8,388,608 bytes are those of one row.
+/// Sends the messages of a batch, cut by cut: each cut has as many of the next rows as it may,
+/// after the dictionaries of their texts. Bodies that together have more than 8,388,608 bytes are
+/// those of one row.
 ///
 /// # Errors
 ///
-/// `Fault::Transport` where a write failed. It is counted. At these the stream breaks off: `Fault::OutOfMemory` where memory is
-/// refused, and `Fault::LimitReached` where the bodies of one row would have 2 to the 31 bytes or more.
+/// `Fault::Transport` where a write failed. It is counted. At these the stream breaks off:
+/// `Fault::OutOfMemory` where memory is refused, and `Fault::LimitReached` where the bodies of one
+/// row would have 2 to the 31 bytes or more.
 pub(crate) fn send_batch<W: Output>(
     dresser: &Dresser,
     writer: &mut W,
@@ -192,7 +197,8 @@ pub(crate) fn send_batch<W: Output>(
 ) -> Result<(), Fault>
     requires failures { CanFail (W.failures writer.old) }
     requires typed { AreOfTypes dresser.now.fields batch.now.columns }
-    ensures bytes { SendsBatch result dresser.now batch.now (W.contents writer.old) (W.contents writer.new)
+    ensures bytes { SendsBatch result dresser.now batch.now (W.contents writer.old)
+        (W.contents writer.new)
         outbox.old outbox.new (W.failures writer.old) (W.failures writer.new) }
     ensures counted { CountsWrites result (W.failures writer.old) (W.failures writer.new) }
     ensures cause { MatchResult result (λ _. Unit {0}) (IsCause dresser.now (batch.now ∷ [])) }

@@ -6,7 +6,8 @@ ghost use Rattle.arrow_schema.specs.Schema.{IsSchema};
 ghost use Rattle.arrays.specs.Typed.{AreOfTypes};
 ghost use Rattle.ipc_batch.specs.Said.{Rows};
 ghost use Rattle.grpc_frame.specs.Ends.{CanFail, FailsByTransport};
-ghost use Rattle.row_stream.specs.Stream.{numbered_schema, BreaksOff, CountsTransport, CountsWrites, IsCause, WritesStream};
+ghost use Rattle.row_stream.specs.Stream.{numbered_schema, BreaksOff, CountsTransport};
+ghost use Rattle.row_stream.specs.Stream.{CountsWrites, IsCause, WritesStream};
 ghost use Rattle.row_stream.specs.Writing.{Begins, SendsBatch, SoFar};
 
 use crate::dresser::Dresser;
@@ -23,11 +24,11 @@ use std::marker::Model;
 // A header of no byte is announced.
 const END_MARKER: [u8; 8] = [0xff, 0xff, 0xff, 0xff, 0, 0, 0, 0];
 
-/// An Arrow IPC stream while it is written: up to 16,384 bytes wait for the next write. A contract sees those bytes, and the
-/// schema that was written.
+/// An Arrow IPC stream while it is written: up to 16,384 bytes wait for the next write. A contract
+/// sees those bytes, and the schema that was written.
 ///
-/// Longer buffers are written as they lie. Other values are copied only where they do not lie as they are written, and so are
-/// the texts of dictionaries.
+/// Longer buffers are written as they lie. Other values are copied only where they do not lie as
+/// they are written, and so are the texts of dictionaries.
 #[derive(Drop)]
 pub struct StreamWriter {
     dresser: Dresser,
@@ -43,12 +44,14 @@ impl Model for StreamWriter {
 }
 
 impl StreamWriter {
-    /// Begins a stream: writes the schema of these columns. Each dictionary gets the number of its column as its id, and indices
-    /// of 32 bits. With the seed the hashes begin by which texts are looked up.
+    /// Begins a stream: writes the schema of these columns. Each dictionary gets the number of its
+    /// column as its id, and indices of 32 bits. With the seed the hashes begin by which texts are
+    /// looked up.
     ///
     /// # Errors
     ///
-    /// - `Fault::Transport` (F22) where a write failed. It is counted, and a beginning of the stream is written.
+    /// - `Fault::Transport` (F22) where a write failed. It is counted, and a beginning of the
+    ///   stream is written.
     /// - `Fault::OutOfMemory` (F21) where memory is refused. Nothing is written then.
     pub fn begin<W: Output>(
         alloc: Global,
@@ -61,7 +64,8 @@ impl StreamWriter {
         ensures bytes { Begins (λ writer. writer) result (numbered_schema schema.now)
             (W.contents output.old) (W.contents output.new) }
         ensures counted { CountsTransport result (W.failures output.old) (W.failures output.new) }
-        ensures cause { MatchResult result (λ _. Unit {0}) (IsCause (numbered_schema schema.now) []) }
+        ensures cause { MatchResult result (λ _. Unit {0})
+            (IsCause (numbered_schema schema.now) []) }
     {
         let mut outbox = Outbox::new(alloc);
         let dresser = Dresser::new(alloc, seed, schema)?;
@@ -77,37 +81,42 @@ impl StreamWriter {
         &self.dresser.schema
     }
 
-    /// Writes a batch with a column for each field of the schema, of its type: the messages of its dictionaries, each of the
-    /// texts that the batch holds, and then that of its rows. It is cut where their bodies would have more than 8,388,608 bytes,
-    /// and behind 65,536 rows. Each cut has its own dictionaries.
+    /// Writes a batch with a column for each field of the schema, of its type: the messages of its
+    /// dictionaries, each of the texts that the batch holds, and then that of its rows. It is cut
+    /// where their bodies would have more than 8,388,608 bytes, and after 65,536 rows. Each cut has
+    /// its own dictionaries.
     ///
     /// # Errors
     ///
-    /// - `Fault::Transport` (F22) where a write failed. It is counted, and a beginning of the stream is written, which says some
-    ///   of the rows.
+    /// - `Fault::Transport` (F22) where a write failed. It is counted, and a beginning of the
+    ///   stream is written, which says some of the rows.
     ///
-    /// At these the stream breaks off behind some of the rows, as `break_off` does it:
+    /// At these the stream breaks off after some of the rows, as `break_off` does it:
     /// - `Fault::OutOfMemory` (F21) where memory is refused.
-    /// - `Fault::LimitReached` (F12) where the bodies of one row would have 2 to the 31 bytes or more.
+    /// - `Fault::LimitReached` (F12) where the bodies of one row would have 2 to the 31 bytes or
+    ///   more.
     pub fn write_batch<W: Output>(&mut self, output: &mut W, batch: &Batch) -> Result<(), Fault>
         requires failures { CanFail (W.failures output.old) }
         requires typed { AreOfTypes (self.old.schema).fields batch.now.columns }
-        ensures bytes { SendsBatch result self.old.schema batch.now (W.contents output.old) (W.contents output.new)
+        ensures bytes { SendsBatch result self.old.schema batch.now (W.contents output.old)
+            (W.contents output.new)
             self.old.waiting self.new.waiting (W.failures output.old) (W.failures output.new) }
         ensures kept { self.new.schema ≡ self.old.schema }
         ensures counted { CountsWrites result (W.failures output.old) (W.failures output.new) }
-        ensures cause { MatchResult result (λ _. Unit {0}) (IsCause self.old.schema (batch.now ∷ [])) }
+        ensures cause { MatchResult result (λ _. Unit {0})
+            (IsCause self.old.schema (batch.now ∷ [])) }
     {
         send_batch(&self.dresser, output, &mut self.outbox, batch)
     }
 
-    /// Breaks the stream off: writes what waits, and behind it the start of a message that never ends. So no reader takes what is
-    /// written for a whole stream. A write that failed is counted.
+    /// Breaks the stream off: writes what waits, and after it the start of a message that never
+    /// ends. So no reader takes what is written for a whole stream. A write that failed is counted.
     pub fn break_off<W: Output>(&mut self, output: &mut W)
         requires { CanFail (W.failures output.old) }
         ensures { (schema : Schema) (rows : Rows) (start : Option (List ℕ)) →
             SoFar schema rows start (W.contents output.old) self.old.waiting →
-            BreaksOff schema rows start (W.contents output.new) (W.failures output.old) (W.failures output.new) }
+            BreaksOff schema rows start (W.contents output.new) (W.failures output.old)
+            (W.failures output.new) }
     {
         break_off(output, &mut self.outbox);
     }
@@ -116,11 +125,13 @@ impl StreamWriter {
     ///
     /// # Errors
     ///
-    /// `Fault::Transport` (F22) where a write failed. It is counted. A beginning of the stream is written then.
+    /// `Fault::Transport` (F22) where a write failed. It is counted. A beginning of the stream is
+    /// written then.
     pub fn end<W: Output>(self, output: &mut W) -> Result<(), Fault>
         requires { CanFail (W.failures output.old) }
         ensures bytes { (schema : Schema) (rows : Rows) (start : Option (List ℕ)) →
-            SoFar schema rows start (W.contents output.old) self.waiting → WritesStream result schema rows start (W.contents output.new) }
+            SoFar schema rows start (W.contents output.old) self.waiting →
+            WritesStream result schema rows start (W.contents output.new) }
         ensures counted { CountsTransport result (W.failures output.old) (W.failures output.new) }
         ensures cause { FailsByTransport result }
     {

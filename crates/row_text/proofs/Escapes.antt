@@ -60,7 +60,7 @@ module _ (f : ℕ → List ℕ) (text : List ℕ) (from at : ℕ) (ordered : fro
         ∙ sym run_more
 
     module _ (a b c : Option (List ℕ)) (before mid after escape : List ℕ) (spelled : f byte ≡ escape) (sent : Sent a b before mid (flat_map f (take from text))) where
-      -- the run was sent, and what stands for the byte behind it
+      -- the run was sent, and what stands for the byte after it
       pub escape_sent : Sent b c mid after (run text from at ++ escape) → Sent a c before after (flat_map f (take (at + 1) text))
       escape_sent more =
           subst (Sent a c before after) (sym bytes) (both_sent a b c before mid after (flat_map f (take from text)) (run text from at ++ escape) sent more)

@@ -7,7 +7,7 @@ use Rattle.grpc_frame.proofs.Sending.{head_not_sent, both_sent, second_not_sent,
 use Rattle.row_text.specs.Rows.{Format, row_with}
 use Rattle.row_text.proofs.Parts.{front_sent, front_not_sent, item_sent, item_not_sent, back_sent}
 
--- the items behind the first
+-- the items after the first
 abbrev pub others_of : {X : Type 0} → List X → List X
 others_of xs = take (length xs - 1) (drop 1 xs)
 
@@ -51,7 +51,7 @@ module _ {X : Type 0} (f : ℕ → X → List ℕ) where
   first_is [] x some is = absurd (omega (arith, some))
   first_is (first ∷ xs) x some is = ap (f 0) (sym is)
 
-  -- the cell of an item behind the first
+  -- the cell of an item after the first
   module _ (xs : List X) (index : ℕ) where
     cell_inside : index < length (others_of xs) → index < length (drop 1 (numbered 0 xs))
     cell_inside inside = omega (arith, inside, others_long xs, length-drop 1 (numbered 0 xs), numbered_long 0 xs)
@@ -92,7 +92,7 @@ module _ {X : Type 0} (format : Format) (f : ℕ → X → List ℕ) (xs : List 
   abbrev front : List ℕ
   front = format.start ++ first_cell (numbered f 0 xs)
 
-  -- what is written up to a cell behind the first
+  -- what is written up to a cell after the first
   abbrev pub written : ℕ → List ℕ
   written index = front ++ flat_map next_cell (take index (drop 1 (numbered f 0 xs)))
 

@@ -41,7 +41,7 @@ more_not_sent f a b c before mid after items i x inside is sent failed =
     subst (NotSent a c before after) (sym (items_split f items i x inside is))
     (second_not_sent a b c before mid after (flat_map f (take i items)) (f x ++ rest) sent (head_not_sent b c mid after (f x) rest failed))
 
--- ---- a front, items behind it, and what stands behind them
+-- ---- a front, items after it, and what stands after them
 
 -- the front was sent
 pub front_sent : (a b : Option (List ℕ)) (before mid front cell : List ℕ) → front ≡ cell → Sent a b before mid cell → Sent a b before mid (front ++ [])
@@ -54,7 +54,7 @@ front_not_sent f a b before after front cell back line items whole is failed =
     subst (NotSent a b before after) (sym whole)
     (head_not_sent a b before after front (flat_map f items ++ back) (subst (NotSent a b before after) (sym is) failed))
 
--- one item more was sent behind it
+-- one item more was sent after it
 pub item_sent : {X : Type 0} (f : X → List ℕ) (a b c : Option (List ℕ)) (before mid after front : List ℕ) (items : List X) (i : ℕ) (x : X)
     → i < length items → x ≡ get_or items i x
     → Sent a b before mid (front ++ flat_map f (take i items)) → Sent b c mid after (f x)
@@ -80,7 +80,7 @@ item_not_sent f a b c before mid after front back line items i x whole inside is
     subst (NotSent a c before after) (sym parts)
     (second_not_sent a b c before mid after (front ++ head) (f x ++ (rest ++ back)) sent (head_not_sent b c mid after (f x) (rest ++ back) failed))
 
--- all items were sent, and then what stands behind them, or not
+-- all items were sent, and then what stands after them, or not
 pub back_sent : {X Y E : Type 0} (f : X → List ℕ) (r : Result Y E) (a b c : Option (List ℕ)) (before mid after front back line : List ℕ) (items : List X) (i : ℕ)
     → line ≡ front ++ (flat_map f items ++ back) → length items ≤ i
     → Sent a b before mid (front ++ flat_map f (take i items)) → Sends r b c mid after back → Sends r a c before after line

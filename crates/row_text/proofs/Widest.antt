@@ -11,7 +11,7 @@ use Rattle.arrays.specs.Batch.{BatchAt, row_of, rows_of}
 use Rattle.arrays.specs.Column.{ColumnAt, slot_of, values_of}
 use Rattle.row_text.specs.Tables.{column_of, column_width, greatest, value_width, widths_from}
 
--- the greatest of two lists, one behind the other
+-- the greatest of two lists, one after the other
 pub greatest_append : (n : ℕ) (xs ys : List ℕ) → greatest n (xs ++ ys) ≡ greatest (greatest n xs) ys
 greatest_append n [] ys = refl
 greatest_append n (x ∷ xs) ys = greatest_append (max n x) xs ys

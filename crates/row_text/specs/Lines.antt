@@ -1,4 +1,5 @@
--- What is printed of a table as lines: a line of its columns' names, and a line for each row. And lines of names.
+-- What is printed of a table as lines: a line of its columns' names, and a line for each row. And
+-- lines of names.
 use Rattle.std.specs.Prelude.{ℕ, ◌==◌, List, [], ◌∷◌, ◌++◌, codes, if◌then◌else◌}
 use Rattle.std.specs.List.{flat_map}
 use Rattle.calendar.specs.Shown.{date_shown}

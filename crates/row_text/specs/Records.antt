@@ -1,4 +1,5 @@
--- What is written of a table as CSV: a record of its columns' names, and a record for each row, as RFC 4180 has them.
+-- What is written of a table as CSV: a record of its columns' names, and a record for each row, as
+-- RFC 4180 has them.
 use Rattle.std.specs.Prelude.{ℕ, ◌==◌, ◌||◌, ◌&&◌, Bool, List, [], length, codes, if◌then◌else◌}
 use Rattle.csv.specs.Writing.{default_writer, needs_quotes, quoted, with_terminator}
 use Rattle.csv.specs.declared.parser.Terminator.TheVariants as term
@@ -10,7 +11,8 @@ use Rattle.arrow_schema.specs.declared.schema.Field.{Field}
 use Rattle.arrow_schema.specs.declared.schema.Schema.{Schema}
 use Rattle.row_text.specs.Rows.{Format, Notation, plain_day, rows_text, type_shown, value_text}
 
--- the kit's writer of CSV: commas, double quotes that stand twice inside, and records that end with CR and LF
+-- the kit's writer of CSV: commas, double quotes that stand twice inside, and records that end with
+-- CR and LF
 abbrev pub comma_writer : WriterBuilder
 comma_writer = with_terminator default_writer term.CRLF
 
@@ -31,7 +33,8 @@ csv_notation = record {
   day = plain_day;
 }
 
--- A field of a record of so many. A null that stands alone is two quotes: many readers pass over an empty line.
+-- A field of a record of so many. A null that stands alone is two quotes: many readers pass over an
+-- empty line.
 abbrev pub field_of : DataType → ℕ → Value → List ℕ
 field_of data_type count value =
     if count == 1 && is_null value then codes "\"\"" else value_text csv_notation data_type value

@@ -1,5 +1,7 @@
--- What the formats of rows have in common: how a value is written, and what stands around the cells of a row.
-use Rattle.std.specs.Prelude.{ℕ, Bool, List, [], ◌∷◌, ◌++◌, map, length, ℤ, slice_get, option_map, unwrap_or}
+-- What the formats of rows have in common: how a value is written, and what stands around the cells
+-- of a row.
+use Rattle.std.specs.Prelude.{ℕ, Bool, List, [], ◌∷◌, ◌++◌, map, length, ℤ, slice_get, option_map}
+use Rattle.std.specs.Prelude.{unwrap_or}
 use Rattle.std.specs.List.{enumerate_from, flat_map}
 use Rattle.std.specs.Fmt.{signed_decimal}
 use Rattle.calendar.specs.Shown.{date_within}
@@ -32,12 +34,14 @@ plain_day day = unwrap_or (date_within day) (signed_decimal day)
 
 -- the type of the column of a number; one without a field is shown as texts are
 abbrev pub type_shown : List Field → ℕ → DataType
-type_shown fields number = unwrap_or (option_map (λ field. field.data_type) (slice_get fields number)) Utf8
+type_shown fields number =
+    unwrap_or (option_map (λ field. field.data_type) (slice_get fields number)) Utf8
 
 -- ---- rows
 
--- How rows are written: what stands before the first cell, between two cells and after the last; the cell of a name, by the number
--- of its column; and the cell of a value, by the number of its column and how many values its row has.
+-- How rows are written: what stands before the first cell, between two cells and after the last;
+-- the cell of a name, by the number of its column; and the cell of a value, by the number of its
+-- column and how many values its row has.
 pub record Format : Type 0 where
   pub start : List ℕ
   pub between : List ℕ
@@ -53,12 +57,14 @@ row_with format (cell ∷ cells) =
 
 -- the row of the columns' names
 abbrev pub names_row : Format → List Field → List ℕ
-names_row format fields = row_with format (map (λ (number, field). format.name number field) (enumerate_from 0 fields))
+names_row format fields =
+    row_with format (map (λ (number, field). format.name number field) (enumerate_from 0 fields))
 
 -- a row of values
 abbrev pub values_row : Format → List Value → List ℕ
 values_row format row =
-    row_with format (map (λ (number, value). format.value number (length row) value) (enumerate_from 0 row))
+    row_with format
+    (map (λ (number, value). format.value number (length row) value) (enumerate_from 0 row))
 
 -- the row of the names, and then the rows
 abbrev pub rows_text : Format → List Field → List (List Value) → List ℕ

@@ -1,5 +1,7 @@
--- What is printed of a table for people: its columns, aligned between bars, and how many rows it has.
-use Rattle.std.specs.Prelude.{ℕ, ◌+◌, ◌-◌, ◌==◌, ◌||◌, Bool, true, false, List, [], ◌∷◌, ◌++◌, map, length, take, max, min, get_or, codes, chars, if◌then◌else◌}
+-- What is printed of a table for people: its columns, aligned between bars, and how many rows it
+-- has.
+use Rattle.std.specs.Prelude.{ℕ, ◌+◌, ◌-◌, ◌==◌, ◌||◌, Bool, true, false, List, [], ◌∷◌, ◌++◌, map}
+use Rattle.std.specs.Prelude.{length, take, max, min, get_or, codes, chars, if◌then◌else◌}
 use Rattle.std.specs.List.{count_by, flat_map}
 use Rattle.std.specs.Fmt.{decimal}
 use Rattle.unicode_width.specs.Width.{str_width}
@@ -9,7 +11,8 @@ use Rattle.arrow_schema.specs.declared.data_type.DataType.{DataType}
 use Rattle.arrow_schema.specs.declared.data_type.DataType.TheVariants.{Integer, Decimal128}
 use Rattle.arrow_schema.specs.declared.schema.Field.{Field}
 use Rattle.arrow_schema.specs.declared.schema.Schema.{Schema}
-use Rattle.row_text.specs.Rows.{Format, Notation, names_row, plain_day, type_shown, value_text, values_row}
+use Rattle.row_text.specs.Rows.{Format, Notation, names_row, plain_day, type_shown, value_text}
+use Rattle.row_text.specs.Rows.{values_row}
 use Rattle.row_text.specs.Lines.{escaped, line_notation}
 use Rattle.row_text.specs.declared.shape.Shape.{Shape}
 
@@ -34,9 +37,11 @@ most_width = 40
 abbrev pub is_escaped : ℕ → Bool
 is_escaped byte = ((byte == 92) || (byte == 9)) || ((byte == 10) || (byte == 13))
 
--- how many columns of a terminal a text takes, counted no further than matters; an escape takes one more than its byte
+-- how many columns of a terminal a text takes, counted no further than matters; an escape takes one
+-- more than its byte
 abbrev pub text_width : List ℕ → ℕ
-text_width text = min most_width (str_width false (chars text)) + min most_width (count_by is_escaped text)
+text_width text =
+    min most_width (str_width false (chars text)) + min most_width (count_by is_escaped text)
 
 -- how many a value takes
 abbrev pub value_width : DataType → Value → ℕ
@@ -54,12 +59,14 @@ column_of rows number = map (λ row. get_or row number Null) rows
 
 -- how wide a column is: as its name or its widest value, whichever is wider
 abbrev pub column_width : Field → List Value → ℕ
-column_width field values = min most_width (greatest (text_width field.name) (map (value_width field.data_type) values))
+column_width field values =
+    min most_width (greatest (text_width field.name) (map (value_width field.data_type) values))
 
 -- the same of all columns from one on
 abbrev pub widths_from : List Field → ℕ → List (List Value) → List ℕ
 widths_from [] number rows = []
-widths_from (field ∷ fields) number rows = column_width field (column_of rows number) ∷ widths_from fields (number + 1) rows
+widths_from (field ∷ fields) number rows =
+    column_width field (column_of rows number) ∷ widths_from fields (number + 1) rows
 
 -- ---- cells
 
@@ -77,7 +84,7 @@ stands_right (Integer integer) = true
 stands_right Decimal128 = true
 stands_right _ = false
 
--- the blanks before a text that takes so many columns, and those behind it
+-- the blanks before a text that takes so many columns, and those after it
 abbrev pub before : Shape → ℕ → List ℕ
 before shape taken = if stands_right shape.data_type then blanks (shape.width - taken) else []
 
@@ -90,7 +97,8 @@ padded shape taken text = before shape taken ++ (text ++ behind shape taken)
 
 -- a value
 abbrev pub value_cell : Shape → Value → List ℕ
-value_cell shape value = padded shape (value_width shape.data_type value) (value_text table_notation shape.data_type value)
+value_cell shape value = padded shape (value_width shape.data_type value)
+    (value_text table_notation shape.data_type value)
 
 -- a column's name
 abbrev pub name_cell : Shape → List ℕ → List ℕ
@@ -100,7 +108,8 @@ name_cell shape name = padded shape (text_width name) (escaped name)
 
 -- the column of a number: its type and its width
 abbrev pub shape_of : List Field → List ℕ → ℕ → Shape
-shape_of fields widths number = record { data_type = type_shown fields number; width = get_or widths number 0 }
+shape_of fields widths number =
+    record { data_type = type_shown fields number; width = get_or widths number 0 }
 
 -- rows in columns of these widths: a bar before each cell and after the last
 abbrev pub table_format : List Field → List ℕ → Format
@@ -128,7 +137,8 @@ count_line rows = decimal rows ++ codes " rows\n"
 abbrev pub table_by : List Field → List ℕ → List (List Value) → List ℕ
 table_by fields widths rows =
     names_row (table_format fields widths) fields
-    ++ (rule_line widths ++ (flat_map (values_row (table_format fields widths)) rows ++ count_line (length rows)))
+    ++ (rule_line widths
+    ++ (flat_map (values_row (table_format fields widths)) rows ++ count_line (length rows)))
 
 -- all that is printed of a table
 abbrev pub table_of : Schema → List (List Value) → List ℕ

@@ -18,12 +18,14 @@ use grpc_frame::{Outbox, Output};
 use scan_base::{Fault, ValueRef};
 use std::alloc::Global;
 
-/// Writes the record of the columns' names, and a record for each row of the batches, as CSV. At most 16,384 bytes wait for the next
-/// write; where memory for them is refused each part is a write.
+/// Writes the record of the columns' names, and a record for each row of the batches, as CSV. At
+/// most 16,384 bytes wait for the next write; where memory for them is refused each part is a
+/// write.
 ///
 /// # Errors
 ///
-/// `Fault::Transport` where a write failed. It is counted, and a beginning of the records is written.
+/// `Fault::Transport` where a write failed. It is counted, and a beginning of the records is
+/// written.
 pub fn write_csv<W: Output>(
     alloc: Global,
     schema: &Schema,

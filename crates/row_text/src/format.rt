@@ -65,8 +65,9 @@ pub(crate) trait RowFormat {
         cell: Cell<'_>,
     ) -> Result<(), Fault>
         requires { CanFail (W.failures writer.old) }
-        ensures bytes { Sends result (W.contents writer.old) (W.contents writer.new) outbox.old outbox.new
-            ((format self.now).value cell.entry.number cell.entry.count (value_of cell.entry.value)) }
+        ensures bytes { Sends result (W.contents writer.old) (W.contents writer.new) outbox.old
+            outbox.new ((format self.now).value cell.entry.number cell.entry.count
+            (value_of cell.entry.value)) }
         ensures counted { CountsFailure result (W.failures writer.old) (W.failures writer.new) }
         ensures fault { FailsByTransport result };
 }

@@ -1,7 +1,8 @@
-//! What is printed of rows and of names: rows as lines, as CSV as RFC 4180 has it, and as a table for people.
+//! What is printed of rows and of names: rows as lines, as CSV as RFC 4180 has it, and as a table
+//! for people.
 //!
-//! `specs/Rows.antt` says what these formats have in common. `specs/Lines.antt`, `specs/Records.antt` and
-//! `specs/Tables.antt` say which bytes they are.
+//! `specs/Rows.antt` says what these formats have in common. `specs/Lines.antt`,
+//! `specs/Records.antt` and `specs/Tables.antt` say which bytes they are.
 #![tactic(auto)]
 
 mod csv_format;

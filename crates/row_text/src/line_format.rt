@@ -17,8 +17,8 @@ use grpc_frame::{Outbox, Output};
 use scan_base::{Fault, Text};
 use std::alloc::Global;
 
-/// Writes the line of the columns' names, and a line for each row of the batches. At most 16,384 bytes wait for the next
-/// write; where memory for them is refused each part is a write.
+/// Writes the line of the columns' names, and a line for each row of the batches. At most 16,384
+/// bytes wait for the next write; where memory for them is refused each part is a write.
 ///
 /// # Errors
 ///
@@ -39,15 +39,16 @@ pub fn write_rows<W: Output>(
     write_all(alloc, &Lines { fields }, fields, batches, output)
 }
 
-/// Writes a line for each name. At most 16,384 bytes wait for the next write; where memory for them is refused each part
-/// is a write.
+/// Writes a line for each name. At most 16,384 bytes wait for the next write; where memory for them
+/// is refused each part is a write.
 ///
 /// # Errors
 ///
 /// `Fault::Transport` where a write failed. It is counted, and a beginning of the lines is written.
 pub fn write_names<W: Output>(alloc: Global, names: &[Text], output: &mut W) -> Result<(), Fault>
     requires { CanFail (W.failures output.old) }
-    ensures bytes { Writes result (W.contents output.old) (W.contents output.new) (flat_map name_line names.now) }
+    ensures bytes { Writes result (W.contents output.old) (W.contents output.new)
+        (flat_map name_line names.now) }
     ensures counted { CountsFailure result (W.failures output.old) (W.failures output.new) }
     ensures fault { FailsByTransport result }
 {

@@ -20,9 +20,10 @@ use itoa::Buffer;
 use scan_base::Fault;
 use std::alloc::Global;
 
-/// Writes the columns' names, dashes under them, a line for each row of the batches, and how many rows there are. All are
-/// looked at twice: a column is as wide as its widest cell, but no wider than 40. At most 16,384 bytes wait for the next write;
-/// where memory for them is refused each part is a write.
+/// Writes the columns' names, dashes under them, a line for each row of the batches, and how many
+/// rows there are. All are looked at twice: a column is as wide as its widest cell, but no wider
+/// than 40. At most 16,384 bytes wait for the next write; where memory for them is refused each
+/// part is a write.
 ///
 /// # Errors
 ///

@@ -15,7 +15,8 @@ pub(crate) trait Spelling {
 
     /// What is written in the place of a byte, where it is not the byte itself.
     fn escape(&self, byte: u8) -> Option<&'static [u8]>
-        ensures { MatchOption result (spelled byte ≡ byte ∷ []) (λ escape. spelled byte ≡ escape.now) };
+        ensures { MatchOption result (spelled byte ≡ byte ∷ [])
+            (λ escape. spelled byte ≡ escape.now) };
 }
 
 /// A backslash, a tab, LF and CR are written as a backslash and a letter.

@@ -67,7 +67,8 @@ pub(crate) struct TypedValue<'a> {
     pub value: ValueRef<'a>,
 }
 
-/// The type of a column, by its number. One without a field is shown as texts are: each value by itself.
+/// The type of a column, by its number. One without a field is shown as texts are: each value by
+/// itself.
 pub(crate) fn type_shown(fields: &[Field], number: usize) -> DataType
     ensures { result ≡ type_shown fields.now number }
 {
@@ -90,7 +91,8 @@ pub(crate) fn send_value<F: ValueFormat, W: Output>(
 ) -> Result<(), Fault>
     requires { CanFail (W.failures writer.old) }
     ensures bytes { Sends result (W.contents writer.old) (W.contents writer.new)
-        outbox.old outbox.new (value_text F.notation typed.entry.data_type (value_of typed.entry.value)) }
+        outbox.old outbox.new
+        (value_text F.notation typed.entry.data_type (value_of typed.entry.value)) }
     ensures counted { CountsFailure result (W.failures writer.old) (W.failures writer.new) }
     ensures fault { FailsByTransport result }
 {

@@ -87,7 +87,8 @@ pub(crate) fn send_batches<F: RowFormat, W: Output>(
 ) -> Result<(), Fault>
     requires { CanFail (W.failures writer.old) }
     ensures bytes { Sends result (W.contents writer.old) (W.contents writer.new)
-        outbox.old outbox.new (flat_map (values_row (F.format format.now)) (flat_map rows_of batches.now)) }
+        outbox.old outbox.new
+        (flat_map (values_row (F.format format.now)) (flat_map rows_of batches.now)) }
     ensures counted { CountsFailure result (W.failures writer.old) (W.failures writer.new) }
     ensures fault { FailsByTransport result }
 {
@@ -126,7 +127,8 @@ fn send_row<F: RowFormat, W: Output>(
 ) -> Result<(), Fault>
     requires failures { CanFail (W.failures writer.old) }
     requires within { All (λ column. row.place < column.len) row.columns.now }
-    ensures bytes { Sends result (W.contents writer.old) (W.contents writer.new) outbox.old outbox.new
+    ensures bytes { Sends result (W.contents writer.old)
+        (W.contents writer.new) outbox.old outbox.new
         (values_row (F.format format.now) (row_of row.entry.columns.now row.entry.place)) }
     ensures counted { CountsFailure result (W.failures writer.old) (W.failures writer.new) }
     ensures fault { FailsByTransport result }

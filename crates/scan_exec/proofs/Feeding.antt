@@ -45,7 +45,7 @@ module _ (pick : PickAt) (batch : BatchAt) where
       ∙ ap (λ (n : ℕ). passing pick (map (row_of batch.columns) (range_with_len 0 n))) whole
       ∙ filter-map (holds pick) (row_of batch.columns) (range_with_len 0 (end - 0))
 
-  -- and those of a slice behind them
+  -- and those of a slice after them
   passing_more : (from end : ℕ) → from ≤ end → end ≤ batch.rows →
       passing pick (take end (rows_of batch)) ≡ passing pick (take from (rows_of batch)) ++ map (row_of batch.columns) (chosen_in pick batch from end)
   passing_more from end ordered within =
@@ -105,7 +105,7 @@ module _ (batches : List BatchAt) (k : ℕ) (batch : BatchAt) (there : k < lengt
   counted_more from ordered =
       omega (arith, ap length (rows_more from ordered), length-append (flat_map rows_of (batches_between from k batches)) (rows_of batch), length-rows_of batch)
 
-  -- and so many it has with those behind it
+  -- and so many it has with those after it
   counted_on : (to : ℕ) → k < to → rows_between k to batches ≡ batch.rows + rows_between (k + 1) to batches
   counted_on to more =
       let next : to - k ≡ suc (to - (k + 1)) = omega (arith, more) in
@@ -196,7 +196,7 @@ module _ (work : GroupWorkAt) (from at row to : ℕ) (groups : GroupsAt) (is : I
         let all = between_few from (at + 1) work.batches in
         omega (arith, passed, long, first, all, counted_more work.batches at batch next_there has from is.begun, is.fed.held.count, is.can.few, next_row, within)
 
-    -- so many rows are left before it and behind it
+    -- so many rows are left before it and after it
     left_on : rows_between at to work.batches ≡ batch.rows + rows_between (at + 1) to work.batches
     left_on = counted_on work.batches at batch next_there has to more
 
@@ -223,7 +223,7 @@ module _ (work : GroupWorkAt) (from at row to : ℕ) (groups : GroupsAt) (is : I
       slice_fed : AreGroupsOf work (passing work.pick (rows_so_far from at end work.batches)) after
       slice_fed = more_fed work (passing work.pick (rows_so_far from at row work.batches)) _ _ groups after slice_rows is.fed fed
 
-      -- the part stands behind it, in the same batch
+      -- the part stands after it, in the same batch
       pub fed_within : end < batch.rows → IsPartFed work from at end to after
       fed_within less = record {
         can = is.can;

@@ -27,7 +27,7 @@ place_more lists place list done all h is so_far =
     append_assoc done (map (λ number. (place, number)) list.numbers.items) (numbered_batches (place + 1) (drop (place + 1) (numbers_of lists)))
     ∙ ap (λ (rest : List (List ℕ)). done ++ numbered_batches place rest) (sym (drop_at lists place list h is)) ∙ so_far
 
--- behind the last one
+-- after the last one
 pub places_all : (lists : List OpenedList) (place : ℕ) (done all : List (ℕ × ℕ)) → length lists ≤ place →
     done ++ numbered_batches place (drop place (numbers_of lists)) ≡ all → done ≡ all
 places_all lists place done all h so_far =

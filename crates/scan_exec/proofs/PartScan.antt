@@ -44,7 +44,7 @@ before_none batches further others places =
     let size = ap length (sym whole ∙ others) in
     none_from_nothing (of_first (take further batches)) (omega (arith, size, length-append (of_first (take further batches)) (drop further batches)))
 
--- one of the first place behind them is opened where more are
+-- one of the first place after them is opened where more are
 taken_more : (batches : List (ℕ × ℕ)) (further n : ℕ) → further + n ≤ length batches → list_all (λ (batch : ℕ × ℕ). batch.0 == 0) (drop further batches) ≡ true →
     of_first (take (further + n) batches) ≡ [] → n ≡ 0
 taken_more [] zero n few places none = omega (arith, few)

@@ -78,7 +78,7 @@ as_many_scans (filtered predicate tree) = as_many_scans tree
 as_many_scans (joined left right on) =
     omega (arith, as_many_scans left, as_many_scans right, length-append (scans_of left) (scans_of right), length-append (tree_schemas left) (tree_schemas right))
 
--- the first place, and those behind it
+-- the first place, and those after it
 abbrev pub AllSame : List (Pred ℕ) → List Columns → List Schema → List (List Row) → List (List Row) → Type 0
 AllSame parts (some_columns ∷ scans) (schema ∷ schemas) some all =
     LetsSame (first_need parts (given_width some_columns (length schema.fields))) some_columns some all

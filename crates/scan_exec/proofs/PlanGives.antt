@@ -36,7 +36,7 @@ rows_numbered f (part ∷ some) =
     ∙ ap (λ (first : List Row). first ++ flat_map f (map (λ (one : ℕ × List Row). one.1) some))
     (map-map (λ (given : Option ℕ × Row). given.1) (λ row. (Some part.0, row)) rows ∙ map-id rows)
 
--- what is given of parts, one behind another, is what is given of them all
+-- what is given of parts, one after another, is what is given of them all
 module _ (tree : Tree) (places : List (List Row)) (columns : Columns) where
   abbrev shown : List Row → List Row
   shown rows = taken columns (rows_over tree (rows ∷ places))

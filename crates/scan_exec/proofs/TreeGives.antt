@@ -18,13 +18,13 @@ use Rattle.typed_plan.specs.Plan.{Tree, scan, filtered, joined, taken, is_true, 
 use Rattle.typed_plan.proofs.Scans.{some_schema}
 use Rattle.rewrite.specs.Places.{rows_over}
 
--- ---- rows of the first place, one behind another
+-- ---- rows of the first place, one after another
 
 pub taken-append : (columns : Columns) (xs ys : List Row) → taken columns (xs ++ ys) ≡ taken columns xs ++ taken columns ys
 taken-append All xs ys = refl
 taken-append (These numbers) xs ys = map-append (λ row. map (cell_in row) numbers) xs ys
 
--- the places behind one or more are the same, whatever the first is
+-- the places after one or more are the same, whatever the first is
 behind_first : (count : ℕ) → 0 < count → (xs ys : List Row) (places : List (List Row)) →
     drop count (xs ∷ places) ≡ drop count (ys ∷ places)
 behind_first zero none xs ys places = absurd (omega (arith, none))
@@ -92,7 +92,7 @@ module _ (database : Database) where
   abbrev pub rows_at : Name → List Row
   rows_at name = rows_in (table_at database name)
 
-  -- the places of a tree may have others behind them
+  -- the places of a tree may have others after them
   over_places : (tree : Tree) (cut : List Row → List Row) (more : List (List Row)) →
       rows_over tree (cut_first cut (map rows_at (tree_tables tree)) ++ more) ≡ tree_rows tree database cut
   over_places (scan table schema columns) cut more = refl

@@ -19,7 +19,8 @@ pub record StandFor (items some : List Aggregate) (places : List ℕ) : Type 0 w
 abbrev pub column_at : List ℕ → ℕ → ℕ
 column_at columns place = get_or columns place 0
 
--- these columns stand for those of a key, each at its place, and what holds of all of those holds of them
+-- these columns stand for those of a key, each at its place, and what holds of all of those holds
+-- of them
 pub record KeyedBy (keys columns places : List ℕ) : Type 0 where
   pub each : map (column_at columns) places ≡ keys
   pub there : are_within (length columns) places ≡ true

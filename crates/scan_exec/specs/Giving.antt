@@ -1,5 +1,6 @@
 -- Inside: what is still to be given, batch by batch.
-use Rattle.std.specs.Prelude.{◌≡◌, ◌≤◌, ◌<◌, ℕ, List, [], ◌++◌, length, map, take, Option, Some, None, Result, Ok, Err}
+use Rattle.std.specs.Prelude.{◌≡◌, ◌≤◌, ◌<◌, ℕ, List, [], ◌++◌, length, map, take, Option, Some}
+use Rattle.std.specs.Prelude.{None, Result, Ok, Err}
 use Rattle.std.specs.List.{last_or}
 use Rattle.std.specs.declared.alloc.AllocError.{AllocError}
 use Rattle.arrow_schema.specs.declared.data_type.DataType.{DataType}
@@ -12,9 +13,10 @@ use Rattle.row_sources.specs.declared.turn.Turn.{Turn}
 use Rattle.row_sources.specs.declared.turn.Turn.TheVariants.{Given, Working, End}
 use Rattle.array_select.specs.Room.{most_batch_rows}
 
--- The types of the columns; the rows that are still to be given, each with the number of the batch of the first place of
--- which it comes, if it is one; the numbers of the batches of that place that are to be opened, and of those that were; and how
--- many rows turns have still to look at. Groups are made in one turn, which looks at all.
+-- The types of the columns; the rows that are still to be given, each with the number of the batch
+-- of the first place of which it comes, if it is one; the numbers of the batches of that place that
+-- are to be opened, and of those that were; and how many rows turns have still to look at. Groups
+-- are made in one turn, which looks at all.
 pub record GivingAt : Type 0 where
   pub types : List DataType
   pub ahead : List (Option ℕ × Row)
@@ -61,7 +63,8 @@ pub record GivesNone (before after : GivingAt) : Type 0 where
   pub all : after.opened ≡ before.batches
   pub on : GivingOn before after
 
--- The next batch, or none where no row is left. Where memory is refused nothing is said of the rows that come next.
+-- The next batch, or none where no row is left. Where memory is refused nothing is said of the rows
+-- that come next.
 abbrev pub GivesNext : GivingAt → Result (Option BatchAt) AllocError → GivingAt → Type 0
 GivesNext before (Ok (Some batch)) after = GivesBatch before batch after
 GivesNext before (Ok None) after = GivesNone before after
@@ -77,9 +80,11 @@ abbrev pub MakesReady : GivingAt → Result (Unit {0}) AllocError → GivingAt �
 MakesReady before (Ok _) after = GivesNoneYet before after
 MakesReady before (Err _) after = GivingOn before after
 
--- What a turn gives: the next batch, or none where no row is left. One whose patience has an end may give none yet.
+-- What a turn gives: the next batch, or none where no row is left. One whose patience has an end
+-- may give none yet.
 abbrev pub GivesTurn : Patience → GivingAt → Result (Turn BatchAt) AllocError → GivingAt → Type 0
 GivesTurn patience before (Ok (Given batch)) after = GivesBatch before batch after
-GivesTurn patience before (Ok Working) after = GivesNoneYet before after × LooksOn patience before.unseen after.unseen
+GivesTurn patience before (Ok Working) after =
+    GivesNoneYet before after × LooksOn patience before.unseen after.unseen
 GivesTurn patience before (Ok End) after = GivesNone before after
 GivesTurn patience before (Err _) after = GivingOn before after

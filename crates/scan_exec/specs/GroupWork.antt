@@ -1,5 +1,6 @@
 -- What is grouped, and the groups of it.
-use Rattle.std.specs.Prelude.{◌≡◌, ◌≤◌, ◌<◌, ℕ, ◌-◌, All, List, ◌++◌, length, take, drop, None, Result, IfOk}
+use Rattle.std.specs.Prelude.{◌≡◌, ◌≤◌, ◌<◌, ℕ, ◌-◌, All, List, ◌++◌, length, take, drop, None}
+use Rattle.std.specs.Prelude.{Result, IfOk}
 use Rattle.std.specs.List.{filter, flat_map}
 use Rattle.arrow_schema.specs.declared.data_type.DataType.{DataType}
 use Rattle.arrays.specs.Batch.{BatchAt, rows_of}
@@ -17,7 +18,8 @@ use Rattle.scan_exec.specs.declared.group_work.GroupWork.{GroupWork}
 abbrev pub passing : PickAt → List Row → List Row
 passing pick rows = filter (holds pick) rows
 
--- the batches, the types of their columns, the numbers of those that are the key, what is wanted of each group, and the filters
+-- the batches, the types of their columns, the numbers of those that are the key, what is wanted of
+-- each group, and the filters
 pub record GroupWorkAt : Type 0 where
   pub batches : List BatchAt
   pub types : List DataType
@@ -35,7 +37,8 @@ work_at work = record {
   pick = pick_of work.picker.now;
 }
 
--- the batches are of the types, keys, items and filters name columns that are there, and no more rows than can be grouped
+-- the batches are of the types, keys, items and filters name columns that are there, and no more
+-- rows than can be grouped
 pub record CanBeGrouped (work : GroupWorkAt) : Type 0 where
   pub batches : All (IsBatchOf work.types) work.batches
   pub has : HasItems work.types work.keys work.items
@@ -61,13 +64,16 @@ rows_between from to batches = length (flat_map rows_of (batches_between from to
 
 -- the groups of those batches, unless memory was refused
 abbrev pub GroupsOfPart : GroupWorkAt → ℕ → ℕ → Result GroupsAt Fault → Type 0
-GroupsOfPart work from to result = IfOk result (AreGroupsOf work (passing work.pick (flat_map rows_of (batches_between from to work.batches))))
+GroupsOfPart work from to result = IfOk result
+    (AreGroupsOf work (passing work.pick (flat_map rows_of (batches_between from to work.batches))))
 
 -- the groups of all batches, unless memory was refused
 abbrev pub GroupsOfAll : GroupWorkAt → Result GroupsAt Fault → Type 0
-GroupsOfAll work result = IfOk result (AreGroupsOf work (passing work.pick (flat_map rows_of work.batches)))
+GroupsOfAll work result =
+    IfOk result (AreGroupsOf work (passing work.pick (flat_map rows_of work.batches)))
 
--- a part of the batches: its rows that the filters let through, and how many of its rows are still to be fed
+-- a part of the batches: its rows that the filters let through, and how many of its rows are still
+-- to be fed
 pub record PartAt : Type 0 where
   pub batches : List BatchAt
   pub types : List DataType
@@ -76,7 +82,8 @@ pub record PartAt : Type 0 where
   pub rows : List Row
   pub left : ℕ
 
--- the part of what is grouped from one batch up to, not with, another, of which so many rows are still to be fed
+-- the part of what is grouped from one batch up to, not with, another, of which so many rows are
+-- still to be fed
 abbrev pub part_at : GroupWorkAt → ℕ → ℕ → ℕ → PartAt
 part_at work from to left = record {
   batches = work.batches;
@@ -104,11 +111,14 @@ pub record IsSamePart (before after : PartAt) : Type 0 where
   pub rows : after.rows ≡ before.rows
   pub left : after.left ≤ before.left
 
--- Inside: the rows of the batches from one up to, not with, another, and behind them the first rows of that one.
+-- Inside: the rows of the batches from one up to, not with, another, and after them the first rows
+-- of that one.
 abbrev pub rows_so_far : ℕ → ℕ → ℕ → List BatchAt → List Row
-rows_so_far from at row batches = flat_map rows_of (batches_between from at batches) ++ take row (rows_of (batch_at batches at))
+rows_so_far from at row batches =
+    flat_map rows_of (batches_between from at batches) ++ take row (rows_of (batch_at batches at))
 
--- Inside: the groups are those of the rows before the row `row` of the batch `at`, and the others can be fed.
+-- Inside: the groups are those of the rows before the row `row` of the batch `at`, and the others
+-- can be fed.
 pub record IsPartFed (work : GroupWorkAt) (from at row to : ℕ) (groups : GroupsAt) : Type 0 where
   pub can : CanBeGrouped work
   pub begun : from ≤ at

@@ -22,12 +22,14 @@ use Rattle.row_sources.specs.Running.{RowsAt}
 
 -- the types of what is wanted of each group
 abbrev pub wanted_types : Wanted → List DataType
-wanted_types wanted = map copied_type (map (item_type wanted.keys.items wanted.types.items) wanted.items.items)
+wanted_types wanted =
+    map copied_type (map (item_type wanted.keys.items wanted.types.items) wanted.items.items)
 
 -- what is wanted of the groups of those rows that the filters let through
 abbrev pub wanted_rows : Wanted → List Row → List Row
 wanted_rows wanted rows =
-    map (λ group. map (answered group) wanted.items.items) (groups_by wanted.keys.items (passing (pick_of wanted.picker) rows))
+    map (λ group. map (answered group) wanted.items.items)
+    (groups_by wanted.keys.items (passing (pick_of wanted.picker) rows))
 
 -- what is still to be given
 abbrev pub rows_left : RowsAt → Wanted → Stage → List Row
@@ -73,13 +75,17 @@ pub record IsGrouped (rows : RowsAt) (wanted : Wanted) (stage : Stage) : Type 0 
   pub holds : IsStage rows wanted stage
 
 -- the answer has what is wanted of the groups of all rows of the batches
-pub record AnswersAll (batches : List BatchAt) (wanted : Wanted) (answers : AnswersAt) : Type 0 where
+pub record AnswersAll (batches : List BatchAt) (wanted : Wanted)
+    (answers : AnswersAt) : Type 0 where
   pub over : IsOver batches answers
   pub types : answer_types answers ≡ wanted_types wanted
   pub rows : answers_ahead batches answers ≡ wanted_rows wanted (flat_map rows_of batches)
 
--- the answer has what is wanted of the groups of all rows, and all batches that were to be opened were
-pub record AreMade (before : RowsAt) (wanted : Wanted) (made : MadeGroups) (after : RowsAt) : Type 0 where
-  pub rows : answers_ahead made.batches.items made.answers ≡ wanted_rows wanted (plain_rows before.ahead)
+-- the answer has what is wanted of the groups of all rows, and all batches that were to be opened
+-- were
+pub record AreMade (before : RowsAt) (wanted : Wanted) (made : MadeGroups)
+    (after : RowsAt) : Type 0 where
+  pub rows : answers_ahead made.batches.items made.answers
+      ≡ wanted_rows wanted (plain_rows before.ahead)
   pub answering : IsAnswering wanted made
   pub all : after.opened ≡ before.batches

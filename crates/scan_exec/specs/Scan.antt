@@ -1,5 +1,6 @@
 -- What a scan gives, and what it opens.
-use Rattle.std.specs.Prelude.{◌≡◌, ◌≤◌, ◌<◌, ◌⊎◌, ℕ, ◌+◌, List, [], ◌++◌, length, map, take, Option, Some, None, Result, Ok, Err}
+use Rattle.std.specs.Prelude.{◌≡◌, ◌≤◌, ◌<◌, ◌⊎◌, ℕ, ◌+◌, List, [], ◌++◌, length, map, take, Option}
+use Rattle.std.specs.Prelude.{Some, None, Result, Ok, Err}
 use Rattle.std.specs.List.{last_or}
 use Rattle.arrays.specs.Batch.{BatchAt, rows_of}
 use Rattle.arrays.specs.Typed.{AreOf}
@@ -19,10 +20,11 @@ use Rattle.typed_plan.specs.View.{BoundAt}
 use Rattle.scan_exec.specs.Given.{given_of}
 use Rattle.batch_skipping.specs.Opened.{further_opened, first_opened}
 
--- The columns of the result; the types of the columns of its batches; the rows that are still to be given, each with the
--- number of the batch of the first place of which it comes, if it is one; the batches that are to be opened, each by its
--- place and its number there, in that order, and those that were; how many rows were given; what refused the scan; and how many rows
--- turns have still to look at.
+-- The columns of the result; the types of the columns of its batches; the rows that are still to be
+-- given, each with the number of the batch of the first place of which it comes, if it is one; the
+-- batches that are to be opened, each by its place and its number there, in that order, and those
+-- that were; how many rows were given; what refused the scan; and how many rows turns have still to
+-- look at.
 pub record ScanAt : Type 0 where
   pub schema : Schema
   pub types : List DataType
@@ -41,8 +43,8 @@ left scan = map (λ given. given.1) scan.ahead
 abbrev pub BeginsWith : List (ℕ × ℕ) → List (ℕ × ℕ) → Type 0
 BeginsWith whole begin = take (length begin) whole ≡ begin
 
--- A scan goes on over the same batches. Those opened are the first ones of those that are to be, and go on from those
--- opened before.
+-- A scan goes on over the same batches. Those opened are the first ones of those that are to be,
+-- and go on from those opened before.
 pub record Continues (before after : ScanAt) : Type 0 where
   pub schema : after.schema ≡ before.schema
   pub types : after.types ≡ before.types
@@ -55,7 +57,8 @@ abbrev pub IsLatest : Option ℕ → List (ℕ × ℕ) → Type 0
 IsLatest None opened = Unit {0}
 IsLatest (Some number) opened = last_or None opened ≡ Some (0, number)
 
--- A batch has the next rows, one or more, in columns of the types; an answer has no more rows than it may.
+-- A batch has the next rows, one or more, in columns of the types; an answer has no more rows than
+-- it may.
 pub record GivesRows (before : ScanAt) (batch : BatchAt) (after : ScanAt) : Type 0 where
   pub number : Option ℕ
   pub next : before.ahead ≡ map (λ row. (number, row)) (rows_of batch) ++ after.ahead
@@ -72,18 +75,21 @@ pub record GivesRows (before : ScanAt) (batch : BatchAt) (after : ScanAt) : Type
 -- why a scan may be refused: memory, or more rows than an answer has
 abbrev pub MayRefuse : ScanAt → Fault → Type 0
 MayRefuse before fault =
-    (fault ≡ OutOfMemory) ⊎ ((fault ≡ ResultTooLarge) × (most_answer_rows < before.given + length before.ahead))
+    (fault ≡ OutOfMemory)
+    ⊎ ((fault ≡ ResultTooLarge) × (most_answer_rows < before.given + length before.ahead))
 
--- What a call gives. At the end exactly the batches that were to be opened were, each once. What refused a scan is answered
--- from then on.
+-- What a call gives. At the end exactly the batches that were to be opened were, each once. What
+-- refused a scan is answered from then on.
 abbrev pub Gives : ScanAt → Result (Option BatchAt) Fault → ScanAt → Type 0
 Gives before result after = going before.refused result
   where
     going : Option Fault → Result (Option BatchAt) Fault → Type 0
     going (Some fault) result = (result ≡ Err fault) × (after ≡ before)
     going None (Ok (Some batch)) = GivesRows before batch after
-    going None (Ok None) = (before.ahead ≡ []) × (after ≡ record before { opened = before.batches; unseen = after.unseen })
-    going None (Err fault) = MayRefuse before fault × (after.refused ≡ Some fault) × Continues before after
+    going None (Ok None) = (before.ahead ≡ [])
+        × (after ≡ record before { opened = before.batches; unseen = after.unseen })
+    going None (Err fault) =
+        MayRefuse before fault × (after.refused ≡ Some fault) × Continues before after
 
 -- none is given of the rows that were looked at
 pub record GivesNoneYet (before after : ScanAt) : Type 0 where
@@ -92,11 +98,12 @@ pub record GivesNoneYet (before after : ScanAt) : Type 0 where
   pub on : Continues before after
   pub refused : after.refused ≡ None
 
--- What a turn gives: what a call gives, or nothing yet, of a scan that was not refused, where its patience has an end. Then it looked
--- at rows (`LooksOn`).
+-- What a turn gives: what a call gives, or nothing yet, of a scan that was not refused, where its
+-- patience has an end. Then it looked at rows (`LooksOn`).
 abbrev pub GivesTurn : Patience → ScanAt → Result (Turn BatchAt) Fault → ScanAt → Type 0
 GivesTurn patience before (Ok (Given batch)) after = Gives before (Ok (Some batch)) after
-GivesTurn patience before (Ok Working) after = (before.refused ≡ None) × GivesNoneYet before after × LooksOn patience before.unseen after.unseen
+GivesTurn patience before (Ok Working) after = (before.refused ≡ None) × GivesNoneYet before after
+    × LooksOn patience before.unseen after.unseen
 GivesTurn patience before (Ok End) after = Gives before (Ok None) after
 GivesTurn patience before (Err fault) after = Gives before (Err fault) after
 
@@ -107,7 +114,8 @@ pub record IsReadied (before after : ScanAt) : Type 0 where
   pub on : Continues before after
   pub refused : after.refused ≡ before.refused
 
--- a scan of a plan over the rows `from` up to, not with, `to` of its first place, before its first batch
+-- a scan of a plan over the rows `from` up to, not with, `to` of its first place, before its first
+-- batch
 pub record IsBeginning (bound : BoundAt) (from to : ℕ) (scan : ScanAt) : Type 0 where
   pub schema : scan.schema ≡ bound.schema
   pub types : LieBehind scan.schema.fields scan.types

@@ -101,9 +101,10 @@ fn turn_of_rows(
     }
 }
 
-// What a result takes of the rows of a source. Rows that are grouped are read without their filters, as slices; which of
-// them are grouped is for the filters to choose then. A column that the key names more than once is one part of it for the
-// groups, and items that are the same are made once.
+// What a result takes of the rows of a source. Rows that are grouped are read without their
+// filters, as slices; which of them are grouped is for the filters to choose then. A column that
+// the key names more than once is one part of it for the groups, and items that are the same are
+// made once.
 pub(crate) fn answer_of(
     alloc: Global,
     source: RowSource,

@@ -1,6 +1,7 @@
 //! Items that differ.
 
-ghost use Rattle.std.specs.Prelude.{◌≡◌, ◌<◌, ◌++◌, ◌∷◌, [], List, true, IfOk, IfSome, OnOk, length};
+ghost use Rattle.std.specs.Prelude.{◌≡◌, ◌<◌, ◌++◌, ◌∷◌, [], List, true, IfOk, IfSome, OnOk};
+ghost use Rattle.std.specs.Prelude.{length};
 ghost use Rattle.typed_plan.specs.declared.plan.Aggregate.{Aggregate};
 ghost use Rattle.scan_exec.specs.Different.{StandFor, item_at};
 
@@ -17,7 +18,8 @@ pub(crate) struct Different {
 impl Different {
     // Of these items.
     pub(crate) fn of(alloc: Global, items: &[Aggregate]) -> Result<Different, AllocError>
-        ensures { IfOk result (λ different. StandFor items.now different.items.items different.places.items) }
+        ensures { IfOk result
+            (λ different. StandFor items.now different.items.items different.places.items) }
     {
         let mut different = Different {
             items: Vec::new(alloc),
@@ -31,7 +33,8 @@ impl Different {
 
     // With an item more.
     fn push(&mut self, item: Aggregate) -> Result<(), AllocError>
-        ensures { OnOk result ((items : List Aggregate) → StandFor items self.old.items.items self.old.places.items
+        ensures { OnOk result
+            ((items : List Aggregate) → StandFor items self.old.items.items self.old.places.items
             → StandFor (items ++ item ∷ []) self.new.items.items self.new.places.items) }
     {
         if let Some(place) = place_of(self.items.as_slice(), item) {

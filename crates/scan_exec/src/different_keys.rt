@@ -1,12 +1,14 @@
 //! Columns of a key that differ.
 
-ghost use Rattle.std.specs.Prelude.{◌≡◌, ◌<◌, ◌++◌, ◌∷◌, [], ℕ, List, true, IfOk, IfSome, OnOk, length, map};
+ghost use Rattle.std.specs.Prelude.{◌≡◌, ◌<◌, ◌++◌, ◌∷◌, [], ℕ, List, true, IfOk, IfSome, OnOk};
+ghost use Rattle.std.specs.Prelude.{length, map};
 ghost use Rattle.scan_exec.specs.Different.{KeyedBy, column_at, item_by};
 
 use std::alloc::{AllocError, Global};
 use typed_plan::Aggregate;
 
-// The columns of a key that differ, by first appearance, and for each part of the key its place among them.
+// The columns of a key that differ, by first appearance, and for each part of the key its place
+// among them.
 #[derive(Drop)]
 pub(crate) struct DifferentKeys {
     pub(crate) columns: Vec<usize>,
@@ -16,7 +18,8 @@ pub(crate) struct DifferentKeys {
 impl DifferentKeys {
     // Of a key.
     pub(crate) fn of(alloc: Global, keys: &[usize]) -> Result<DifferentKeys, AllocError>
-        ensures { IfOk result (λ different. KeyedBy keys.now different.columns.items different.places.items) }
+        ensures { IfOk result
+            (λ different. KeyedBy keys.now different.columns.items different.places.items) }
     {
         let mut different = DifferentKeys {
             columns: Vec::new(alloc),
@@ -30,7 +33,8 @@ impl DifferentKeys {
 
     // With a part more.
     fn push(&mut self, key: usize) -> Result<(), AllocError>
-        ensures { OnOk result ((keys : List ℕ) → KeyedBy keys self.old.columns.items self.old.places.items
+        ensures { OnOk result
+            ((keys : List ℕ) → KeyedBy keys self.old.columns.items self.old.places.items
             → KeyedBy (keys ++ key ∷ []) self.new.columns.items self.new.places.items) }
     {
         if let Some(place) = place_of(self.columns.as_slice(), key) {

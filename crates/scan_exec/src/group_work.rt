@@ -6,7 +6,8 @@ ghost use Rattle.array_select.specs.Room.{most_batch_rows};
 ghost use Rattle.grouping.specs.Fed.{HasFed, batch_at};
 ghost use Rattle.row_sources.specs.Picking.{IsPick, chosen_rows, pick_of};
 ghost use Rattle.scan_base.specs.Limits.{most_rows};
-ghost use Rattle.scan_exec.specs.GroupWork.{CanBeGrouped, GroupWorkAt, GroupsOfAll, GroupsOfPart, IsPartOf, IsSamePart, part_at, rows_between, work_at};
+ghost use Rattle.scan_exec.specs.GroupWork.{CanBeGrouped, GroupWorkAt, GroupsOfAll, GroupsOfPart};
+ghost use Rattle.scan_exec.specs.GroupWork.{IsPartOf, IsSamePart, part_at, rows_between, work_at};
 ghost use Rattle.work_watch.specs.Told.{ToldAtLeast};
 
 use array_select::Selection;
@@ -18,10 +19,11 @@ use std::alloc::Global;
 use std::marker::Model;
 use work_watch::{Watches, tell};
 
-// How many rows a turn of feeding looks at, and behind them those of the slice in hand.
+// How many rows a turn of feeding looks at, and after them those of the slice in hand.
 const TURN_ROWS: usize = 1_048_576;
 
-// How many rows of a batch are looked at at once, at most: those that are chosen, and their groups, lie in a near cache.
+// How many rows of a batch are looked at at once, at most: those that are chosen, and their groups,
+// lie in a near cache.
 const FED_ROWS: usize = 16_384;
 
 /// What is grouped: those rows of batches that filters let through.
@@ -29,7 +31,8 @@ const FED_ROWS: usize = 16_384;
 pub struct GroupWork<'t> {
     /// What the hashes of keys begin with.
     pub seed: HashSeed,
-    /// The batches, the types of their columns, the columns that are the key, and what is wanted of each group.
+    /// The batches, the types of their columns, the columns that are the key, and what is wanted of
+    /// each group.
     pub shape: Grouping<'t>,
     /// The filters.
     pub picker: &'t Picker,
@@ -42,8 +45,9 @@ struct Pace {
     rows: usize,
 }
 
-/// A part of the batches, from one up to, not with, another, with the groups of its first rows, which were fed. They are those of the
-/// batches before `at`, and the first `row` ones of that batch. A contract sees what is grouped, and how many rows are left.
+/// A part of the batches, from one up to, not with, another, with the groups of its first rows,
+/// which were fed. They are those of the batches before `at`, and the first `row` ones of that
+/// batch. A contract sees what is grouped, and how many rows are left.
 pub struct FedPart<'t> {
     work: GroupWork<'t>,
     groups: Groups<'t>,
@@ -58,13 +62,16 @@ pub struct FedPart<'t> {
 
 impl<'t> Model for FedPart<'t> {
     ghost use Rattle.std.specs.Prelude.{◌-◌};
-    ghost use Rattle.scan_exec.specs.GroupWork.{IsPace, IsPartFed, PartAt, part_at, rows_between, work_at};
+    ghost use Rattle.scan_exec.specs.GroupWork.{IsPace, IsPartFed, PartAt, part_at, rows_between};
+    ghost use Rattle.scan_exec.specs.GroupWork.{work_at};
 
     ghost Value = { PartAt };
 
-    ghost view = { λ p. part_at (work_at p.work) p.from p.to (rows_between p.at p.to p.work.shape.batches.now - p.row) };
+    ghost view = { λ p. part_at (work_at p.work) p.from p.to
+        (rows_between p.at p.to p.work.shape.batches.now - p.row) };
 
-    ghost invariant = { λ p. IsPartFed (work_at p.work) p.from p.at p.row p.to p.groups × IsPace p.pace.weight p.pace.rows };
+    ghost invariant = { λ p. IsPartFed (work_at p.work) p.from p.at p.row p.to p.groups
+        × IsPace p.pace.weight p.pace.rows };
 }
 
 // Written out, so that dropping it is one call (docs/DECISIONS.md).
@@ -88,7 +95,8 @@ pub trait GroupsBatches {
     ghost use Rattle.std.specs.Prelude.{OnOk};
     ghost use Rattle.scan_exec.specs.GroupWork.{CanBeGrouped, GroupsOfAll, work_at};
 
-    /// The groups of those rows of all batches that the filters let through, in the order of the batches. Who watches may end it.
+    /// The groups of those rows of all batches that the filters let through, in the order of the
+    /// batches. Who watches may end it.
     ///
     /// # Errors
     ///
@@ -132,7 +140,8 @@ impl<'t> GroupWork<'t> {
         requires can { CanBeGrouped (work_at self.now) }
         requires ordered { from ≤ to }
         requires there { to ≤ length self.now.shape.batches.now }
-        ensures { IfOk result (λ part. part ≡ part_at (work_at self.now) from to (rows_between from to self.now.shape.batches.now)) }
+        ensures { IfOk result (λ part. part ≡ part_at (work_at self.now) from to
+            (rows_between from to self.now.shape.batches.now)) }
     {
         let groups = Groups::new(alloc, self.seed, self.shape)?;
         Ok(FedPart {
@@ -151,7 +160,8 @@ impl<'t> GroupWork<'t> {
     }
 }
 
-// Some rows of a batch that are fed, the number of the batch among all, and what chooses rows of it.
+// Some rows of a batch that are fed, the number of the batch among all, and what chooses rows of
+// it.
 #[derive(Clone, Copy, Drop)]
 struct Feeding<'a> {
     number: usize,
@@ -169,13 +179,15 @@ fn feed_slice(
     requires ready { groups.old.refused ≡ None }
     requires there { feeding.now.number < length groups.old.batches }
     requires is { batch_at groups.old.batches feeding.now.number ≡ feeding.now.slice.batch.now }
-    requires pick { IsPick (length feeding.now.slice.batch.now.columns) (pick_of feeding.now.picker.now) }
+    requires pick { IsPick (length feeding.now.slice.batch.now.columns)
+        (pick_of feeding.now.picker.now) }
     requires ordered { feeding.now.slice.from ≤ feeding.now.slice.to }
     requires within { feeding.now.slice.to ≤ feeding.now.slice.batch.now.rows }
     requires small { feeding.now.slice.to ≤ most_batch_rows }
     requires few { groups.old.count + (feeding.now.slice.to - feeding.now.slice.from) ≤ most_rows }
     ensures { OnOk result (HasFed groups.old groups.new
-        (map (row_of feeding.now.slice.batch.now.columns) (chosen_rows (pick_of feeding.now.picker.now) feeding.now.slice))) }
+        (map (row_of feeding.now.slice.batch.now.columns)
+        (chosen_rows (pick_of feeding.now.picker.now) feeding.now.slice))) }
 {
     selection.clear();
     feeding.picker.select(alloc, &feeding.slice, selection)?;
@@ -239,9 +251,11 @@ impl<'t> FedPart<'t> {
         Ok((part, counted))
     }
 
-    /// The same part, with slices of its batches fed for a turn: 1,048,576 rows, and behind them those of the slice in hand. A row
-    /// counts as often as filters compare in it (`Picker::weight`). A slice has as many rows as the filters look at at once
-    /// (`Picker::most_rows`), and 16,384 at most. Whether there are more: where not, its groups free their tables.
+    /// The same part, with slices of its batches fed for a turn: 1,048,576 rows, and after them
+    /// those of the slice in hand. A row counts as often as filters compare in it
+    /// (`Picker::weight`). A slice has as many rows as the filters look at at once
+    /// (`Picker::most_rows`), and 16,384 at most. Whether there are more: where not, its groups
+    /// free their tables.
     ///
     /// # Errors
     ///
@@ -263,15 +277,16 @@ impl<'t> FedPart<'t> {
         Ok((part, more))
     }
 
-    /// The groups of the part, once its other rows are fed. Who watches is told of the rows of each slice, and may end it behind each.
-    /// A row counts as often as filters compare in it.
+    /// The groups of the part, once its other rows are fed. Who watches is told of the rows of each
+    /// slice, and may end it after each. A row counts as often as filters compare in it.
     ///
     /// # Errors
     ///
     /// F21 (`Fault::OutOfMemory`) where memory is refused, or who watches ends it.
     pub fn into_groups<W: Watches>(self, alloc: Global, watch: &mut W) -> Result<Groups<'t>, Fault>
         requires ready { W.ready watch.old }
-        ensures groups { (work : GroupWorkAt) (from to : ℕ) → IsPartOf work from to self.entry → GroupsOfPart work from to result }
+        ensures groups { (work : GroupWorkAt) (from to : ℕ) → IsPartOf work from to self.entry →
+            GroupsOfPart work from to result }
         ensures ready { OnOk result (W.ready watch.new) }
         ensures watched { W.watched watch.old watch.new }
         ensures told { OnOk result (ToldAtLeast W.told self.entry.left watch.old watch.new) }
@@ -288,7 +303,8 @@ impl<'t> FedPart<'t> {
     // The groups, where all rows were fed. They free their tables.
     fn groups(self) -> Groups<'t>
         requires { self.left ≡ 0 }
-        ensures { (work : GroupWorkAt) (from to : ℕ) → IsPartOf work from to self.entry → GroupsOfPart work from to (Ok result) }
+        ensures { (work : GroupWorkAt) (from to : ℕ) → IsPartOf work from to self.entry →
+            GroupsOfPart work from to (Ok result) }
     {
         let FedPart {
             work: _,

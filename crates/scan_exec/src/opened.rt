@@ -11,7 +11,8 @@ pub(crate) fn further_batches(
     alloc: Global,
     lists: &[OpenedList],
 ) -> Result<Vec<(usize, usize)>, AllocError>
-    ensures { IfOk result (λ batches. batches.items ≡ numbered_batches 1 (drop 1 (map (λ list. list.numbers.items) lists.now))) }
+    ensures { IfOk result (λ batches. batches.items
+        ≡ numbered_batches 1 (drop 1 (map (λ list. list.numbers.items) lists.now))) }
 {
     let mut batches = Vec::new(alloc);
     for place in 1..lists.len() {
@@ -20,13 +21,14 @@ pub(crate) fn further_batches(
     Ok(batches)
 }
 
-// The batches of these numbers of a place, behind others.
+// The batches of these numbers of a place, after others.
 pub(crate) fn push_numbers(
     batches: &mut Vec<(usize, usize)>,
     place: usize,
     numbers: &[usize],
 ) -> Result<(), AllocError>
-    ensures { OnOk result (batches.new.items ≡ batches.old.items ++ map (λ number. (place, number)) numbers.now) }
+    ensures { OnOk result
+        (batches.new.items ≡ batches.old.items ++ map (λ number. (place, number)) numbers.now) }
 {
     for number in numbers {
         batches.push((place, *number))?;

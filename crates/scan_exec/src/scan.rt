@@ -32,9 +32,9 @@ use work_watch::{Unwatched, Watches};
 // How many rows an answer has at most.
 const MAX_ANSWER_ROWS: usize = 67_108_864;
 
-/// What a plan gives of a range of its first place's rows, still to be given, batch by batch. A contract sees these rows,
-/// each with the batch of the first place of which it comes; which batches are to be opened, and which were; and what
-/// refused the scan.
+/// What a plan gives of a range of its first place's rows, still to be given, batch by batch. A
+/// contract sees these rows, each with the batch of the first place of which it comes; which
+/// batches are to be opened, and which were; and what refused the scan.
 pub struct Scan {
     schema: Arc<Schema>,
     answer: Answer,
@@ -52,9 +52,11 @@ impl Model for Scan {
 
     ghost Value = { ScanAt };
 
-    ghost view = { λ s. scan_at (arc_value s.schema) (giving_at s.answer) s.batches.items s.further s.given s.refused };
+    ghost view = { λ s. scan_at (arc_value s.schema)
+        (giving_at s.answer) s.batches.items s.further s.given s.refused };
 
-    ghost invariant = { λ s. IsGiving s.answer × IsScan (giving_at s.answer) s.batches.items s.further s.given };
+    ghost invariant = { λ s. IsGiving s.answer
+        × IsScan (giving_at s.answer) s.batches.items s.further s.given };
 }
 
 // Written out, so that dropping it is one call (docs/DECISIONS.md).
@@ -72,9 +74,9 @@ impl Drop for Scan {
 }
 
 impl Scan {
-    /// The scan of a plan over the rows `range.start` up to, not with, `range.end` of its first place. Rows that the place
-    /// does not have are none. The first row is looked for by halves. The further places are opened here, and the hashes of
-    /// their keys begin with the seed.
+    /// The scan of a plan over the rows `range.start` up to, not with, `range.end` of its first
+    /// place. Rows that the place does not have are none. The first row is looked for by halves.
+    /// The further places are opened here, and the hashes of their keys begin with the seed.
     ///
     /// # Errors
     ///
@@ -98,8 +100,8 @@ impl Scan {
         Scan::watched(alloc, plan, reading, &mut Unwatched)
     }
 
-    /// The same, watched: who watches may end it while batches are judged by their statistics, and while the further places are
-    /// read.
+    /// The same, watched: who watches may end it while batches are judged by their statistics, and
+    /// while the further places are read.
     ///
     /// # Errors
     ///
@@ -154,8 +156,8 @@ impl Scan {
         &self.schema
     }
 
-    /// The same scan, whose groups are made, if it makes groups. Who watches may end it. What comes next is as before, but that all
-    /// batches of a grouped query are opened.
+    /// The same scan, whose groups are made, if it makes groups. Who watches may end it. What comes
+    /// next is as before, but that all batches of a grouped query are opened.
     ///
     /// # Errors
     ///
@@ -190,14 +192,16 @@ impl Scan {
         })
     }
 
-    /// The next rows, 65,536 or fewer, as a batch. Rows of one place come batch by batch of its table: where they stand
-    /// next to each other they are slices of the table's columns, and no value is copied; else they are gathered into
-    /// buffers of their own. `None` where no row is left. What refuses a scan is answered from then on.
+    /// The next rows, 65,536 or fewer, as a batch. Rows of one place come batch by batch of its
+    /// table: where they stand next to each other they are slices of the table's columns, and no
+    /// value is copied; else they are gathered into buffers of their own. `None` where no row is
+    /// left. What refuses a scan is answered from then on.
     ///
     /// # Errors
     ///
-    /// F20 (`Fault::ResultTooLarge`) where the answer has more than 67,108,864 rows: what was given of it before is a
-    /// beginning, which may be empty. F21 (`Fault::OutOfMemory`) where memory is refused.
+    /// F20 (`Fault::ResultTooLarge`) where the answer has more than 67,108,864 rows: what was given
+    /// of it before is a beginning, which may be empty. F21 (`Fault::OutOfMemory`) where memory is
+    /// refused.
     pub fn next(&mut self, alloc: Global) -> Result<Option<Batch>, Fault>
         ensures { Gives self.old result self.new }
     {
@@ -208,8 +212,9 @@ impl Scan {
         }
     }
 
-    /// A turn to the next batch. `Turn::Working` where none of the rows is given that the turn looked at: the next turn goes
-    /// on behind them. Groups that were not made before are made in one turn.
+    /// A turn to the next batch. `Turn::Working` where none of the rows is given that the turn
+    /// looked at: the next turn goes on after them. Groups that were not made before are made in
+    /// one turn.
     ///
     /// # Errors
     ///
@@ -229,7 +234,8 @@ impl Scan {
         }
     }
 
-    /// The batches that were opened, in order, each by the number of its place and its own number there, both from 0.
+    /// The batches that were opened, in order, each by the number of its place and its own number
+    /// there, both from 0.
     pub fn opened(&self) -> &[(usize, usize)]
         ensures { result.now ≡ self.now.opened }
     {
@@ -243,9 +249,9 @@ impl Scan {
         self.given
     }
 
-    /// How many morsels the scan has: one for each batch of the first place that is to be opened. Its rows are those of its
-    /// morsels, in order. `None` for a scan that makes groups, and for one that has begun: that opened a batch of the first
-    /// place, gave rows, or was refused.
+    /// How many morsels the scan has: one for each batch of the first place that is to be opened.
+    /// Its rows are those of its morsels, in order. `None` for a scan that makes groups, and for
+    /// one that has begun: that opened a batch of the first place, gave rows, or was refused.
     pub fn morsels(&self) -> Option<usize>
         ensures { IfSome result (HasMorsels self.now) }
     {
@@ -258,17 +264,20 @@ impl Scan {
         Some(self.batches.len() - self.further)
     }
 
-    /// A morsel of a scan of which no batch of the first place was opened: the rows of one such batch, counted from 0 in the
-    /// order of opening, as a scan of their own. It shares tables, filters and the right sides of joins, which are not built
-    /// again, and takes memory for a few handles. Threads may ask one scan for morsels at the same time.
+    /// A morsel of a scan of which no batch of the first place was opened: the rows of one such
+    /// batch, counted from 0 in the order of opening, as a scan of their own. It shares tables,
+    /// filters and the right sides of joins, which are not built again, and takes memory for a few
+    /// handles. Threads may ask one scan for morsels at the same time.
     ///
     /// # Errors
     ///
-    /// `AllocError` where memory is refused. A scan that makes groups has no morsel, and answers it too.
+    /// `AllocError` where memory is refused. A scan that makes groups has no morsel, and answers it
+    /// too.
     pub fn morsel(&self, alloc: Global, number: usize) -> Result<Scan, AllocError>
         requires unopened { of_first self.now.opened ≡ [] }
         requires there { number < length (of_first self.now.batches) }
-        ensures { IfOk result (λ morsel. morsel ≡ record (morsel_of self.now number) { unseen = morsel.unseen }) }
+        ensures { IfOk result
+            (λ morsel. morsel ≡ record (morsel_of self.now number) { unseen = morsel.unseen }) }
     {
         let Answer::Rows(rows) = &self.answer else {
             return Err(AllocError);
@@ -298,7 +307,8 @@ fn turn_counted(
     requires giving { IsGiving answer.old }
     requires few { given.old ≤ most_answer_rows }
     ensures giving { IsGiving answer.new }
-    ensures counts { CountsTurn patience (giving_at answer.old) given.old result (giving_at answer.new) given.new }
+    ensures counts { CountsTurn patience (giving_at answer.old) given.old result
+        (giving_at answer.new) given.new }
 {
     match answer.turn(alloc, patience)? {
         Turn::Given(batch) => {

@@ -14,7 +14,8 @@ use std::alloc::{AllocError, Global};
 use std::marker::Model;
 use work_watch::Watches;
 
-// Groups, and the columns of their answer that are given: in this order, and as often as they are named.
+// Groups, and the columns of their answer that are given: in this order, and as often as they are
+// named.
 pub(crate) struct ShownGroups {
     groups: GroupedRows,
     shown: Picker,

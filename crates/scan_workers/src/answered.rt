@@ -1,4 +1,5 @@
-// What the workers and the reader hand to each other. Nothing of it is `Drop`: who has an answer hands it on, and cannot lose it.
+// What the workers and the reader hand to each other. Nothing of it is `Drop`: who has an answer
+// hands it on, and cannot lose it.
 
 ghost use Rattle.std.specs.Prelude.{◌≡◌};
 
@@ -66,7 +67,8 @@ pub struct Done<K: Truth<A>, A> {
     pub stage: Stage,
 }
 
-// Lets go of what was done of a morsel, if anything was. Only who may drop an answer can call it, and the code of the workers may not.
+// Lets go of what was done of a morsel, if anything was. Only who may drop an answer can call it,
+// and the code of the workers may not.
 pub fn let_go<K: Truth<A>, A: Drop>(done: Option<Done<K, A>>) {
     match done {
         Some(Done { answered, stage: _ }) => drop(answered.into_answer()),

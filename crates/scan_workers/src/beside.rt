@@ -1,4 +1,4 @@
-//! The reader, and the workers beside it.
+//! The reader, and the workers next to it.
 
 ghost use Rattle.std.specs.Prelude.{◌≡◌, ◌<◌, ℕ, All, IfOk, OnErr};
 
@@ -21,8 +21,10 @@ fn split_all(
     me: &mut Claimer,
     workers: usize,
 ) -> Result<Vec<Claimer>, AllocError>
-    requires word { (me.old.table_id ≡ word.now.shared.table_id) × (word.now.shared.table_id.words ≡ 1) }
-    ensures theirs { IfOk result (λ v. All (λ claimer. claimer.table_id ≡ word.now.shared.table_id) v.items) }
+    requires word { (me.old.table_id ≡ word.now.shared.table_id)
+        × (word.now.shared.table_id.words ≡ 1) }
+    ensures theirs { IfOk result
+        (λ v. All (λ claimer. claimer.table_id ≡ word.now.shared.table_id) v.items) }
     ensures mine { me.new.table_id ≡ me.old.table_id }
 {
     let mut claimers = Vec::new(alloc);
@@ -44,14 +46,15 @@ struct Crew {
 fn crew_of(alloc: Global, others: usize) -> Result<Crew, AllocError>
     ensures word { IfOk result (λ crew. crew.word.shared.table_id.words ≡ 1) }
     ensures mine { IfOk result (λ crew. crew.me.table_id ≡ crew.word.shared.table_id) }
-    ensures theirs { IfOk result (λ crew. All (λ claimer. claimer.table_id ≡ crew.word.shared.table_id) crew.others.items) }
+    ensures theirs { IfOk result
+        (λ crew. All (λ claimer. claimer.table_id ≡ crew.word.shared.table_id) crew.others.items) }
 {
     let (word, mut me) = open(alloc)?;
     let others = split_all(alloc, &word, &mut me, others)?;
     Ok(Crew { word, me, others })
 }
 
-// Who works beside others.
+// Who works next to others.
 trait Side {
     type Out;
 
@@ -64,7 +67,8 @@ trait Side {
         ensures { does self.old result self.new };
 }
 
-// Works beside claimers, each of which answers morsels in a thread of its own where one can be made. This thread starts them all.
+// Works next to claimers, each of which answers morsels in a thread of its own where one can be
+// made. This thread starts them all.
 #[cycle(threads)]
 fn work_beside<K, A, W, G, R, M>(
     exchange: &Exchange<'_, K, A, W, G, R>,
@@ -79,7 +83,8 @@ where
     R: Threads + Wait + Sync,
     M: Side,
     requires ready { W.ready exchange.now.work.now }
-    requires theirs { All (λ claimer. claimer.table_id ≡ exchange.now.word.shared.table_id) claimers.old }
+    requires theirs { All (λ claimer. claimer.table_id ≡ exchange.now.word.shared.table_id)
+        claimers.old }
     requires mine { M.begins mine.old }
     ensures { M.does mine.old result mine.new }
 {
@@ -89,7 +94,7 @@ where
     }
 }
 
-// The same beside a claimer and others.
+// The same next to a claimer and others.
 #[cycle(threads)]
 fn work_beside_first<K, A, W, G, R, M>(
     exchange: &Exchange<'_, K, A, W, G, R>,
@@ -106,23 +111,28 @@ where
     M: Side,
     requires ready { W.ready exchange.now.work.now }
     requires first { first.old.table_id ≡ exchange.now.word.shared.table_id }
-    requires others { All (λ claimer. claimer.table_id ≡ exchange.now.word.shared.table_id) others.old }
+    requires others { All (λ claimer. claimer.table_id ≡ exchange.now.word.shared.table_id)
+        others.old }
     requires mine { M.begins mine.old }
     ensures { M.does mine.old result mine.new }
 {
     let mut helper = ||
-        requires { W.ready exchange.now.work.now × (first.now.table_id ≡ exchange.now.word.shared.table_id) }
+        requires { W.ready exchange.now.work.now
+            × (first.now.table_id ≡ exchange.now.word.shared.table_id) }
     { exchange.answer_all(first) };
     let mut rest = || -> M::Out
-        requires { W.ready exchange.now.work.now × All (λ claimer. claimer.table_id ≡ exchange.now.word.shared.table_id) others.now × M.begins mine.now }
+        requires { W.ready exchange.now.work.now
+            × All (λ claimer. claimer.table_id ≡ exchange.now.word.shared.table_id) others.now
+            × M.begins mine.now }
         ensures { M.does mine.entry.now result mine.exit.now }
     { work_beside(exchange, others, mine) };
     let (_, out) = join_mut(exchange.rt, &mut helper, &mut rest);
     out
 }
 
-// As `work_beside`, behind a decoy: a thread that is started first, and does nothing. A kernel may put the first thread on the processor
-// of who starts it, where it waits while that one works, and the next ones on idle processors. So the decoy waits in place of a worker.
+// As `work_beside`, after a decoy: a thread that is started first, and does nothing. A kernel may
+// put the first thread on the processor of who starts it, where it waits while that one works, and
+// the next ones on idle processors. So the decoy waits in place of a worker.
 fn work_behind_decoy<K, A, W, G, R, M>(
     exchange: &Exchange<'_, K, A, W, G, R>,
     claimers: &mut [Claimer],
@@ -136,13 +146,16 @@ where
     R: Threads + Wait + Sync,
     M: Side,
     requires ready { W.ready exchange.now.work.now }
-    requires theirs { All (λ claimer. claimer.table_id ≡ exchange.now.word.shared.table_id) claimers.old }
+    requires theirs { All (λ claimer. claimer.table_id ≡ exchange.now.word.shared.table_id)
+        claimers.old }
     requires mine { M.begins mine.old }
     ensures { M.does mine.old result mine.new }
 {
     let mut decoy = || {};
     let mut rest = || -> M::Out
-        requires { W.ready exchange.now.work.now × All (λ claimer. claimer.table_id ≡ exchange.now.word.shared.table_id) claimers.now × M.begins mine.now }
+        requires { W.ready exchange.now.work.now
+            × All (λ claimer. claimer.table_id ≡ exchange.now.word.shared.table_id) claimers.now
+            × M.begins mine.now }
         ensures { M.does mine.entry.now result mine.exit.now }
     { work_beside(exchange, claimers, mine) };
     let (_, out) = join_mut(exchange.rt, &mut decoy, &mut rest);
@@ -167,10 +180,12 @@ where
 
     ghost use Rattle.std.specs.Prelude.{◌≡◌};
 
-    ghost begins = { λ r. (r.pull.given ≡ 0) × W.ready r.pull.exchange.now.work.now × S.takes r.reader.now (λ n a. ∥ K.right n a ∥₁) (W.count r.pull.exchange.now.work.now) };
+    ghost begins = { λ r. (r.pull.given ≡ 0) × W.ready r.pull.exchange.now.work.now
+        × S.takes r.reader.now (λ n a. ∥ K.right n a ∥₁) (W.count r.pull.exchange.now.work.now) };
 
     ghost does = { λ old out new. (new.reader.ghost_name ≡ old.reader.ghost_name)
-        × S.reads old.reader.now (λ n a. ∥ K.right n a ∥₁) (W.count old.pull.exchange.now.work.now) out new.reader.now };
+        × S.reads old.reader.now (λ n a. ∥ K.right n a ∥₁)
+        (W.count old.pull.exchange.now.work.now) out new.reader.now };
 
     fn work(&mut self) -> S::Out {
         let out = self.reader.read(&mut self.pull);
@@ -195,9 +210,11 @@ where
     S: Reads<A>,
     requires ready { W.ready exchange.now.work.now }
     requires mine { me.table_id ≡ exchange.now.word.shared.table_id }
-    requires theirs { All (λ claimer. claimer.table_id ≡ exchange.now.word.shared.table_id) claimers.old }
+    requires theirs { All (λ claimer. claimer.table_id ≡ exchange.now.word.shared.table_id)
+        claimers.old }
     requires takes { S.takes reader.old (λ n a. ∥ K.right n a ∥₁) (W.count exchange.now.work.now) }
-    ensures read { S.reads reader.old (λ n a. ∥ K.right n a ∥₁) (W.count exchange.now.work.now) result reader.new }
+    ensures read { S.reads reader.old (λ n a. ∥ K.right n a ∥₁)
+        (W.count exchange.now.work.now) result reader.new }
 {
     let mut pull = Pull {
         exchange,
@@ -236,7 +253,7 @@ fn put_down<K: Truth<A>, A: Drop, W: Work<Answer = A>, G, R>(pull: Pull<'_, '_, 
     }
 }
 
-// Does nothing, but that the reader is used behind the work ties what was read to it.
+// Does nothing, but that the reader is used after the work ties what was read to it.
 fn take_back<T>(x: &mut T)
     ensures { x.new ≡ x.old }
 {}
@@ -251,7 +268,8 @@ where
     requires ready { W.ready work.now }
     requires right { (n : ℕ) (a : A) → W.answers work.now n a → ∥ K.right n a ∥₁ }
     requires takes { S.takes reader.old (λ n a. ∥ K.right n a ∥₁) (W.count work.now) }
-    ensures read { S.reads reader.old (λ n a. ∥ K.right n a ∥₁) (W.count work.now) result reader.new }
+    ensures read { S.reads reader.old (λ n a. ∥ K.right n a ∥₁)
+        (W.count work.now) result reader.new }
 {
     let mut answers: InTurn<'_, K, A, W, G> = InTurn {
         alloc,
@@ -263,9 +281,10 @@ where
     reader.read(&mut answers)
 }
 
-// How many threads work beside the reader, with it one of so many workers. Where no morsel is chosen first, each of them may have one
-// large morsel, and the threads are one more. So where there are no more morsels than workers, the one that a kernel puts on the
-// reader's processor finds none left, and nobody waits for it.
+// How many threads work next to the reader, with it one of so many workers. Where no morsel is
+// chosen first, each of them may have one large morsel, and the threads are one more. So where
+// there are no more morsels than workers, the one that a kernel puts on the reader's processor
+// finds none left, and nobody waits for it.
 fn helpers_of<W: Work>(work: &W, workers: usize) -> usize
     requires { 1 < workers }
 {
@@ -279,7 +298,8 @@ fn helpers_of<W: Work>(work: &W, workers: usize) -> usize
 // So many morsels each worker may have begun, with those whose answers are there.
 const MOST_BEGUN: usize = 3;
 
-// How many morsels there are, and how many may be begun at once. So many answers may be made or there as there are workers.
+// How many morsels there are, and how many may be begun at once. So many answers may be made or
+// there as there are workers.
 fn bounds_of<W: Work>(work: &W, workers: usize) -> Bounds {
     let begun = if work.chooses_first() {
         workers.saturating_mul(MOST_BEGUN)
@@ -327,7 +347,8 @@ where
     requires right { (n : ℕ) (a : A) → W.answers work.now n a → ∥ K.right n a ∥₁ }
     requires known { (n : ℕ) (a : A) → ∥ K.right n a ∥₁ → ∥ W.answers work.now n a ∥₁ }
     requires takes { S.takes reader.old (λ n a. ∥ K.right n a ∥₁) (W.count work.now) }
-    ensures read { IfOk result (λ out. S.reads reader.old (λ n a. ∥ K.right n a ∥₁) (W.count work.now) out reader.new) }
+    ensures read { IfOk result
+        (λ out. S.reads reader.old (λ n a. ∥ K.right n a ∥₁) (W.count work.now) out reader.new) }
     ensures kept { OnErr result (reader.new ≡ reader.old) }
 {
     let window: Window<K, A> = Window::new(alloc, bounds_of(work, workers))?;
@@ -376,7 +397,8 @@ where
     requires right { (n : ℕ) (a : A) → W.answers work.now n a → ∥ K.right n a ∥₁ }
     requires known { (n : ℕ) (a : A) → ∥ K.right n a ∥₁ → ∥ W.answers work.now n a ∥₁ }
     requires takes { S.takes reader.old (λ n a. ∥ K.right n a ∥₁) (W.count work.now) }
-    ensures read { IfOk result (λ out. S.reads reader.old (λ n a. ∥ K.right n a ∥₁) (W.count work.now) out reader.new) }
+    ensures read { IfOk result
+        (λ out. S.reads reader.old (λ n a. ∥ K.right n a ∥₁) (W.count work.now) out reader.new) }
     ensures kept { OnErr result (reader.new ≡ reader.old) }
 {
     if workers < 2 || work.count() < 2 {
@@ -385,10 +407,11 @@ where
     read_at_once::<K, A, W, G, R, S>(rt, alloc, work, workers, gate, reader)
 }
 
-/// Has the answers read in the order of the morsels. So many workers make them. One is the reader, where the next answer is not there
-/// yet. The others are threads beside it, and one thread more is started. It does nothing where morsels are chosen first, and else
-/// it answers what is left. No more answers are held at once than there are workers. With fewer than two, or fewer than two morsels, no
-/// thread is started.
+/// Has the answers read in the order of the morsels. So many workers make them. One is the reader,
+/// where the next answer is not there yet. The others are threads next to it, and one thread more
+/// is started. It does nothing where morsels are chosen first, and else it answers what is left. No
+/// more answers are held at once than there are workers. With fewer than two, or fewer than two
+/// morsels, no thread is started.
 ///
 /// # Errors
 ///
@@ -409,7 +432,8 @@ where
     S: Reads<A>,
     requires ready { W.ready work.now }
     requires takes { S.takes reader.old (λ n a. ∥ W.answers work.now n a ∥₁) (W.count work.now) }
-    ensures read { IfOk result (λ out. S.reads reader.old (λ n a. ∥ W.answers work.now n a ∥₁) (W.count work.now) out reader.new) }
+    ensures read { IfOk result (λ out. S.reads reader.old (λ n a. ∥ W.answers work.now n a ∥₁)
+        (W.count work.now) out reader.new) }
     ensures kept { OnErr result (reader.new ≡ reader.old) }
 {
     in_order_of::<Brand, A, W, G, R, S>(rt, alloc, work, workers, gate, reader)

@@ -1,5 +1,5 @@
-// The claim word: all workers draw their morsels from it. The lists of what they drew hold together each number below the word
-// once.
+// The claim word: all workers draw their morsels from it. The lists of what they drew hold together
+// each number below the word once.
 
 ghost use Rattle.std.specs.Prelude.{◌≡◌, ◌++◌, ◌∷◌, [], IfOk};
 
@@ -49,7 +49,8 @@ pub type Claimer = Seat<(), Drawn>;
 
 // A word at 0, and the one claimer.
 pub fn open(alloc: Global) -> Result<(Word, Claimer), AllocError>
-    ensures word { IfOk result (λ pair. (pair.1.table_id ≡ pair.0.shared.table_id) × (pair.0.shared.table_id.words ≡ 1)) }
+    ensures word { IfOk result
+        (λ pair. (pair.1.table_id ≡ pair.0.shared.table_id) × (pair.0.shared.table_id.words ≡ 1)) }
     ensures drawn { IfOk result (λ pair. pair.1.me ≡ ([], [])) }
 {
     Word::of_words(alloc, &[0], &())
@@ -57,7 +58,8 @@ pub fn open(alloc: Global) -> Result<(Word, Claimer), AllocError>
 
 // Draws the next number.
 pub fn draw(word: &Word, me: &mut Claimer) -> u64
-    requires word { (me.old.table_id ≡ word.now.shared.table_id) × (word.now.shared.table_id.words ≡ 1) }
+    requires word { (me.old.table_id ≡ word.now.shared.table_id)
+        × (word.now.shared.table_id.words ≡ 1) }
     ensures word { me.new.table_id ≡ me.old.table_id }
     ensures drawn { me.new.me ≡ (me.old.me.0 ++ result ∷ [], me.old.me.1) }
 {
@@ -66,7 +68,8 @@ pub fn draw(word: &Word, me: &mut Claimer) -> u64
 
 // A second claimer.
 pub fn split(word: &Word, me: &mut Claimer) -> Claimer
-    requires word { (me.old.table_id ≡ word.now.shared.table_id) × (word.now.shared.table_id.words ≡ 1) }
+    requires word { (me.old.table_id ≡ word.now.shared.table_id)
+        × (word.now.shared.table_id.words ≡ 1) }
     ensures word { (me.new.table_id ≡ me.old.table_id) × (result.table_id ≡ me.old.table_id) }
     ensures drawn { (me.new.me ≡ me.old.me) × (result.me ≡ ([], [])) }
 {

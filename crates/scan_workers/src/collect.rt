@@ -39,7 +39,7 @@ impl<A: Drop> Reads<A> for Collected<A> {
 ///
 /// # Errors
 ///
-/// `AllocError` where memory is refused, behind the end of every worker.
+/// `AllocError` where memory is refused, after the end of every worker.
 pub fn run<A, W, G, R>(
     rt: &R,
     alloc: Global,
@@ -53,7 +53,8 @@ where
     G: Gate + Sync,
     R: Threads + Wait + Sync,
     requires { W.ready work.now }
-    ensures { IfOk result (λ v. (length v.items ≡ W.count work.now) × AllRight (λ n a. ∥ W.answers work.now n a ∥₁) 0 v.items) }
+    ensures { IfOk result (λ v. (length v.items ≡ W.count work.now)
+        × AllRight (λ n a. ∥ W.answers work.now n a ∥₁) 0 v.items) }
 {
     let mut collected = Collected {
         answers: Vec::new(alloc),

@@ -69,7 +69,7 @@ impl<'a, K: Truth<A>, A, W: Work<Answer = A>, G: Gate, R: Wait> Exchange<'a, K, 
         }
     }
 
-    // Works beside the reader, until nothing is left, or no more answers are read.
+    // Works next to the reader, until nothing is left, or no more answers are read.
     pub fn answer_all(&self, me: &mut Claimer)
         requires ready { W.ready self.now.work.now }
         requires mine { me.old.table_id ≡ self.now.word.shared.table_id }

@@ -1,7 +1,10 @@
-// The morsels that were begun and are not read: each lies in the slot of its number, or a thread has it in hand.
+// The morsels that were begun and are not read: each lies in the slot of its number, or a thread
+// has it in hand.
 
-ghost use Rattle.std.specs.Prelude.{◌≡◌, ◌↔◌, IfNone, IfOk, IfSome, IsSome, IsTrue, None, replicate};
-ghost use Rattle.scan_workers.specs.Held.{IsInHand, Lies, MayBegin, asked, at_first, begun_one, given_next, laid, taken};
+ghost use Rattle.std.specs.Prelude.{◌≡◌, ◌↔◌, IfNone, IfOk, IfSome, IsSome, IsTrue, None};
+ghost use Rattle.std.specs.Prelude.{replicate};
+ghost use Rattle.scan_workers.specs.Held.{IsInHand, Lies, MayBegin, asked, at_first, begun_one};
+ghost use Rattle.scan_workers.specs.Held.{given_next, laid, taken};
 
 use crate::answered::{Answered, Done, Stage, Truth, let_go};
 use std::alloc::{AllocError, Global};
@@ -24,9 +27,11 @@ impl<K: Truth<A>, A> Model for Held<K, A> {
 
     ghost Value = { HeldAt };
 
-    ghost view = { λ h. held_at (λ done. done.answered.number) h.count h.read h.given h.begun h.slots.items };
+    ghost view = { λ h. held_at (λ done. done.answered.number) h.count h.read h.given h.begun
+        h.slots.items };
 
-    ghost invariant = { λ h. IsHeld (held_at (λ done. done.answered.number) h.count h.read h.given h.begun h.slots.items) };
+    ghost invariant = { λ h. IsHeld
+        (held_at (λ done. done.answered.number) h.count h.read h.given h.begun h.slots.items) };
 }
 
 // So many empty slots.
@@ -133,7 +138,8 @@ impl<K: Truth<A>, A> Held<K, A> {
 
     // Takes a morsel out of the slot of a number, of which more is to be made.
     pub fn take_unmade(&mut self, number: usize) -> Option<Answered<K, A>>
-        ensures some { IfSome result (λ answered. Lies self.old answered.number × (self.new ≡ taken self.old answered.number)) }
+        ensures some { IfSome result (λ answered. Lies self.old answered.number
+            × (self.new ≡ taken self.old answered.number)) }
         ensures none { IfNone result (self.new ≡ self.old) }
     {
         let place = number.checked_rem(self.slots.len())?;
@@ -149,7 +155,8 @@ impl<K: Truth<A>, A> Held<K, A> {
 
     // Gives the reader the answer for which it asks, if it is made.
     pub fn give(&mut self) -> Option<Answered<K, A>>
-        ensures some { IfSome result (λ answered. (answered.number ≡ self.old.read) × Lies self.old self.old.read × (self.new ≡ given_next self.old)) }
+        ensures some { IfSome result (λ answered. (answered.number ≡ self.old.read)
+            × Lies self.old self.old.read × (self.new ≡ given_next self.old)) }
         ensures none { IfNone result (self.new ≡ self.old) }
     {
         let place = self.read.checked_rem(self.slots.len())?;

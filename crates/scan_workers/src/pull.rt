@@ -19,7 +19,8 @@ pub enum Hand<T> {
     Did(T),
 }
 
-// The answers in the order of the morsels. Where the next one is not there, the reader works as the others.
+// The answers in the order of the morsels. Where the next one is not there, the reader works as the
+// others.
 pub struct Pull<'a, 'h, K: Truth<A>, A, W: Work<Answer = A>, G, R> {
     pub exchange: &'a Exchange<'h, K, A, W, G, R>,
     pub me: Claimer,
@@ -81,8 +82,8 @@ impl<'a, 'h, K: Truth<A>, A, W: Work<Answer = A>, G: Gate, R: Wait> Pull<'a, 'h,
         }
     }
 
-    // The answer of a morsel, or none where a turn of one is over before it is there. What it does before has an end, since only so many
-    // morsels may be begun and made.
+    // The answer of a morsel, or none where a turn of one is over before it is there. What it does
+    // before has an end, since only so many morsels may be begun and made.
     fn look(&mut self, number: usize) -> Option<Answered<K, A>>
         requires { W.ready self.old.exchange.now.work.now }
         ensures found { IfSome result (λ answered. answered.number ≡ number) }

@@ -1,13 +1,16 @@
 // What is to be done of the morsels that were begun, and for which one the reader asks.
 
-ghost use Rattle.std.specs.Prelude.{◌≡◌, true, false, Some, IfErr, IfNone, IfSome, MatchOption, OnOk, option_map};
-ghost use Rattle.scan_workers.specs.Held.{IsInHand, Lies, MayBegin, Seeks, Tasks, asked, begun_one, laid, taken};
+ghost use Rattle.std.specs.Prelude.{◌≡◌, true, false, Some, IfErr, IfNone, IfSome, MatchOption};
+ghost use Rattle.std.specs.Prelude.{OnOk, option_map};
+ghost use Rattle.scan_workers.specs.Held.{IsInHand, Lies, MayBegin, Seeks, Tasks, asked, begun_one};
+ghost use Rattle.scan_workers.specs.Held.{laid, taken};
 
 use crate::answered::{Answered, Done, Meanwhile, Stage, Task, Truth};
 use crate::held::Held;
 use std::alloc::{AllocError, Global};
 
-// How many morsels there are, how many may be begun and not read at once, and how many of those may be made or there.
+// How many morsels there are, how many may be begun and not read at once, and how many of those may
+// be made or there.
 #[derive(Clone, Copy, Drop)]
 pub struct Bounds {
     pub count: usize,
@@ -64,7 +67,8 @@ impl<K: Truth<A>, A> Slots<K, A> {
         self.closed
     }
 
-    // Counts what was done of a morsel, for which the reader asks or not. Whether it tells the reader something of that.
+    // Counts what was done of a morsel, for which the reader asks or not. Whether it tells the
+    // reader something of that.
     fn count(&mut self, stage: Stage, asked: bool) -> bool
         ensures { self.new.held ≡ self.old.held }
     {
@@ -85,11 +89,15 @@ impl<K: Truth<A>, A> Slots<K, A> {
         }
     }
 
-    // Takes in what was done of a morsel, if anything was. Whether it tells the reader something of the morsel for which it asks. Who
-    // has no such morsel in hand keeps what it has.
+    // Takes in what was done of a morsel, if anything was. Whether it tells the reader something of
+    // the morsel for which it asks. Who has no such morsel in hand keeps what it has.
     pub fn take_in(&mut self, done: Option<Done<K, A>>) -> Result<bool, Answered<K, A>>
-        ensures laid { OnOk result (MatchOption done (self.new.held ≡ self.old.held) (λ done. IsInHand self.old.held done.answered.number × (self.new.held ≡ laid self.old.held done.answered.number))) }
-        ensures kept { IfErr result (λ answered. (option_map (λ done. done.answered) done ≡ Some answered) × ¬ IsInHand self.old.held answered.number × (self.new.held ≡ self.old.held)) }
+        ensures laid { OnOk result (MatchOption done (self.new.held ≡ self.old.held)
+            (λ done. IsInHand self.old.held done.answered.number
+            × (self.new.held ≡ laid self.old.held done.answered.number))) }
+        ensures kept { IfErr result
+            (λ answered. (option_map (λ done. done.answered) done ≡ Some answered)
+            × ¬ IsInHand self.old.held answered.number × (self.new.held ≡ self.old.held)) }
     {
         match done {
             Some(done) => self.lay(done),
@@ -99,8 +107,10 @@ impl<K: Truth<A>, A> Slots<K, A> {
 
     // The same, where something was done.
     fn lay(&mut self, done: Done<K, A>) -> Result<bool, Answered<K, A>>
-        ensures laid { OnOk result (IsInHand self.old.held done.answered.number × (self.new.held ≡ laid self.old.held done.answered.number)) }
-        ensures kept { IfErr result (λ answered. (answered ≡ done.answered) × ¬ IsInHand self.old.held answered.number × (self.new.held ≡ self.old.held)) }
+        ensures laid { OnOk result (IsInHand self.old.held done.answered.number
+            × (self.new.held ≡ laid self.old.held done.answered.number)) }
+        ensures kept { IfErr result (λ answered. (answered ≡ done.answered)
+            × ¬ IsInHand self.old.held answered.number × (self.new.held ≡ self.old.held)) }
     {
         let number = done.answered.number;
         if !self.held.is_in_hand(number) {
@@ -115,7 +125,8 @@ impl<K: Truth<A>, A> Slots<K, A> {
 
     // Takes the first one of which more may be made.
     fn take_first(&mut self) -> Option<Answered<K, A>>
-        ensures some { IfSome result (λ answered. Lies self.old.held answered.number × (self.new.held ≡ taken self.old.held answered.number)) }
+        ensures some { IfSome result (λ answered. Lies self.old.held answered.number
+            × (self.new.held ≡ taken self.old.held answered.number)) }
         ensures none { IfNone result (self.new.held ≡ self.old.held) }
     {
         if self.unmade == 0 {
@@ -150,7 +161,8 @@ impl<K: Truth<A>, A> Slots<K, A> {
 
     // Gives out one more to be begun, if one may be.
     pub fn begin(&mut self) -> bool
-        ensures begun { result ≡ true → MayBegin self.old.held × (self.new.held ≡ begun_one self.old.held) }
+        ensures begun { result ≡ true →
+            MayBegin self.old.held × (self.new.held ≡ begun_one self.old.held) }
         ensures none { result ≡ false → self.new.held ≡ self.old.held }
     {
         if !self.held.may_begin() {
@@ -160,7 +172,8 @@ impl<K: Truth<A>, A> Slots<K, A> {
         true
     }
 
-    // What is to be done next: more of the first answer of which more may be made, or else one more is begun.
+    // What is to be done next: more of the first answer of which more may be made, or else one more
+    // is begun.
     pub fn task(&mut self) -> Option<Task<Answered<K, A>>>
         ensures { Tasks (λ answered. answered.number) self.old.held result self.new.held }
     {

@@ -10,9 +10,10 @@ use std::hint::spin_loop;
 use std::sync::atomic::{AtomicUsize, Ordering};
 use std::sync::{Condvar, Mutex, Wait};
 
-// Before a thread sleeps it looks so often, without the lock, whether it may go on: some 16 microseconds long. For a kernel may put a
-// thread that it wakes behind another one, though a processor is idle. It doesn't yield its processor meanwhile: who else runs there
-// may keep it for milliseconds.
+// Before a thread sleeps it looks so often, without the lock, whether it may go on: some 16
+// microseconds long. For a kernel may put a thread that it wakes after another one, though a
+// processor is idle. It doesn't yield its processor meanwhile: who else runs there may keep it for
+// milliseconds.
 const LOOKS: usize = 8_000;
 
 // Looks for a while whether a number is another one than was seen.
@@ -28,7 +29,8 @@ fn look_for_another(number: &AtomicUsize, seen: usize) {
 // What the threads share, and who of them waits.
 struct Shared<K: Truth<A>, A> {
     slots: Slots<K, A>,
-    // How many workers wait for something to do, how many of those sleep, and how many of these were woken and do not go on yet.
+    // How many workers wait for something to do, how many of those sleep, and how many of these
+    // were woken and do not go on yet.
     waiting: usize,
     asleep: usize,
     woken: usize,
@@ -49,8 +51,8 @@ struct News {
 }
 
 impl<K: Truth<A>, A> Shared<K, A> {
-    // Whom a thread tells, where there is something of the reader's morsel or not. It wakes a worker only where all that wait sleep, and
-    // one of these was not woken yet.
+    // Whom a thread tells, where there is something of the reader's morsel or not. It wakes a
+    // worker only where all that wait sleep, and one of these was not woken yet.
     fn news(&mut self, reader: bool) -> News {
         let worker = self.waiting > 0 && (self.slots.is_over() || self.slots.has_task());
         let wakes_worker = worker && self.waiting == self.asleep && self.woken < self.asleep;
@@ -67,7 +69,8 @@ impl<K: Truth<A>, A> Shared<K, A> {
 
     // What a worker does next, if there is anything.
     fn task(&mut self) -> Option<Task<Answered<K, A>>>
-        ensures { Tasks (λ answered. answered.number) self.old.slots.held result self.new.slots.held }
+        ensures { Tasks (λ answered. answered.number) self.old.slots.held result
+            self.new.slots.held }
     {
         if self.slots.is_over() {
             return None;
@@ -75,7 +78,8 @@ impl<K: Truth<A>, A> Shared<K, A> {
         self.slots.task()
     }
 
-    // The answer of a morsel, or what the reader does meanwhile, if there is anything. It asks for the next one in order.
+    // The answer of a morsel, or what the reader does meanwhile, if there is anything. It asks for
+    // the next one in order.
     fn seek(&mut self, number: usize) -> Option<Sought<Answered<K, A>>>
         ensures { IfSome result (λ sought. IfOk sought (λ answered. answered.number ≡ number)) }
     {
@@ -89,8 +93,8 @@ impl<K: Truth<A>, A> Shared<K, A> {
 // What the workers and the reader share. They hand in what they did, and get what they do next.
 pub struct Window<K: Truth<A>, A> {
     shared: Mutex<Shared<K, A>>,
-    // How often a worker was told that there is something to do, or that nothing is left, and the reader that there is something of its
-    // morsel.
+    // How often a worker was told that there is something to do, or that nothing is left, and the
+    // reader that there is something of its morsel.
     offers: AtomicUsize,
     answers: AtomicUsize,
     offered: Condvar,
@@ -141,7 +145,8 @@ impl<K: Truth<A>, A> Window<K, A> {
         self.shared.lock(rt).slots.begin()
     }
 
-    // Hands in what a worker did, and gives what it does next. Nothing is given where nothing is left, or no more answers are read.
+    // Hands in what a worker did, and gives what it does next. Nothing is given where nothing is
+    // left, or no more answers are read.
     pub fn hand_in(
         &self,
         rt: &impl Wait,
@@ -199,7 +204,8 @@ impl<K: Truth<A>, A> Window<K, A> {
         unreachable!()
     }
 
-    // Hands in what the reader did, which asks for the answer of a morsel. That answer, or what the reader does meanwhile.
+    // Hands in what the reader did, which asks for the answer of a morsel. That answer, or what the
+    // reader does meanwhile.
     pub fn seek(
         &self,
         rt: &impl Wait,
@@ -225,7 +231,8 @@ impl<K: Truth<A>, A> Window<K, A> {
         }
     }
 
-    // Waits until the answer of a morsel is there, or there is something that the reader does meanwhile.
+    // Waits until the answer of a morsel is there, or there is something that the reader does
+    // meanwhile.
     fn wait_for(&self, rt: &impl Wait, number: usize, seen: usize) -> Sought<Answered<K, A>>
         ensures { IfOk result (λ answered. answered.number ≡ number) }
     {

@@ -10,10 +10,12 @@ pub record HistoryAt : Type 0 where
   pub log : List Signed
   pub shown : List RestAt
 
--- All that these seats have seen is of this one log, and what was made through each is just what the log that it saw has of it.
+-- All that these seats have seen is of this one log, and what was made through each is just what
+-- the log that it saw has of it.
 abbrev pub SawOne : List Signed → List RestAt → Type 0
 SawOne log [] = Unit {0}
-SawOne log (seat ∷ shown) = GoesOn seat.log log × (seat.made ≡ own seat.seat seat.log) × SawOne log shown
+SawOne log (seat ∷ shown) =
+    GoesOn seat.log log × (seat.made ≡ own seat.seat seat.log) × SawOne log shown
 
 -- a seat was shown last as it is kept; where none is kept, a new one was not shown yet
 abbrev pub IsKept : Option RestAt → RestAt → Type 0
@@ -35,7 +37,8 @@ pub record ShownAt : Type 0 where
 abbrev pub seats_of : {X Y : Type 0} → (X → ShownAt) → (Y → RestAt) → Option X → Option Y → ShownAt
 seats_of f g None last = record { seats = []; steps = 0 }
 seats_of f g (Some before) None = record { seats = (f before).seats; steps = (f before).steps + 1 }
-seats_of f g (Some before) (Some last) = record { seats = (f before).seats ++ g last ∷ []; steps = (f before).steps + 1 }
+seats_of f g (Some before) (Some last) =
+    record { seats = (f before).seats ++ g last ∷ []; steps = (f before).steps + 1 }
 
 -- the log of a seat, if there is one
 abbrev pub log_in : Option RestAt → List Signed

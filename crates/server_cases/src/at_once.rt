@@ -50,9 +50,10 @@ where
     later.is_ok() && in_time
 }
 
-// Puts five rows and asks where they are; stays open while others put; and then fetches them, the second endpoint over a further
-// connection: the first one has its seat still, so that is served over the seat by which the others put. An open connection keeps
-// no other from being served, and what its info names stays, for each connection.
+// Puts five rows and asks where they are; stays open while others put; and then fetches them, the
+// second endpoint over a further connection: the first one has its seat still, so that is served
+// over the seat by which the others put. An open connection keeps no other from being served, and
+// what its info names stays, for each connection.
 pub(crate) fn stay_open<R>(rt: &R, port: u16, most: usize, told: &mut String) -> Result<(), Failure>
 where
     R: Net<Listener = TcpListener, Stream = TcpStream> + AllocGlobal + Threads + Clock + Sync,
@@ -93,10 +94,11 @@ fn cut_a_put<R: Net<Listener = TcpListener, Stream = TcpStream>>(
     }
 }
 
-// Puts five rows, has another connection cut its put, and fetches all rows; then a further connection, which the seat of the cut
-// one serves, puts two more and fetches all. The connection that is cut inside the last message of its put ends alone, and has put
-// nothing: of what it would have left in the table, not one of the five rows would be. A seat need not be told of puts of others
-// before it puts itself, so the two rows tell: they are appended to the five.
+// Puts five rows, has another connection cut its put, and fetches all rows; then a further
+// connection, which the seat of the cut one serves, puts two more and fetches all. The connection
+// that is cut inside the last message of its put ends alone, and has put nothing: of what it would
+// have left in the table, not one of the five rows would be. A seat need not be told of puts of
+// others before it puts itself, so the two rows tell: they are appended to the five.
 pub(crate) fn stay_whole<R>(rt: &R, port: u16, told: &mut String) -> Result<(), Failure>
 where
     R: Net<Listener = TcpListener, Stream = TcpStream> + AllocGlobal,

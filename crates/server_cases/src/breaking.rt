@@ -1,4 +1,5 @@
-//! Queries as an Arrow IPC stream that stop, over answers in memory. What is written of each is read as a stream.
+//! Queries as an Arrow IPC stream that stop, over answers in memory. What is written of each is
+//! read as a stream.
 
 use crate::clients::network_of;
 use crate::side_by_side::{INFO, add_stream};
@@ -14,7 +15,7 @@ use std::io;
 use std::random::RandomSource;
 use std::thread::Threads;
 
-// A query of two endpoints: its name, how many streams come whole, and what comes behind them.
+// A query of two endpoints: its name, how many streams come whole, and what comes after them.
 pub(crate) struct Stopping {
     pub(crate) name: &'static str,
     streams: usize,
@@ -44,7 +45,8 @@ pub(crate) static STOPPING: [Stopping; 4] = [
     },
 ];
 
-// Adds how many messages bytes are a stream of, or the fault of bytes that are none; and of no bytes, that they are none.
+// Adds how many messages bytes are a stream of, or the fault of bytes that are none; and of no
+// bytes, that they are none.
 pub(crate) fn push_stream(
     alloc: Global,
     told: &mut String,

@@ -1,4 +1,5 @@
-//! The commands of the client: over loopback, from a `serve` in another thread, and over answers in memory.
+//! The commands of the client: over loopback, from a `serve` in another thread, and over answers in
+//! memory.
 
 ghost use Rattle.std.specs.Prelude.{◌<◌, ◌≡◌, IfOk};
 
@@ -21,8 +22,8 @@ use std::random::RandomSource;
 use std::thread::Threads;
 use std::time::Clock;
 
-// An Arrow IPC stream of one nullable column `s` of texts: 'b', NULL, 'a', NULL, 'b'. Its headers are laid out by
-// vectors/arrow/layout.py.
+// An Arrow IPC stream of one nullable column `s` of texts: 'b', NULL, 'a', NULL, 'b'. Its headers
+// are laid out by vectors/arrow/layout.py.
 pub(crate) const STREAM: &[u8] =
     b"\xff\xff\xff\xff\x00\x01\x00\x00\x88\x00\x00\x00\x00\x00\x00\x00\xee\xee\xee\xee\xee\xee\xee\xee\
     \x14\x00\x0c\x00\x0a\x00\x08\x00\x04\x00\x00\x00\x00\x00\x00\x00\x00\x00\x00\x00\xee\xee\xee\xee\
@@ -66,7 +67,8 @@ pub(crate) fn created(port: u16, table: &str) -> Putting<'_> {
     }
 }
 
-// Adds what came of a command: its exit status, the lines only of one that ended well, and what is said.
+// Adds what came of a command: its exit status, the lines only of one that ended well, and what is
+// said.
 pub(crate) fn add_heard(
     told: &mut String,
     status: u8,
@@ -145,8 +147,9 @@ where
     add_heard(told, status.number(), &lines, &said)
 }
 
-// The five commands: a put, a list of the tables, a query of groups, one of all rows, and one of groups whose output is closed.
-// One connection is made for each of them but the query of all rows, for which two are.
+// The five commands: a put, a list of the tables, a query of groups, one of all rows, and one of
+// groups whose output is closed. One connection is made for each of them but the query of all rows,
+// for which two are.
 pub(crate) fn run_commands<R>(rt: &R, port: u16, told: &mut String) -> Result<(), Failure>
 where
     R: Net<Listener = TcpListener, Stream = TcpStream> + RandomSource + AllocGlobal,
@@ -180,8 +183,8 @@ fn add_first(told: &mut String, said: &[u8], wanted: &str) -> Result<(), AllocEr
     write!(told, " {first:?} {}", rest.starts_with(wanted))
 }
 
-// What a list of tables comes to at a port to which nobody listens: the exit status, the first line of faults, and whether the
-// second one names the port.
+// What a list of tables comes to at a port to which nobody listens: the exit status, the first line
+// of faults, and whether the second one names the port.
 pub(crate) fn told_port<R>(rt: &R) -> io::Result<String>
 where
     R: Net<Listener = TcpListener, Stream = TcpStream> + AllocGlobal + Clock,
@@ -302,7 +305,8 @@ pub(crate) static PUTS: [Case; 8] = [
     },
 ];
 
-// What a put comes to: its exit status, how many connections it made, its lines, and what is said of faults.
+// What a put comes to: its exit status, how many connections it made, its lines, and what is said
+// of faults.
 pub(crate) fn told_put(alloc: Global, case: &Case) -> Result<String, AllocError> {
     let mut network = network_of(alloc, case.answer);
     let mut input = MemoryInput::new(case.input).failing_after(case.calls);

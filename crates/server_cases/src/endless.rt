@@ -1,4 +1,5 @@
-//! A server without an end, whose listener keeps what it is shown, and breaks behind so many connections.
+//! A server without an end, whose listener keeps what it is shown, and breaks after so many
+//! connections.
 
 ghost use Rattle.std.specs.Prelude.{◌≡◌};
 
@@ -24,8 +25,8 @@ use version_cell::Opened;
 // As many connections at once.
 const SEATS: u32 = 2;
 
-// What came of a server: its exit status, whether it printed the line of its port and nothing else, what it said of faults, and how
-// many entries the one log has that its listeners were shown.
+// What came of a server: its exit status, whether it printed the line of its port and nothing else,
+// what it said of faults, and how many entries the one log has that its listeners were shown.
 #[derive(Drop)]
 struct Ended {
     status: u8,
@@ -86,8 +87,9 @@ where
     }
 }
 
-// What comes of a client that calls the server at this port. Where it fails, its fault stands last, and it may not have made all
-// connections: so many are made then. Behind them each worker meets one connection more, at which its listener breaks.
+// What comes of a client that calls the server at this port. Where it fails, its fault stands last,
+// and it may not have made all connections: so many are made then. After them each worker meets one
+// connection more, at which its listener breaks.
 fn called<R>(rt: &R, client: Client, port: u16, connections: u16) -> String
 where
     R: Net<Listener = TcpListener, Stream = TcpStream> + RandomSource + AllocGlobal,
@@ -106,7 +108,8 @@ where
     told
 }
 
-// What comes of a server without an end, which is given so many connections, and of a client beside it.
+// What comes of a server without an end, which is given so many connections, and of a client next
+// to it.
 pub(crate) fn without_end<R>(rt: &R, connections: u16, client: Client) -> io::Result<String>
 where
     R: Net<Listener = TcpListener, Stream = TcpStream> + RandomSource + AllocGlobal,

@@ -43,9 +43,10 @@ fn add_fault(
     }
 }
 
-// Puts five rows and asks where they are, which names version 1. Two more are appended: version 2. Three commands then expire what
-// is below 2, below 3, which was never reached, and below 1, which is below the floor; each makes a connection. What the info names
-// is not fetched any more, over a connection that was open all the time, and all rows of version 2 are.
+// Puts five rows and asks where they are, which names version 1. Two more are appended: version 2.
+// Three commands then expire what is below 2, below 3, which was never reached, and below 1, which
+// is below the floor; each makes a connection. What the info names is not fetched any more, over a
+// connection that was open all the time, and all rows of version 2 are.
 pub(crate) fn expire_old<R>(rt: &R, port: u16, told: &mut String) -> Result<(), Failure>
 where
     R: Net<Listener = TcpListener, Stream = TcpStream> + AllocGlobal,
@@ -62,9 +63,10 @@ where
     add_all(alloc, told, &wire)
 }
 
-// Two connections put three times, to a server that keeps two versions: five rows by the one, and two more behind them by the
-// other and then by the one. In between each asks where the rows are, at versions 1 and 2. Behind the third put the one that did
-// not make it fetches of version 1, which is expired, and the rows of version 2, which is kept; and the other those of version 3.
+// Two connections put three times, to a server that keeps two versions: five rows by the one, and
+// two more after them by the other and then by the one. In between each asks where the rows are, at
+// versions 1 and 2. After the third put the one that did not make it fetches of version 1, which is
+// expired, and the rows of version 2, which is kept; and the other those of version 3.
 pub(crate) fn put_beyond_kept<R>(rt: &R, port: u16, told: &mut String) -> Result<(), Failure>
 where
     R: Net<Listener = TcpListener, Stream = TcpStream> + AllocGlobal,

@@ -38,8 +38,9 @@ where
     put_stream(rt, created(querying.port, "copy"), stream.as_slice(), told)
 }
 
-// A put, its rows as CSV, its rows copied by an Arrow IPC stream, and groups of the copy in lines and as a table for people. Two
-// connections are made for the rows as CSV and for those of the stream, and else one.
+// A put, its rows as CSV, its rows copied by an Arrow IPC stream, and groups of the copy in lines
+// and as a table for people. Two connections are made for the rows as CSV and for those of the
+// stream, and else one.
 pub(crate) fn run_formats<R>(rt: &R, port: u16, told: &mut String) -> Result<(), Failure>
 where
     R: Net<Listener = TcpListener, Stream = TcpStream> + RandomSource + AllocGlobal,
@@ -74,8 +75,9 @@ where
     Ok(())
 }
 
-// A put, its rows as an Arrow IPC stream over one connection and over three, whether both are the same bytes, a put of the latter as
-// another table, and its rows as lines. One connection is made for each but the query over three.
+// A put, its rows as an Arrow IPC stream over one connection and over three, whether both are the
+// same bytes, a put of the latter as another table, and its rows as lines. One connection is made
+// for each but the query over three.
 pub(crate) fn stream_in_turn<R>(rt: &R, port: u16, told: &mut String) -> Result<(), Failure>
 where
     R: Net<Listener = TcpListener, Stream = TcpStream> + RandomSource + AllocGlobal,

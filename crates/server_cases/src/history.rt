@@ -59,8 +59,9 @@ impl Seats {
     }
 }
 
-/// The seats of one cell that were shown, by whichever listener. Contracts see the longest log, and all seats as they were shown.
-/// Whatever is shown, all that these have seen is of that one log, and each made just what the log that it saw has of it.
+/// The seats of one cell that were shown, by whichever listener. Contracts see the longest log, and
+/// all seats as they were shown. Whatever is shown, all that these have seen is of that one log,
+/// and each made just what the log that it saw has of it.
 #[derive(Drop)]
 pub(crate) struct History<C: BookName> {
     longest: Option<ShownSeat>,
@@ -76,7 +77,8 @@ impl<C: BookName> Model for History<C> {
 
     ghost view = { λ h. record { log = log_in h.longest; shown = h.shown.seats } };
 
-    ghost invariant = { λ h. IfSome h.longest (λ longest. longest.book ≡ C.book) × SawOne (log_in h.longest) h.shown.seats };
+    ghost invariant = { λ h. IfSome h.longest (λ longest. longest.book ≡ C.book)
+        × SawOne (log_in h.longest) h.shown.seats };
 }
 
 impl<C: BookName> History<C> {

@@ -1,4 +1,4 @@
-//! A listener that keeps what it was shown, and breaks behind so many connections.
+//! A listener that keeps what it was shown, and breaks after so many connections.
 
 use crate::history::{BookName, History};
 use crate::serving::Bound;
@@ -11,7 +11,8 @@ use std::net::{Net, TcpListener, TcpStream};
 use std::sync::{Mutex, Wait};
 use std::time::Clock;
 
-/// What all listeners of a server keep: what they were shown, and how many connections they may still give.
+/// What all listeners of a server keep: what they were shown, and how many connections they may
+/// still give.
 #[derive(Drop)]
 pub(crate) struct Kept<C: BookName> {
     pub(crate) history: History<C>,
@@ -39,8 +40,9 @@ impl<C: BookName> Kept<C> {
     }
 }
 
-/// Takes connections of a port that is listened to already, and keeps what it is shown: by itself its seat, and under a lock, with
-/// all other listeners of the port, what was seen. What it is owed for a connection is that it is served for that seat.
+/// Takes connections of a port that is listened to already, and keeps what it is shown: by itself
+/// its seat, and under a lock, with all other listeners of the port, what was seen. What it is owed
+/// for a connection is that it is served for that seat.
 #[derive(Drop)]
 pub(crate) struct Keeping<'a, C: BookName, R: Wait> {
     rt: &'a R,

@@ -1,5 +1,5 @@
-//! Prints what becomes of a server with several seats and of the commands of clients, over loopback and over answers in memory:
-//! a line for each case. `README.md` says what stands in a line.
+//! Prints what becomes of a server with several seats and of the commands of clients, over loopback
+//! and over answers in memory: a line for each case. `README.md` says what stands in a line.
 #![tactic(auto)]
 
 mod asking;

@@ -1,4 +1,4 @@
-//! A server in a thread, and a client beside it.
+//! A server in a thread, and a client next to it.
 
 ghost use Rattle.std.specs.Prelude.{◌≡◌};
 
@@ -31,7 +31,7 @@ use version_cell::Opened;
 pub(crate) enum Client {
     // A connection that stays open while others put. So many bytes are written at once.
     StaysOpen(usize),
-    // A connection beside one that is cut.
+    // A connection next to one that is cut.
     StaysWhole,
     // Five commands.
     Commands,
@@ -165,7 +165,8 @@ pub(crate) fn names_port(alloc: Global, output: &MemoryOutput, port: u16) -> boo
     }
 }
 
-// What came of a server: its exit status, whether it printed the line of its port and nothing else, and what it said of faults.
+// What came of a server: its exit status, whether it printed the line of its port and nothing else,
+// and what it said of faults.
 #[derive(Drop)]
 struct Served {
     status: u8,
@@ -207,8 +208,8 @@ pub(crate) fn fault_of(failure: Failure) -> Fault {
     }
 }
 
-// What comes of a client that calls the server at this port. Where it fails, its fault stands last, and it may not have made all
-// connections: so many are made then, that the server ends.
+// What comes of a client that calls the server at this port. Where it fails, its fault stands last,
+// and it may not have made all connections: so many are made then, that the server ends.
 fn called<R>(rt: &R, client: Client, port: u16, accept: u16) -> String
 where
     R: Net<Listener = TcpListener, Stream = TcpStream> + RandomSource + AllocGlobal,
@@ -224,7 +225,7 @@ where
     told
 }
 
-// What comes of a server that serves so many connections, and of a client beside it.
+// What comes of a server that serves so many connections, and of a client next to it.
 pub(crate) fn beside<R>(rt: &R, accept: u16, client: Client) -> io::Result<String>
 where
     R: Net<Listener = TcpListener, Stream = TcpStream> + RandomSource + AllocGlobal,

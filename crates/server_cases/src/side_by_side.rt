@@ -1,4 +1,5 @@
-//! Queries over two connections, over answers in memory: those of the first one wait for the second one.
+//! Queries over two connections, over answers in memory: those of the first one wait for the second
+//! one.
 
 ghost use Rattle.std.specs.Prelude.{◌<◌, ◌≡◌};
 
@@ -19,12 +20,13 @@ use std::thread::Threads;
 use std::time::{Clock, Duration};
 use std::{io, thread};
 
-// The answer to an info: one FlightInfo of two endpoints, with the tickets `A` and `B`, and status 0.
+// The answer to an info: one FlightInfo of two endpoints, with the tickets `A` and `B`, and status
+// 0.
 pub(crate) const INFO: &[u8] =
     b"\x02\x00\x00\x00\x00\x0e\x1a\x05\x0a\x03\x0a\x01A\x1a\x05\x0a\x03\x0a\x01B\x04\x00\x00\x00";
 
-// An input of which the reads behind so many free ones wait until a counter is above a number, for 10,000 turns at most. It counts
-// that it was closed.
+// An input of which the reads after so many free ones wait until a counter is above a number, for
+// 10,000 turns at most. It counts that it was closed.
 struct Gated<'a, R> {
     rt: &'a R,
     input: MemoryInput<'a>,
@@ -85,8 +87,9 @@ impl<R: Clock> Input for Gated<'_, R> {
     }
 }
 
-// A network of two connections. The reads of the first one behind the info wait until the second one is closed. Or, where that is begun
-// ahead, those behind the schema of the first stream, which has come with the first 13 pieces, wait until it is made.
+// A network of two connections. The reads of the first one after the info wait until the second one
+// is closed. Or, where that is begun ahead, those after the schema of the first stream, which has
+// come with the first 13 pieces, wait until it is made.
 #[derive(Drop)]
 struct Two<'a, R> {
     rt: &'a R,
@@ -146,7 +149,8 @@ fn part(from: usize, to: usize) -> &'static [u8] {
     STREAM.get(from..to).unwrap_or(b"")
 }
 
-// Adds the answer to a fetch: the schema, a batch of five rows with these letters of texts, and status 0.
+// Adds the answer to a fetch: the schema, a batch of five rows with these letters of texts, and
+// status 0.
 pub(crate) fn add_stream(answer: &mut Vec<u8>, letters: &'static [u8]) -> Result<(), AllocError> {
     let pieces = [
         b"\x02\x00\x00\x00\x01\x03\x12\x80\x02",
@@ -165,8 +169,8 @@ pub(crate) fn add_stream(answer: &mut Vec<u8>, letters: &'static [u8]) -> Result
     Ok(())
 }
 
-// What a query comes to whose second connection ends before the first one: the exit status, how many connections were made and
-// closed, and the lines, which come in the order of the endpoints.
+// What a query comes to whose second connection ends before the first one: the exit status, how
+// many connections were made and closed, and the lines, which come in the order of the endpoints.
 pub(crate) fn told_order<R>(rt: &R, alloc: Global) -> io::Result<String>
 where
     R: Clock + RandomSource + Threads + Sync,
@@ -174,8 +178,9 @@ where
     told_two(rt, alloc, Format::Lines)
 }
 
-// What a query as an Arrow IPC stream comes to, of which the rows of the first stream come once the second connection is made: the
-// exit status, how many connections were made and closed, and how many messages were written.
+// What a query as an Arrow IPC stream comes to, of which the rows of the first stream come once the
+// second connection is made: the exit status, how many connections were made and closed, and how
+// many messages were written.
 pub(crate) fn told_ahead<R>(rt: &R, alloc: Global) -> io::Result<String>
 where
     R: Clock + RandomSource + Threads + Sync,

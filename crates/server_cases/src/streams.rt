@@ -1,4 +1,5 @@
-//! Arrow IPC streams that are put, and a put that is cut. vectors/arrow/layout.py laid out the headers of the streams.
+//! Arrow IPC streams that are put, and a put that is cut. vectors/arrow/layout.py laid out the
+//! headers of the streams.
 
 // A nullable Int64 column `a`: 1 to 5.
 pub(crate) const ONE_TO_FIVE: &[u8] =
@@ -39,8 +40,9 @@ pub(crate) const OTHER_SCHEMA: &[u8] =
     \x08\x00\xff\xff\x00\x00\x04\x00\x0c\x00\xff\xff\x04\x00\x08\x00\x09\x00\x0a\x00\x04\x00\xff\xff\
     \xff\xff\xff\xff\x00\x00\x00\x00";
 
-// A put that would replace table t by the rows 1 and 2 of the same column, without its last seven bytes: six of its last Message,
-// and its End. docs/PROTOCOL.md has the bytes in its appendix, but for the option, which is REPLACE here (10 03, not 08 01).
+// A put that would replace table t by the rows 1 and 2 of the same column, without its last seven
+// bytes: six of its last Message, and its End. docs/PROTOCOL.md has the bytes in its appendix, but
+// for the option, which is REPLACE here (10 03, not 08 01).
 pub(crate) const CUT_PUT: &[u8] = b"\x01\x00\x2a/arrow.flight.protocol.FlightService/DoPut\
     \x02\x00\x00\x00\x00\xc7\x0a\x53\x08\x02\x12\x4f\x0a\x44\
     type.googleapis.com/arrow.flight.protocol.sql.CommandStatementIngest\

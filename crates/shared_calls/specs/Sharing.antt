@@ -9,10 +9,11 @@ use Rattle.flight_core.specs.Seats.{Seat, Moves}
 
 -- it looks by entering the cell, and asks the cell's putter
 abbrev pub seat_at : cell.Seat → Seat
-seat_at scanner = record { log = scanner.log; looks = scanner.enters; made = scanner.made; asks = scanner.asks }
+seat_at scanner =
+    record { log = scanner.log; looks = scanner.enters; made = scanner.made; asks = scanner.asks }
 
--- Where others put into the log too: a step, also that of a put or an expiry, goes from a log that goes on from what the seat had
--- seen, and the seat has then seen the log behind it, and no more.
+-- Where others put into the log too: a step, also that of a put or an expiry, goes from a log that
+-- goes on from what the seat had seen, and the seat has then seen the log after it, and no more.
 abbrev pub onward : Moves
 onward old log after new = Begins old.log log × (new.log ≡ after)
 

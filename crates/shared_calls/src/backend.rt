@@ -45,7 +45,8 @@ impl SeatName for Brand {
     ghost number = { 0 };
 }
 
-/// The versions of a connection that shares them with others: its seat of their cell, and the cell's putter.
+/// The versions of a connection that shares them with others: its seat of their cell, and the
+/// cell's putter.
 pub struct Shared<'a, C: CellName, N: SeatName, R: Wait + Drop, H: Wait> {
     rt: &'a H,
     putter: &'a SharedPutter<C, R>,
@@ -153,7 +154,8 @@ impl<'a, C: CellName, N: SeatName, R: Wait + Drop, H: Wait> Backend for Shared<'
     ghost follows = { λ old middle new log after first second. (
       (
         first.0.0 ++ second.0.0,
-        second.0.1 ∙ ap (λ seen. seen ++ second.0.0) first.0.1 ∙ append_assoc old.log first.0.0 second.0.0,
+        second.0.1 ∙ ap (λ seen. seen ++ second.0.0) first.0.1
+            ∙ append_assoc old.log first.0.0 second.0.0,
       ),
       second.1,
     ) };

@@ -24,7 +24,7 @@ all_at test (y ∷ ys) x zero h at =
     ap test (sym same) ∙ (and_parts (test y) (list_all test ys) h).0
 all_at test (y ∷ ys) x (suc i) h at = all_at test ys x i (and_parts (test y) (list_all test ys) h).1 at
 
--- what stands behind a handle of a list
+-- what stands after a handle of a list
 pub handle_at : {A X : Type 0} (view : A → X) (handles : List A) (p n : ℕ) (handle : A) → n ≡ length handles → p < n →
     handle ≡ get_or handles p handle → slice_get (map view handles) p ≡ Some (view handle)
 handle_at view handles p n handle long small at =

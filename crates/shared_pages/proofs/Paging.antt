@@ -50,7 +50,7 @@ pub full_at : {X : Type 0} (full : List (List X)) (page : List X) (p : ℕ) → 
     slice_get full p ≡ Some page → length page ≡ 256
 full_at full page p h at = full_length page (all_at is_full full page p h at)
 
--- what stands from a number on that names an item of a full page: the rest of that page, and what comes behind it
+-- what stands from a number on that names an item of a full page: the rest of that page, and what comes after it
 pub from_page : {X : Type 0} (full : List (List X)) (last page : List X) (p r i : ℕ) → list_all is_full full ≡ true →
     slice_get full p ≡ Some page → r < 256 → i ≡ p * 256 + r → drop i (joined full last) ≡ drop r page ++ joined (drop (suc p) full) last
 from_page [] last page p r i h at small e = cc
@@ -75,7 +75,7 @@ from_last full last i r h e =
     let place : i ≡ length (flat_map (λ page. page) full) + r = omega (arith, e, length-full full h) in
     rw place (drop-append-add (flat_map (λ page. page) full) last r)
 
--- pages behind full ones are full
+-- pages after full ones are full
 pub full_behind : {X : Type 0} (n : ℕ) (full : List (List X)) → list_all is_full full ≡ true → list_all is_full (drop n full) ≡ true
 full_behind zero full h = h
 full_behind (suc n) [] h = h

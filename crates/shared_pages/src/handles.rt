@@ -1,4 +1,4 @@
-//! Handles that share what stands behind them.
+//! Handles that share what stands after them.
 
 ghost use Rattle.std.specs.Prelude.{◌≡◌, ◌≤◌, ◌++◌, length, drop, map, IfOk};
 ghost use Rattle.std.specs.Arc.{arc_value};
@@ -32,7 +32,8 @@ pub fn shared_from<T: Drop>(
     first: usize,
 ) -> Result<Vec<Arc<T>>, AllocError>
     requires { first ≤ length handles.now }
-    ensures { IfOk result (λ rest. map arc_value rest.items ≡ drop first (map arc_value handles.now)) }
+    ensures { IfOk result
+        (λ rest. map arc_value rest.items ≡ drop first (map arc_value handles.now)) }
 {
     let rest = &handles[first..];
     shared(alloc, rest, rest.len())

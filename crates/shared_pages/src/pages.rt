@@ -1,6 +1,7 @@
 //! Lists in pages of 256 handles.
 
-ghost use Rattle.std.specs.Prelude.{◌≡◌, ◌<◌, ◌≤◌, ◌^◌, ◌∷◌, ◌++◌, [], Some, length, drop, map, IfOk, slice_get};
+ghost use Rattle.std.specs.Prelude.{◌≡◌, ◌<◌, ◌≤◌, ◌^◌, ◌∷◌, ◌++◌, [], Some, length, drop, map};
+ghost use Rattle.std.specs.Prelude.{IfOk, slice_get};
 ghost use Rattle.std.specs.Arc.{arc_value};
 
 use crate::handles::{shared, shared_from};
@@ -77,8 +78,8 @@ impl<T: Drop> Page<T> {
     }
 }
 
-/// A list of handles. A longer one shares its full pages, and copies the handles of the last: at most 255, and one for each
-/// full page. Contracts see it as the list of its items.
+/// A list of handles. A longer one shares its full pages, and copies the handles of the last: at
+/// most 255, and one for each full page. Contracts see it as the list of its items.
 pub struct Pages<T> {
     full: Vec<Arc<Page<T>>>,
     last: Page<T>,
@@ -151,8 +152,9 @@ impl<T: Drop> Pages<T> {
         Ok(Pages { full, last })
     }
 
-    /// The items from a place on, once more: the handles of those that stand in that place's page, and the pages behind it.
-    /// It copies at most 256 handles of them, one for each full page behind, and those of the last.
+    /// The items from a place on, once more: the handles of those that stand in that place's page,
+    /// and the pages after it. It copies at most 256 handles of them, one for each full page after,
+    /// and those of the last.
     ///
     /// # Errors
     ///

@@ -64,7 +64,7 @@ equal_same D ts = simp (flat, column_same)
 
 -- ---- what is repeated
 
--- what stands behind those in front, one by one
+-- what stands after those in front, one by one
 more : {A : Type 0} (g : Of A) → well_made g ≡ true → nullable g ≡ false → is_flat g ≡ true →
     (front : List A) (ts : List Mark) →
     (seen (reads None (many g) ts) >>= λ xs. Ok (front ++ xs.0, xs.1)) ≡ cond (begins (starts g) ts)

@@ -19,7 +19,7 @@ use Rattle.sql_parse.proofs.ListTokens.{begins_list}
 abbrev pub IsShort : List ℕ → Type 0
 IsShort name = length name ≤ 64
 
--- the list that has so many items now, of which it may have so many, and those behind it
+-- the list that has so many items now, of which it may have so many, and those after it
 abbrev pub Fit : ℕ → ℕ → List Step → Type 0
 Fit items most [] = items ≤ most
 Fit items most (begun more ∷ steps) = (items ≤ most) × Fit 1 more steps

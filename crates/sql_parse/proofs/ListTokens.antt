@@ -134,7 +134,7 @@ join_places t h =
 
 -- ---- what sentences announce
 
--- the items behind the first
+-- the items after the first
 abbrev pub more_items : {A : Type 0} → List A → List Step
 more_items [] = []
 more_items (x ∷ xs) = flat_map (λ y. next ∷ []) xs
@@ -325,7 +325,7 @@ module _ (D : Language Mark Condition) where
   same_groups [] h = absurd (omega arith)
   same_groups (x ∷ xs) h = refl
 
-  -- of what stands behind another
+  -- of what stands after another
   some_behind : {A B : Type 0} (g : Of A) (h : Of (List B)) →
       ((ts : List Mark) (vs : List B) → Spells D h ts vs → 1 ≤ length vs) →
       (ts : List Mark) (vs : List B) → Spells D (g ⊳ h) ts vs → 1 ≤ length vs

@@ -92,7 +92,7 @@ module _ (D : Language Mark Condition) where
         ),
       )
 
-  -- ---- behind an operand, with NOT or without
+  -- ---- after an operand, with NOT or without
 
   with_not : (r : List Mark) (f : Negatable) → Spells D (a_word word.Not ⊳ either ranged among) r f →
       Spells D tail r (f true)

@@ -1,5 +1,5 @@
--- Inside: how the code says what is read: a value and the tokens behind it, or how many tokens are left at the one
--- that offends.
+-- Inside: how the code says what is read: a value and the tokens after it, or how many tokens are
+-- left at the one that offends.
 use Rattle.std.specs.Prelude.{◌≡◌, ◌≢◌, List, length, Result, Ok, Err}
 use Rattle.grammar.specs.Reading.{Outcome, Read, Stuck, Over}
 use Rattle.sql_parse.specs.declared.refusal.Refusal.{Refusal}

@@ -1,4 +1,5 @@
--- Inside: the tokens that the code has still to read, the classes that it asks for, and what it counts.
+-- Inside: the tokens that the code has still to read, the classes that it asks for, and what it
+-- counts.
 use Rattle.std.specs.Prelude.{Bool, ℕ, List, length}
 use Rattle.sql_text.specs.declared.token.TokenKind.{TokenKind}
 use Rattle.sql_parse.specs.declared.tokens.Class.{Class}

@@ -62,9 +62,10 @@ item_at ts = do
   a ← alias_at s.1
   Ok (record { expression = s.0; alias = a.0 }, a.1)
 
--- more items behind those in front
+-- more items after those in front
 unfoldable pub items_at : List SelectItem → List Mark → Answer (List SelectItem)
-items_at front ts = seen (reads None (many (a_symbol symbol.Comma ⊳ item)) ts) >>= λ xs. Ok (front ++ xs.0, xs.1)
+items_at front ts =
+    seen (reads None (many (a_symbol symbol.Comma ⊳ item)) ts) >>= λ xs. Ok (front ++ xs.0, xs.1)
 
 unfoldable pub list_at : List Mark → Answer Select
 list_at ts =
@@ -88,9 +89,10 @@ equal_at ts = do
   right ← column_at t.1
   Ok (record { left = left.0; right = right.0 }, right.1)
 
--- more equalities behind those in front
+-- more equalities after those in front
 unfoldable pub equals_at : List Equality → List Mark → Answer (List Equality)
-equals_at front ts = seen (reads None (many (a_word word.And ⊳ equal)) ts) >>= λ xs. Ok (front ++ xs.0, xs.1)
+equals_at front ts =
+    seen (reads None (many (a_word word.And ⊳ equal)) ts) >>= λ xs. Ok (front ++ xs.0, xs.1)
 
 -- JOIN place ON equal { AND equal }
 unfoldable pub joined_at : List Mark → Answer Join
@@ -108,7 +110,7 @@ join_at ts =
       t ← token_at (is_word word.Inner) ts
       joined_at t.1) else joined_at ts
 
--- more joins behind those in front
+-- more joins after those in front
 unfoldable pub joins_at : List Join → List Mark → Answer (List Join)
 joins_at front ts = seen (reads None (many join) ts) >>= λ xs. Ok (front ++ xs.0, xs.1)
 
@@ -119,9 +121,10 @@ source_at ts = do
   js ← joins_at [] p.1
   Ok ((p.0, js.0), js.1)
 
--- more columns behind those in front
+-- more columns after those in front
 unfoldable pub columns_at : List ColumnName → List Mark → Answer (List ColumnName)
-columns_at front ts = seen (reads None (many (a_symbol symbol.Comma ⊳ column)) ts) >>= λ xs. Ok (front ++ xs.0, xs.1)
+columns_at front ts =
+    seen (reads None (many (a_symbol symbol.Comma ⊳ column)) ts) >>= λ xs. Ok (front ++ xs.0, xs.1)
 
 unfoldable pub group_at : List Mark → Answer (List ColumnName)
 group_at ts =

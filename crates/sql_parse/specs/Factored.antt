@@ -1,5 +1,6 @@
--- The grammar, where the forms of a predicate that begin with an operand share it, so that one token is enough to choose
--- by. A law says that it spells the same sentences; the standard's own words do without it.
+-- The grammar, where the forms of a predicate that begin with an operand share it, so that one
+-- token is enough to choose by. A law says that it spells the same sentences; the standard's own
+-- words do without it.
 use Rattle.std.specs.Prelude.{Bool, true, false}
 use Rattle.scan_base.specs.declared.predicate.Operand.{Operand}
 use Rattle.scan_base.specs.Predicate.{comparing, between, membership, null_test}
@@ -15,7 +16,7 @@ use Rattle.sql_parse.specs.Productions.{primary_of, test_of, factor_of}
 abbrev pub Value : Type 0
 Value = Operand ColumnName
 
--- behind an operand: a comparison, BETWEEN, IN, or IS NULL
+-- after an operand: a comparison, BETWEEN, IN, or IS NULL
 unfoldable pub compared : Of (Value → Condition)
 compared = make (λ p a. comparing p.0 a p.1) (both compare operand)
 
@@ -23,7 +24,8 @@ unfoldable pub nulled : Of (Value → Condition)
 nulled = a_word word.Is ⊳ make (λ n a. null_test n a) negated ⊲ a_word word.Null
 
 unfoldable pub ranged : Of (Bool → Value → Condition)
-ranged = a_word word.Between ⊳ make (λ p n a. between n a p.0 p.1) (both operand (a_word word.And ⊳ operand))
+ranged = a_word word.Between
+    ⊳ make (λ p n a. between n a p.0 p.1) (both operand (a_word word.And ⊳ operand))
 
 unfoldable pub among : Of (Bool → Value → Condition)
 among = a_word word.In ⊳ a_symbol symbol.LeftParenthesis

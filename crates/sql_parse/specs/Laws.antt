@@ -13,17 +13,20 @@ use Rattle.sql_parse.specs.Within.{IsWithinLimits}
 
 -- a list of tokens says at most one sentence
 abbrev pub AtMostOneSentence : Type 0
-AtMostOneSentence = (ts : List Mark) (s other : Sentence) → IsSentence ts s → IsSentence ts other → s ≡ other
+AtMostOneSentence =
+    (ts : List Mark) (s other : Sentence) → IsSentence ts s → IsSentence ts other → s ≡ other
 
 -- tokens are refused with at most one fault
 abbrev pub AtMostOneFault : Type 0
 AtMostOneFault =
-    (ts : List Mark) (end : ℕ) (first second : Fault) → Refuses ts end first → Refuses ts end second → first ≡ second
+    (ts : List Mark) (end : ℕ) (first second : Fault) → Refuses ts end first →
+    Refuses ts end second → first ≡ second
 
 -- tokens that are accepted are not refused
 abbrev pub AcceptedIsNotRefused : Type 0
 AcceptedIsNotRefused =
-    (ts : List Mark) (end : ℕ) (s : Sentence) (fault : Fault) → Accepts ts s → Refuses ts end fault → ⊥
+    (ts : List Mark) (end : ℕ) (s : Sentence) (fault : Fault) → Accepts ts s →
+    Refuses ts end fault → ⊥
 
 -- the tokens of a sentence pass no limit exactly where the sentence is within the limits
 abbrev pub LimitsAreOfTheSentence : Type 0
@@ -33,10 +36,11 @@ LimitsAreOfTheSentence =
 -- tokens that pass a limit begin no sentence within the limits
 abbrev pub PassedForGood : Type 0
 PassedForGood =
-    (front more : List Mark) (s : Sentence) → passes front ≡ true → IsSentence (front ++ more) s → IsWithinLimits s → ⊥
+    (front more : List Mark) (s : Sentence) → passes front ≡ true → IsSentence (front ++ more) s →
+    IsWithinLimits s → ⊥
 
--- The factored productions, which one token of look-ahead reads, spell the same as the printed ones: with any depth of
--- parentheses and NOTs, and with as many as may be open.
+-- The factored productions, which one token of look-ahead reads, spell the same as the printed
+-- ones: with any depth of parentheses and NOTs, and with as many as may be open.
 abbrev pub FactoredSpellsTheSame : Type 0
 FactoredSpellsTheSame = (ts : List Mark) (s : Sentence)
     → (IsSentence ts s ↔ Spells (Any factored.factor) query ts s)

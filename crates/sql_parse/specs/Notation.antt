@@ -34,12 +34,12 @@ word_for w x = one (is_word w) (λ t. Some x) (word_token w)
 abbrev pub symbol_for : {A : Type 0} → Symbol → A → Of A
 symbol_for s x = one (is_symbol s) (λ t. Some x) (symbol_token s)
 
--- one behind the other, of which the second has the value
+-- one after the other, of which the second has the value
 infixr 6 ◌⊳◌
 abbrev pub ◌⊳◌ : {A B : Type 0} → Of A → Of B → Of B
 g ⊳ h = make (λ p. p.1) (both g h)
 
--- one behind the other, of which the first has the value
+-- one after the other, of which the first has the value
 infixr 7 ◌⊲◌
 abbrev pub ◌⊲◌ : {A B : Type 0} → Of A → Of B → Of A
 g ⊲ h = make (λ p. p.0) (both g h)

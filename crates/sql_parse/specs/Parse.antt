@@ -3,7 +3,8 @@ use Rattle.std.specs.Prelude.{◌≡◌, ◌≢◌, ℕ, true, false, ◌⊎◌,
 use Rattle.std.specs.Prelude.{◌∷◌, ◌++◌, map, length, Result, Ok, Err}
 use Rattle.scan_base.specs.Limits.{most_open}
 use Rattle.scan_base.specs.declared.fault.Fault.{Fault}
-use Rattle.scan_base.specs.declared.fault.Fault.TheVariants.{OutOfMemory, LimitReached, NotInSubset, BadSql}
+use Rattle.scan_base.specs.declared.fault.Fault.TheVariants.{OutOfMemory, LimitReached, NotInSubset}
+use Rattle.scan_base.specs.declared.fault.Fault.TheVariants.{BadSql}
 use Rattle.sql_text.specs.Standard.{Lexeme}
 use Rattle.sql_text.specs.Reading.{tokens_in}
 use Rattle.sql_text.specs.Words.{is_left_out}
@@ -40,8 +41,8 @@ pub record PassesLimit (ts : List Mark) : Type 0 where
   pub begins : Begins IsSentence front
   pub past : (Begins IsShallow front → ⊥) ⊎ (passes front ≡ true)
 
--- The first token of the place offends, or where it has none the end of the text, and the tokens before it pass
--- no limit.
+-- The first token of the place offends, or where it has none the end of the text, and the tokens
+-- before it pass no limit.
 pub record HasOffender (ts place : List Mark) : Type 0 where
   pub offends : Offends IsShallow IsSentence ts place
   pub counts : passes offends.front ≡ false
@@ -58,7 +59,8 @@ abbrev pub fault_or : Fault → List Mark → Fault
 fault_or other [] = other
 fault_or other (t ∷ ts) = if is_left_out t.0 then NotInSubset else BadSql t.1.0
 
--- Why tokens that end at `end` are refused: they pass a limit, have an offender, or are left out as a whole.
+-- Why tokens that end at `end` are refused: they pass a limit, have an offender, or are left out as
+-- a whole.
 abbrev pub Refuses : List Mark → ℕ → Fault → Type 0
 Refuses ts end fault =
     (PassesLimit ts × (fault ≡ LimitReached))
@@ -76,4 +78,5 @@ Parsed view text (Ok x) =
     (lexemes : List Lexeme) × (tokens_in text ≡ Ok lexemes) × Accepts (map mark_of lexemes) (view x)
 Parsed view text (Err fault) =
     fault ≢ OutOfMemory → (tokens_in text ≡ Err fault)
-    ⊎ ((lexemes : List Lexeme) × (tokens_in text ≡ Ok lexemes) × Refuses (map mark_of lexemes) (length text) fault)
+    ⊎ ((lexemes : List Lexeme) × (tokens_in text ≡ Ok lexemes)
+    × Refuses (map mark_of lexemes) (length text) fault)

@@ -4,7 +4,8 @@ use Rattle.std.specs.Prelude.{Some, None, Ok, Err}
 use Rattle.scan_base.specs.declared.truth.Truth.{Truth}
 use Rattle.scan_base.specs.declared.truth.Truth.TheVariants as truth
 use Rattle.scan_base.specs.declared.predicate.Operand.{Operand}
-use Rattle.scan_base.specs.Predicate.{conjunction, disjunction, negation, truth_test, comparing, between, membership}
+use Rattle.scan_base.specs.Predicate.{conjunction, disjunction, negation, truth_test, comparing}
+use Rattle.scan_base.specs.Predicate.{between, membership}
 use Rattle.scan_base.specs.Predicate.{null_test}
 use Rattle.sql_text.specs.declared.word.Keyword.TheVariants as word
 use Rattle.sql_text.specs.declared.symbol.Symbol.TheVariants as symbol
@@ -57,9 +58,11 @@ ranged_at n a ts = do
   high ← operand_at u.1
   Ok (between n a low.0 high.0, high.1)
 
--- more operands behind those in front
-unfoldable pub operands_at : List (Operand ColumnName) → List Mark → Answer (List (Operand ColumnName))
-operands_at front ts = seen (reads None (many (a_symbol symbol.Comma ⊳ operand)) ts) >>= λ os. Ok (front ++ os.0, os.1)
+-- more operands after those in front
+unfoldable pub operands_at : List (Operand ColumnName) → List Mark →
+    Answer (List (Operand ColumnName))
+operands_at front ts =
+    seen (reads None (many (a_symbol symbol.Comma ⊳ operand)) ts) >>= λ os. Ok (front ++ os.0, os.1)
 
 unfoldable pub among_at : Bool → Operand ColumnName → List Mark → Answer Condition
 among_at n a ts = do
@@ -82,7 +85,7 @@ tail_at a ts =
 unfoldable pub factor_at : ℕ → List Mark → Answer Condition
 factor_at d ts = seen (read factor d ts)
 
--- more factors behind p
+-- more factors after p
 unfoldable pub ands_at : ℕ → Condition → List Mark → Answer Condition
 ands_at d p ts = seen (reads (Some (read factor d)) (many (a_word word.And ⊳ inner)) ts)
     >>= λ qs. Ok (joined conjunction p qs.0, qs.1)
@@ -119,7 +122,7 @@ form_at ts = do
 unfoldable pub primary_at : ℕ → List Mark → Answer Condition
 primary_at d ts = if at (is_symbol symbol.LeftParenthesis) ts then inside_at d ts else form_at ts
 
--- IS [NOT] and a truth value, behind p
+-- IS [NOT] and a truth value, after p
 unfoldable pub tested_at : Condition → List Mark → Answer Condition
 tested_at p ts = do
   i ← token_at (is_word word.Is) ts

@@ -8,7 +8,8 @@ use Rattle.scan_base.specs.declared.value.Value.{Value}
 use Rattle.scan_base.specs.declared.value.Value.TheVariants as value
 use Rattle.scan_base.specs.declared.predicate.Operand.{Operand}
 use Rattle.scan_base.specs.declared.predicate.Operand.TheVariants.{Column, Literal, Date}
-use Rattle.scan_base.specs.Predicate.{conjunction, disjunction, negation, truth_test, comparing, between, membership, null_test}
+use Rattle.scan_base.specs.Predicate.{conjunction, disjunction, negation, truth_test, comparing}
+use Rattle.scan_base.specs.Predicate.{between, membership, null_test}
 use Rattle.sql_text.specs.declared.word.Keyword.TheVariants as word
 use Rattle.sql_text.specs.declared.symbol.Symbol.TheVariants as symbol
 use Rattle.sql_text.specs.declared.token.TokenKind.{TokenKind}
@@ -16,9 +17,11 @@ use Rattle.grammar.specs.Rule.{one, empty, both, either, many, make, opened, aga
 use Rattle.sql_query.specs.declared.query.ColumnName.{ColumnName}
 use Rattle.calendar.specs.Dates.{day_in}
 use Rattle.sql_text.specs.Words.{is_name}
-use Rattle.sql_parse.specs.Tokens.{is_word, is_symbol, is_string, is_digits, word_token, symbol_token, name_token, string_token, digits_token, date_token}
+use Rattle.sql_parse.specs.Tokens.{is_word, is_symbol, is_string, is_digits, word_token}
+use Rattle.sql_parse.specs.Tokens.{symbol_token, name_token, string_token, digits_token, date_token}
 use Rattle.sql_text.specs.Calls.{said, numeral}
-use Rattle.sql_parse.specs.Notation.{Condition, Of, a_word, a_symbol, word_for, symbol_for, ◌⊳◌, ◌⊲◌, maybe, listed, joined, is_one_of}
+use Rattle.sql_parse.specs.Notation.{Condition, Of, a_word, a_symbol, word_for, symbol_for, ◌⊳◌}
+use Rattle.sql_parse.specs.Notation.{◌⊲◌, maybe, listed, joined, is_one_of}
 
 -- ---- operands
 
@@ -39,7 +42,7 @@ column = make (λ p. column_name p.0 p.1) (both name (maybe (a_symbol symbol.Per
 unfoldable pub minus : Of Bool
 minus = either (symbol_for symbol.Minus true) (either (symbol_for symbol.Plus false) (empty false))
 
--- the number behind its sign, where true is the minus
+-- the number after its sign, where true is the minus
 abbrev pub signed : Bool → ℤ → ℤ
 signed true number = neg_ℤ number
 signed false number = number
@@ -63,7 +66,8 @@ date = a_word word.Date ⊳ one is_string (λ t. day_in (said t.0 t.1.1)) date_t
 -- column | DATE string | string | TRUE | FALSE | number
 unfoldable pub operand : Of (Operand ColumnName)
 operand = either (make Column column) (either (make Date date) (make Literal (either string
-    (either (word_for word.True (value.Bool true)) (either (word_for word.False (value.Bool false)) number)))))
+    (either (word_for word.True (value.Bool true))
+    (either (word_for word.False (value.Bool false)) number)))))
 
 -- "=" | "<>" | "<" | "<=" | ">" | ">=", where "!=" is "<>"
 unfoldable pub compare : Of Comparison
@@ -85,7 +89,8 @@ negated = either (word_for word.Not true) (empty false)
 abbrev pub begins_factor : TokenKind → Bool
 begins_factor = is_one_of
     (is_name ∷ is_symbol symbol.Plus ∷ is_symbol symbol.Minus ∷ is_digits ∷ is_string ∷
-    is_word word.True ∷ is_word word.False ∷ is_word word.Date ∷ is_symbol symbol.LeftParenthesis ∷ is_word word.Not ∷ [])
+    is_word word.True ∷ is_word word.False ∷ is_word word.Date ∷ is_symbol symbol.LeftParenthesis
+    ∷ is_word word.Not ∷ [])
 
 -- a factor within a factor
 abbrev pub inner : Of Condition
@@ -117,7 +122,8 @@ membership_of = make (λ p. membership p.1.0 p.0 p.1.1)
 
 -- operand IS [NOT] NULL
 unfoldable pub null_test_of : Of Condition
-null_test_of = make (λ p. null_test p.1 p.0) (both operand (a_word word.Is ⊳ negated ⊲ a_word word.Null))
+null_test_of =
+    make (λ p. null_test p.1 p.0) (both operand (a_word word.Is ⊳ negated ⊲ a_word word.Null))
 
 -- the four forms of a predicate without parentheses
 unfoldable pub simple : Of Condition
@@ -130,21 +136,23 @@ primary_of forms = opened (is_symbol symbol.LeftParenthesis) (symbol_token symbo
 
 -- TRUE | FALSE | UNKNOWN
 unfoldable pub truth_value : Of Truth
-truth_value = either (word_for word.True truth.True) (either (word_for word.False truth.False) (word_for word.Unknown truth.Unknown))
+truth_value = either (word_for word.True truth.True)
+    (either (word_for word.False truth.False) (word_for word.Unknown truth.Unknown))
 
--- a predicate, and the IS behind it where there is one
+-- a predicate, and the IS after it where there is one
 abbrev pub tested : Condition → Option (Bool × Truth) → Condition
 tested p None = p
 tested p (Some test) = truth_test test.0 test.1 p
 
 -- primary [ IS [NOT] (TRUE | FALSE | UNKNOWN) ]
 abbrev pub test_of : Of Condition → Of Condition
-test_of primary = make (λ p. tested p.0 p.1) (both primary (maybe (a_word word.Is ⊳ both negated truth_value)))
+test_of primary =
+    make (λ p. tested p.0 p.1) (both primary (maybe (a_word word.Is ⊳ both negated truth_value)))
 
 -- NOT factor | test
 abbrev pub factor_of : Of Condition → Of Condition
 factor_of test = opened (is_word word.Not) (word_token word.Not) (make negation inner) test
 
--- NOT factor | "(" pred ")" | simple, and an IS behind the latter two
+-- NOT factor | "(" pred ")" | simple, and an IS after the latter two
 unfoldable pub factor : Of Condition
 factor = factor_of (test_of (primary_of simple))

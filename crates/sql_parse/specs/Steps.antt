@@ -15,7 +15,8 @@ use Rattle.sql_query.specs.declared.query.ColumnName.{ColumnName}
 use Rattle.sql_parse.specs.declared.refusal.Refusal.TheVariants as refusal
 use Rattle.calendar.specs.Dates.{day_in}
 use Rattle.sql_text.specs.Words.{is_name}
-use Rattle.sql_parse.specs.Tokens.{Mark, is_word, is_symbol, is_string, is_digits, value_of, number_in}
+use Rattle.sql_parse.specs.Tokens.{Mark, is_word, is_symbol, is_string, is_digits, value_of}
+use Rattle.sql_parse.specs.Tokens.{number_in}
 use Rattle.sql_parse.specs.Answers.{Answer, seen, ◌>>=◌}
 use Rattle.sql_parse.specs.Productions.{column_name, signed}
 
@@ -48,7 +49,7 @@ minus_at ts =
         t ← token_at (is_symbol symbol.Plus) ts
         Ok (false, t.1)) else Ok (false, ts))
 
--- the number, where the tokens before and behind it are these
+-- the number, where the tokens before and after it are these
 abbrev pub numbered : Option ℤ → List Mark → List Mark → Answer ℤ
 numbered None all rest = Err (refusal.Offends (length all))
 numbered (Some n) all rest = Ok (n, rest)

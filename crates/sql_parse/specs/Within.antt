@@ -1,11 +1,13 @@
--- The limits of number and of names, on the sentence: a law says that these are those of its tokens.
+-- The limits of number and of names, on the sentence: a law says that these are those of its
+-- tokens.
 use Rattle.std.specs.Prelude.{ℕ, ◌+◌, ◌≤◌, List, [], ◌∷◌, ◌++◌, length, Option, Some, None, All}
 use Rattle.std.specs.List.{flat_map}
 use Rattle.std.specs.Option.{option_to_list}
 use Rattle.scan_base.specs.Limits.{most_places, most_items, most_members, most_name_bytes}
 use Rattle.scan_base.specs.declared.predicate.Operand.{Operand}
 use Rattle.scan_base.specs.declared.predicate.Operand.TheVariants as operand
-use Rattle.scan_base.specs.Predicate.{Pred, conjunction, disjunction, negation, truth_test, comparing, between}
+use Rattle.scan_base.specs.Predicate.{Pred, conjunction, disjunction, negation, truth_test}
+use Rattle.scan_base.specs.Predicate.{comparing, between}
 use Rattle.scan_base.specs.Predicate.{membership, null_test, constant}
 use Rattle.sql_query.specs.declared.query.ColumnName.{ColumnName}
 use Rattle.sql_query.specs.declared.query.Expression.{Expression}
@@ -56,7 +58,8 @@ condition_names (disjunction p q) = condition_names p ++ condition_names q
 condition_names (negation p) = condition_names p
 condition_names (truth_test negated tested p) = condition_names p
 condition_names (comparing comparison a b) = operand_names a ++ operand_names b
-condition_names (between negated a low high) = operand_names a ++ (operand_names low ++ operand_names high)
+condition_names (between negated a low high) =
+    operand_names a ++ (operand_names low ++ operand_names high)
 condition_names (membership negated a items) = operand_names a ++ flat_map operand_names items
 condition_names (null_test negated a) = operand_names a
 condition_names (constant truth) = []
@@ -87,8 +90,8 @@ abbrev pub filter_members : Option (Pred ColumnName) → List ℕ
 filter_members None = []
 filter_members (Some p) = members p
 
--- There are at most so many places, items in the list, columns in GROUP BY and items in each IN, and each name has at
--- most so many bytes.
+-- There are at most so many places, items in the list, columns in GROUP BY and items in each IN,
+-- and each name has at most so many bytes.
 pub record IsWithinLimits (s : Sentence) : Type 0 where
   pub places : length s.joins + 1 ≤ most_places
   pub items : select_items s.select ≤ most_items

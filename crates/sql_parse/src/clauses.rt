@@ -53,7 +53,8 @@ fn counted<'t>(alloc: Global, tokens: Rest<'t>) -> Result<(Expression, Rest<'t>)
 // column | COUNT "(" ("*" | column) ")" | SUM "(" column ")"
 #[tactic(auto, unfolding(crate::specs::ClauseSteps::selection_at))]
 fn selection<'t>(alloc: Global, tokens: Rest<'t>) -> Result<(Expression, Rest<'t>), Refusal>
-    ensures exact { Gives (λ x. (x.0, unread x.1)) result (steps.selection_at (unread tokens.entry)) }
+    ensures exact { Gives (λ x. (x.0, unread x.1)) result
+        (steps.selection_at (unread tokens.entry)) }
     ensures shorter { IfOk result (λ x. remaining x.1 < remaining tokens.entry) }
 {
     if tokens.at(Class::Word(Keyword::Count)) {
@@ -85,14 +86,15 @@ fn item<'t>(alloc: Global, tokens: Rest<'t>) -> Result<(SelectItem, Rest<'t>), R
     Ok((SelectItem { expression, alias }, rest))
 }
 
-// { "," item }, behind the first
+// { "," item }, after the first
 #[tactic(auto, using(crate::proofs::ClauseReading::items_step))]
 fn items<'t>(
     alloc: Global,
     first: SelectItem,
     tokens: Rest<'t>,
 ) -> Result<(Items<SelectItem>, Rest<'t>), Refusal>
-    ensures exact { Gives (λ x. (x.0, unread x.1)) result (steps.items_at (first ∷ []) (unread tokens.entry)) }
+    ensures exact { Gives (λ x. (x.0, unread x.1)) result
+        (steps.items_at (first ∷ []) (unread tokens.entry)) }
     ensures shorter { IfOk result (λ x. remaining x.1 ≤ remaining tokens.entry) }
 {
     let mut items = Items::new(alloc);
@@ -146,14 +148,15 @@ fn equality<'t>(alloc: Global, tokens: Rest<'t>) -> Result<(Equality, Rest<'t>),
     Ok((Equality { left, right }, rest))
 }
 
-// { AND equality }, behind the first
+// { AND equality }, after the first
 #[tactic(auto, using(crate::proofs::ClauseReading::equals_step))]
 fn equalities<'t>(
     alloc: Global,
     first: Equality,
     tokens: Rest<'t>,
 ) -> Result<(Items<Equality>, Rest<'t>), Refusal>
-    ensures exact { Gives (λ x. (x.0, unread x.1)) result (steps.equals_at (first ∷ []) (unread tokens.entry)) }
+    ensures exact { Gives (λ x. (x.0, unread x.1)) result
+        (steps.equals_at (first ∷ []) (unread tokens.entry)) }
     ensures shorter { IfOk result (λ x. remaining x.1 ≤ remaining tokens.entry) }
 {
     let mut equalities = Items::new(alloc);
@@ -199,7 +202,8 @@ fn join<'t>(alloc: Global, tokens: Rest<'t>) -> Result<(Join, Rest<'t>), Refusal
 // { join }
 #[tactic(auto, using(crate::proofs::ClauseReading::joins_step))]
 fn joins<'t>(alloc: Global, tokens: Rest<'t>) -> Result<(Items<Join>, Rest<'t>), Refusal>
-    ensures exact { Gives (λ x. (x.0, unread x.1)) result (steps.joins_at [] (unread tokens.entry)) }
+    ensures exact { Gives (λ x. (x.0, unread x.1)) result
+        (steps.joins_at [] (unread tokens.entry)) }
     ensures shorter { IfOk result (λ x. remaining x.1 ≤ remaining tokens.entry) }
 {
     let mut joins = Items::new(alloc);
@@ -223,14 +227,15 @@ fn source<'t>(alloc: Global, tokens: Rest<'t>) -> Result<((Place, Items<Join>), 
     Ok(((place, joins), rest))
 }
 
-// { "," column }, behind the first
+// { "," column }, after the first
 #[tactic(auto, using(crate::proofs::ClauseReading::columns_step))]
 fn columns<'t>(
     alloc: Global,
     first: ColumnName,
     tokens: Rest<'t>,
 ) -> Result<(Items<ColumnName>, Rest<'t>), Refusal>
-    ensures exact { Gives (λ x. (x.0, unread x.1)) result (steps.columns_at (first ∷ []) (unread tokens.entry)) }
+    ensures exact { Gives (λ x. (x.0, unread x.1)) result
+        (steps.columns_at (first ∷ []) (unread tokens.entry)) }
 {
     let mut columns = Items::new(alloc);
     columns.push(first)?;
@@ -301,7 +306,8 @@ fn ending<'t>(
 // SELECT list FROM place { join } [ WHERE .. ] [ GROUP BY .. ] [ ";" ]
 #[tactic(auto, unfolding(crate::specs::QuerySteps::query_at))]
 fn query<'t>(alloc: Global, depth: usize, tokens: Rest<'t>) -> Result<(Query, Rest<'t>), Refusal>
-    ensures exact { Gives (λ x. (sentence_of x.0, unread x.1)) result (queries.query_at depth (unread tokens.entry)) }
+    ensures exact { Gives (λ x. (sentence_of x.0, unread x.1)) result
+        (queries.query_at depth (unread tokens.entry)) }
 {
     let (_, rest) = tokens.take(Class::Word(Keyword::Select))?;
     let (select, rest) = list(alloc, rest)?;
@@ -319,7 +325,8 @@ fn query<'t>(alloc: Global, depth: usize, tokens: Rest<'t>) -> Result<(Query, Re
 
 // Whether no token is left. The first one that is left offends.
 fn end(tokens: Rest<'_>) -> Result<(), Refusal>
-    ensures exact { (s : Sentence) → Gives (λ _. s) result (queries.finished (s, unread tokens.entry)) }
+    ensures exact { (s : Sentence) →
+        Gives (λ _. s) result (queries.finished (s, unread tokens.entry)) }
 {
     match tokens.tokens {
         [] => Ok(()),
@@ -327,7 +334,8 @@ fn end(tokens: Rest<'_>) -> Result<(), Refusal>
     }
 }
 
-/// The query that the tokens, all of them, are, where `depth` parentheses and prefix NOTs may be open.
+/// The query that the tokens, all of them, are, where `depth` parentheses and prefix NOTs may be
+/// open.
 #[tactic(auto, unfolding(crate::specs::QuerySteps::whole_at))]
 pub(crate) fn whole_query(alloc: Global, depth: usize, tokens: Rest<'_>) -> Result<Query, Refusal>
     ensures exact { Gives sentence_of result (queries.whole_at depth (unread tokens.entry)) }

@@ -1,5 +1,5 @@
-//! Laws of the definitions that the contract of [`crate::parse`] cites. The functions do nothing: their
-//! contracts are the laws.
+//! Laws of the definitions that the contract of [`crate::parse`] cites. The functions do nothing:
+//! their contracts are the laws.
 
 ghost use Rattle.sql_parse.specs.Laws.{
   AtMostOneSentence,
@@ -25,8 +25,9 @@ pub fn accepted_is_not_refused()
     ensures { AcceptedIsNotRefused }
 {}
 
-/// The tokens of a sentence pass no limit exactly where the sentence is within the limits: at most 4 places, 64 items
-/// in its list, 64 columns in GROUP BY and 256 items in each IN, and each name of at most 64 bytes.
+/// The tokens of a sentence pass no limit exactly where the sentence is within the limits: at most
+/// 4 places, 64 items in its list, 64 columns in GROUP BY and 256 items in each IN, and each name
+/// of at most 64 bytes.
 pub fn limits_are_of_the_sentence()
     ensures { LimitsAreOfTheSentence }
 {}
@@ -36,8 +37,8 @@ pub fn passed_for_good()
     ensures { PassedForGood }
 {}
 
-/// The factored productions, by which the parser reads with one token of look-ahead, spell the same as the printed
-/// ones.
+/// The factored productions, by which the parser reads with one token of look-ahead, spell the same
+/// as the printed ones.
 pub fn factored_spells_the_same()
     ensures { FactoredSpellsTheSame }
 {}

@@ -85,7 +85,8 @@ fn is_long_name(token: Token<'_>) -> bool
     }
 }
 
-/// Which token is the first that passes a limit, where the tokens up to it begin a sentence. It takes no memory.
+/// Which token is the first that passes a limit, where the tokens up to it begin a sentence. It
+/// takes no memory.
 #[tactic(auto, unfolding(crate::specs::Limits::passes))]
 pub(crate) fn first_past(tokens: &[Token<'_>]) -> Option<usize>
     ensures { IsFirstPast result (marks tokens.now) }

@@ -40,7 +40,8 @@ fn fault_or(other: Fault, tokens: &[Token<'_>]) -> Fault
     }
 }
 
-// The query that the tokens are, which pass no limit, or the first fault, where the text ends at `end`.
+// The query that the tokens are, which pass no limit, or the first fault, where the text ends at
+// `end`.
 fn parse_within(alloc: Global, tokens: &[Token<'_>], end: u32) -> Result<Query, Fault>
     requires { passes (marks tokens.now) ≡ false }
     ensures { Answered sentence_of (marks tokens.now) end result }
@@ -62,7 +63,8 @@ fn parse_within(alloc: Global, tokens: &[Token<'_>], end: u32) -> Result<Query, 
     }
 }
 
-// The first fault of the tokens, where the one at `past` is the first that passes a limit. None behind it is read.
+// The first fault of the tokens, where the one at `past` is the first that passes a limit. None
+// after it is read.
 fn fault_past(alloc: Global, tokens: &[Token<'_>], past: usize, end: u32) -> Fault
     requires { IsFirstPast (Some past) (marks tokens.now) }
     ensures { result ≢ OutOfMemory → Refuses (marks tokens.now) end result }
@@ -91,23 +93,24 @@ fn parse_tokens(alloc: Global, tokens: &[Token<'_>], end: u32) -> Result<Query, 
 
 /// The query that a text is. Each name in it has 1 to 64 bytes.
 ///
-/// The grammar is a small part of SQL-92. At most 64 parentheses of predicates and prefix NOTs may be open at
-/// once, so the stack that is taken is bounded.
+/// The grammar is a small part of SQL-92. At most 64 parentheses of predicates and prefix NOTs may
+/// be open at once, so the stack that is taken is bounded.
 ///
 /// # Errors
 ///
 /// The faults of [`sql_text::tokens`] come first. Then, from the left, the first of these:
-/// `Fault::LimitReached` at a token that passes a limit: a name of more than 64 bytes, the fifth place, the
-/// 65th item of a select list or of GROUP BY, the 257th item of an IN, the 65th open parenthesis or NOT; and
-/// the fault of the token that offends, with which no sentence goes on: `Fault::NotInSubset` where SQL has
-/// such a token and this server leaves it out, otherwise `Fault::BadSql` at its first byte, or at the length
-/// of the text where it ends too early. A token that does both offends. Last, of a whole sentence,
-/// `Fault::NotInSubset` for a JOIN with an aggregate or GROUP BY, and for `*` with GROUP BY.
-/// `Fault::OutOfMemory` where memory is refused.
+/// `Fault::LimitReached` at a token that passes a limit: a name of more than 64 bytes, the fifth
+/// place, the 65th item of a select list or of GROUP BY, the 257th item of an IN, the 65th open
+/// parenthesis or NOT; and the fault of the token that offends, with which no sentence goes on:
+/// `Fault::NotInSubset` where SQL has such a token and this server leaves it out, otherwise
+/// `Fault::BadSql` at its first byte, or at the length of the text where it ends too early. A token
+/// that does both offends. Last, of a whole sentence, `Fault::NotInSubset` for a JOIN with an
+/// aggregate or GROUP BY, and for `*` with GROUP BY. `Fault::OutOfMemory` where memory is refused.
 pub fn parse(alloc: Global, sql: &str) -> Result<Query, Fault>
     ensures parsed { Parsed sentence_of sql.now result }
     ensures named { IfOk result (λ query. QueryHasNames (sentence_of query)) }
-    ensures first { RefusesFirst result (demand (nat_le (length sql.now) most_query_bytes) LimitReached) }
+    ensures first { RefusesFirst result
+        (demand (nat_le (length sql.now) most_query_bytes) LimitReached) }
 {
     let tokens = sql_text::tokens(alloc, sql)?;
     parse_tokens(alloc, &tokens, sql.len() as u32)

@@ -18,7 +18,8 @@ use std::alloc::Global;
 // [ NOT ]
 #[tactic(auto, unfolding(crate::specs::PredicateSteps::negated_at))]
 fn negated<'t>(tokens: Rest<'t>) -> Result<(bool, Rest<'t>), Refusal>
-    ensures exact { Gives (λ x. (x.0, unread x.1)) result (predicates.negated_at (unread tokens.entry)) }
+    ensures exact { Gives (λ x. (x.0, unread x.1)) result
+        (predicates.negated_at (unread tokens.entry)) }
     ensures shorter { IfOk result (λ x. remaining x.1 ≤ remaining tokens.entry) }
 {
     if tokens.at(Class::Word(Keyword::Not)) {
@@ -32,7 +33,8 @@ fn negated<'t>(tokens: Rest<'t>) -> Result<(bool, Rest<'t>), Refusal>
 // TRUE | FALSE | UNKNOWN
 #[tactic(auto, unfolding(crate::specs::PredicateSteps::truth_at))]
 fn truth_value<'t>(tokens: Rest<'t>) -> Result<(Truth, Rest<'t>), Refusal>
-    ensures exact { Gives (λ x. (x.0, unread x.1)) result (predicates.truth_at (unread tokens.entry)) }
+    ensures exact { Gives (λ x. (x.0, unread x.1)) result
+        (predicates.truth_at (unread tokens.entry)) }
     ensures shorter { IfOk result (λ x. remaining x.1 < remaining tokens.entry) }
 {
     if tokens.at(Class::Word(Keyword::True)) {
@@ -49,9 +51,10 @@ fn truth_value<'t>(tokens: Rest<'t>) -> Result<(Truth, Rest<'t>), Refusal>
 
 // ---- From here on a predicate is in a box, since each parenthesis hands it on.
 
-// What may follow an operand: each stands apart, so that no reading makes room for what another needs.
+// What may follow an operand: each stands apart, so that no reading makes room for what another
+// needs.
 
-// compare operand, behind an operand
+// compare operand, after an operand
 #[tactic(auto, unfolding(crate::specs::PredicateSteps::compared_at))]
 #[inline(never)]
 fn compared<'t>(
@@ -59,7 +62,8 @@ fn compared<'t>(
     left: Operand<ColumnName>,
     tokens: Rest<'t>,
 ) -> Result<(Box<Predicate<ColumnName>>, Rest<'t>), Refusal>
-    ensures exact { Gives (λ x. (pred_of x.0.value, unread x.1)) result (predicates.compared_at left (unread tokens.entry)) }
+    ensures exact { Gives (λ x. (pred_of x.0.value, unread x.1)) result
+        (predicates.compared_at left (unread tokens.entry)) }
     ensures shorter { IfOk result (λ x. remaining x.1 < remaining tokens.entry) }
 {
     let (comparison, rest) = compare(tokens)?;
@@ -72,7 +76,7 @@ fn compared<'t>(
     Ok((Box::new(alloc, predicate)?, rest))
 }
 
-// IS [NOT] NULL, behind an operand
+// IS [NOT] NULL, after an operand
 #[tactic(auto, unfolding(crate::specs::PredicateSteps::nulled_at))]
 #[inline(never)]
 fn null_test<'t>(
@@ -80,7 +84,8 @@ fn null_test<'t>(
     operand: Operand<ColumnName>,
     tokens: Rest<'t>,
 ) -> Result<(Box<Predicate<ColumnName>>, Rest<'t>), Refusal>
-    ensures exact { Gives (λ x. (pred_of x.0.value, unread x.1)) result (predicates.nulled_at operand (unread tokens.entry)) }
+    ensures exact { Gives (λ x. (pred_of x.0.value, unread x.1)) result
+        (predicates.nulled_at operand (unread tokens.entry)) }
     ensures shorter { IfOk result (λ x. remaining x.1 < remaining tokens.entry) }
 {
     let (_, rest) = tokens.take(Class::Word(Keyword::Is))?;
@@ -90,7 +95,7 @@ fn null_test<'t>(
     Ok((Box::new(alloc, predicate)?, rest))
 }
 
-// BETWEEN operand AND operand, behind an operand and NOT or none
+// BETWEEN operand AND operand, after an operand and NOT or none
 #[tactic(auto, unfolding(crate::specs::PredicateSteps::ranged_at))]
 #[inline(never)]
 fn between<'t>(
@@ -116,14 +121,15 @@ fn between<'t>(
     Ok((Box::new(alloc, predicate)?, rest))
 }
 
-// { "," operand }, behind the first
+// { "," operand }, after the first
 #[tactic(auto, using(crate::proofs::Steps::operands_step))]
 fn operands<'t>(
     alloc: Global,
     first: Operand<ColumnName>,
     tokens: Rest<'t>,
 ) -> Result<(Items<Operand<ColumnName>>, Rest<'t>), Refusal>
-    ensures exact { Gives (λ x. (x.0, unread x.1)) result (predicates.operands_at (first ∷ []) (unread tokens.entry)) }
+    ensures exact { Gives (λ x. (x.0, unread x.1)) result
+        (predicates.operands_at (first ∷ []) (unread tokens.entry)) }
     ensures shorter { IfOk result (λ x. remaining x.1 ≤ remaining tokens.entry) }
 {
     let mut items = Items::new(alloc);
@@ -138,7 +144,7 @@ fn operands<'t>(
     Ok((items, rest))
 }
 
-// IN "(" operand { "," operand } ")", behind an operand and NOT or none
+// IN "(" operand { "," operand } ")", after an operand and NOT or none
 #[tactic(auto, unfolding(crate::specs::PredicateSteps::among_at))]
 #[inline(never)]
 fn membership<'t>(
@@ -147,7 +153,8 @@ fn membership<'t>(
     value: Operand<ColumnName>,
     tokens: Rest<'t>,
 ) -> Result<(Box<Predicate<ColumnName>>, Rest<'t>), Refusal>
-    ensures exact { Gives (λ x. (pred_of x.0.value, unread x.1)) result (predicates.among_at negated value (unread tokens.entry)) }
+    ensures exact { Gives (λ x. (pred_of x.0.value, unread x.1)) result
+        (predicates.among_at negated value (unread tokens.entry)) }
     ensures shorter { IfOk result (λ x. remaining x.1 < remaining tokens.entry) }
 {
     let (_, rest) = tokens.take(Class::Word(Keyword::In))?;
@@ -170,7 +177,8 @@ fn behind_operand<'t>(
     left: Operand<ColumnName>,
     tokens: Rest<'t>,
 ) -> Result<(Box<Predicate<ColumnName>>, Rest<'t>), Refusal>
-    ensures exact { Gives (λ x. (pred_of x.0.value, unread x.1)) result (predicates.tail_at left (unread tokens.entry)) }
+    ensures exact { Gives (λ x. (pred_of x.0.value, unread x.1)) result
+        (predicates.tail_at left (unread tokens.entry)) }
     ensures shorter { IfOk result (λ x. remaining x.1 < remaining tokens.entry) }
 {
     if tokens.at(Class::Word(Keyword::Is)) {
@@ -191,7 +199,8 @@ fn behind_operand<'t>(
     }
 }
 
-// The next four stand apart, so that what an open parenthesis keeps on the stack holds no predicate by value.
+// The next four stand apart, so that what an open parenthesis keeps on the stack holds no predicate
+// by value.
 
 // operand and what follows it
 #[tactic(auto, unfolding(crate::specs::PredicateSteps::form_at))]
@@ -200,14 +209,15 @@ fn form<'t>(
     alloc: Global,
     tokens: Rest<'t>,
 ) -> Result<(Box<Predicate<ColumnName>>, Rest<'t>), Refusal>
-    ensures exact { Gives (λ x. (pred_of x.0.value, unread x.1)) result (predicates.form_at (unread tokens.entry)) }
+    ensures exact { Gives (λ x. (pred_of x.0.value, unread x.1)) result
+        (predicates.form_at (unread tokens.entry)) }
     ensures shorter { IfOk result (λ x. remaining x.1 < remaining tokens.entry) }
 {
     let (left, rest) = operand(alloc, tokens)?;
     behind_operand(alloc, left, rest)
 }
 
-// IS [NOT] (TRUE | FALSE | UNKNOWN), behind a predicate
+// IS [NOT] (TRUE | FALSE | UNKNOWN), after a predicate
 #[tactic(auto, unfolding(crate::specs::PredicateSteps::tested_at))]
 #[inline(never)]
 fn truth_test<'t>(
@@ -237,7 +247,8 @@ fn both(
     left: Box<Predicate<ColumnName>>,
     right: Box<Predicate<ColumnName>>,
 ) -> Result<Box<Predicate<ColumnName>>, Refusal>
-    ensures { Gives (λ x. pred_of x.value) result (Ok (conjunction (pred_of left.value) (pred_of right.value))) }
+    ensures { Gives (λ x. pred_of x.value) result
+        (Ok (conjunction (pred_of left.value) (pred_of right.value))) }
 {
     Ok(Box::new(alloc, Predicate::And(left, right))?)
 }
@@ -249,7 +260,8 @@ fn either(
     left: Box<Predicate<ColumnName>>,
     right: Box<Predicate<ColumnName>>,
 ) -> Result<Box<Predicate<ColumnName>>, Refusal>
-    ensures { Gives (λ x. pred_of x.value) result (Ok (disjunction (pred_of left.value) (pred_of right.value))) }
+    ensures { Gives (λ x. pred_of x.value) result
+        (Ok (disjunction (pred_of left.value) (pred_of right.value))) }
 {
     Ok(Box::new(alloc, Predicate::Or(left, right))?)
 }
@@ -262,7 +274,8 @@ fn negation<'t>(
     depth: usize,
     tokens: Rest<'t>,
 ) -> Result<(Box<Predicate<ColumnName>>, Rest<'t>), Refusal>
-    ensures exact { Gives (λ x. (pred_of x.0.value, unread x.1)) result (predicates.negation_at depth (unread tokens.entry)) }
+    ensures exact { Gives (λ x. (pred_of x.0.value, unread x.1)) result
+        (predicates.negation_at depth (unread tokens.entry)) }
     ensures shorter { IfOk result (λ x. remaining x.1 < remaining tokens.entry) }
 {
     if depth == 0 {
@@ -282,7 +295,8 @@ fn factor<'t>(
     depth: usize,
     tokens: Rest<'t>,
 ) -> Result<(Box<Predicate<ColumnName>>, Rest<'t>), Refusal>
-    ensures exact { Gives (λ x. (pred_of x.0.value, unread x.1)) result (predicates.factor_at depth (unread tokens.entry)) }
+    ensures exact { Gives (λ x. (pred_of x.0.value, unread x.1)) result
+        (predicates.factor_at depth (unread tokens.entry)) }
     ensures shorter { IfOk result (λ x. remaining x.1 < remaining tokens.entry) }
 {
     if tokens.at(Class::Word(Keyword::Not)) {
@@ -301,7 +315,8 @@ fn conjunction<'t>(
     depth: usize,
     tokens: Rest<'t>,
 ) -> Result<(Box<Predicate<ColumnName>>, Rest<'t>), Refusal>
-    ensures exact { Gives (λ x. (pred_of x.0.value, unread x.1)) result (predicates.conj_at depth (unread tokens.entry)) }
+    ensures exact { Gives (λ x. (pred_of x.0.value, unread x.1)) result
+        (predicates.conj_at depth (unread tokens.entry)) }
     ensures shorter { IfOk result (λ x. remaining x.1 < remaining tokens.entry) }
 {
     let (mut left, mut rest) = factor(alloc, depth, tokens)?;
@@ -323,7 +338,8 @@ pub(crate) fn predicate<'t>(
     depth: usize,
     tokens: Rest<'t>,
 ) -> Result<(Box<Predicate<ColumnName>>, Rest<'t>), Refusal>
-    ensures exact { Gives (λ x. (pred_of x.0.value, unread x.1)) result (predicates.pred_at depth (unread tokens.entry)) }
+    ensures exact { Gives (λ x. (pred_of x.0.value, unread x.1)) result
+        (predicates.pred_at depth (unread tokens.entry)) }
     ensures shorter { IfOk result (λ x. remaining x.1 < remaining tokens.entry) }
 {
     let (mut left, mut rest) = conjunction(alloc, depth, tokens)?;
@@ -345,7 +361,8 @@ fn parenthesized<'t>(
     depth: usize,
     tokens: Rest<'t>,
 ) -> Result<(Box<Predicate<ColumnName>>, Rest<'t>), Refusal>
-    ensures exact { Gives (λ x. (pred_of x.0.value, unread x.1)) result (predicates.inside_at depth (unread tokens.entry)) }
+    ensures exact { Gives (λ x. (pred_of x.0.value, unread x.1)) result
+        (predicates.inside_at depth (unread tokens.entry)) }
     ensures shorter { IfOk result (λ x. remaining x.1 < remaining tokens.entry) }
 {
     if depth == 0 {
@@ -366,7 +383,8 @@ fn primary<'t>(
     depth: usize,
     tokens: Rest<'t>,
 ) -> Result<(Box<Predicate<ColumnName>>, Rest<'t>), Refusal>
-    ensures exact { Gives (λ x. (pred_of x.0.value, unread x.1)) result (predicates.primary_at depth (unread tokens.entry)) }
+    ensures exact { Gives (λ x. (pred_of x.0.value, unread x.1)) result
+        (predicates.primary_at depth (unread tokens.entry)) }
     ensures shorter { IfOk result (λ x. remaining x.1 < remaining tokens.entry) }
 {
     if tokens.at(Class::Symbol(Symbol::LeftParenthesis)) {
@@ -384,7 +402,8 @@ fn test<'t>(
     depth: usize,
     tokens: Rest<'t>,
 ) -> Result<(Box<Predicate<ColumnName>>, Rest<'t>), Refusal>
-    ensures exact { Gives (λ x. (pred_of x.0.value, unread x.1)) result (predicates.test_at depth (unread tokens.entry)) }
+    ensures exact { Gives (λ x. (pred_of x.0.value, unread x.1)) result
+        (predicates.test_at depth (unread tokens.entry)) }
     ensures shorter { IfOk result (λ x. remaining x.1 < remaining tokens.entry) }
 {
     let (predicate, rest) = primary(alloc, depth, tokens)?;

@@ -60,10 +60,11 @@ impl<'t> Rest<'t> {
         }
     }
 
-    /// The next token, which is of the class, and the tokens behind it.
+    /// The next token, which is of the class, and the tokens after it.
     #[tactic(auto, unfolding(crate::specs::Steps::token_at, crate::specs::Answers::seen, grammar::specs::Reading::token))]
     pub(crate) fn take(self, class: Class) -> Result<(Token<'t>, Rest<'t>), Refusal>
-        ensures exact { Gives (λ x. (mark x.0, unread x.1)) result (steps.token_at (has class) (unread self.entry)) }
+        ensures exact { Gives (λ x. (mark x.0, unread x.1)) result
+            (steps.token_at (has class) (unread self.entry)) }
         ensures shorter { IfOk result (λ x. remaining x.1 < remaining self.entry) }
     {
         match self.tokens {

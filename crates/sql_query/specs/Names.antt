@@ -3,7 +3,8 @@ use Rattle.scan_base.specs.Limits.{most_name_bytes}
 use Rattle.std.specs.Prelude.{ℕ, ◌≤◌, List, length, IfSome, All, IsUtf8}
 use Rattle.scan_base.specs.declared.predicate.Operand.{Operand}
 use Rattle.scan_base.specs.declared.predicate.Operand.TheVariants as operand
-use Rattle.scan_base.specs.Predicate.{Pred, conjunction, disjunction, negation, truth_test, comparing, between}
+use Rattle.scan_base.specs.Predicate.{Pred, conjunction, disjunction, negation, truth_test}
+use Rattle.scan_base.specs.Predicate.{comparing, between}
 use Rattle.scan_base.specs.Predicate.{membership, null_test, constant}
 use Rattle.sql_query.specs.declared.query.ColumnName.{ColumnName}
 use Rattle.sql_query.specs.declared.query.Expression.{Expression}
@@ -72,7 +73,8 @@ ConditionHasNames (disjunction p q) = ConditionHasNames p × ConditionHasNames q
 ConditionHasNames (negation p) = ConditionHasNames p
 ConditionHasNames (truth_test negated tested p) = ConditionHasNames p
 ConditionHasNames (comparing comparison a b) = OperandHasNames a × OperandHasNames b
-ConditionHasNames (between negated a low high) = OperandHasNames a × OperandHasNames low × OperandHasNames high
+ConditionHasNames (between negated a low high) =
+    OperandHasNames a × OperandHasNames low × OperandHasNames high
 ConditionHasNames (membership negated a items) = OperandHasNames a × All OperandHasNames items
 ConditionHasNames (null_test negated a) = OperandHasNames a
 ConditionHasNames (constant truth) = Unit {0}

@@ -1,5 +1,6 @@
 -- A query as plain data.
-use Rattle.std.specs.Prelude.{ℕ, Bool, true, false, not, ◌&&◌, ◌||◌, ◌==◌, List, length, Option, option_map, unwrap_or}
+use Rattle.std.specs.Prelude.{ℕ, Bool, true, false, not, ◌&&◌, ◌||◌, ◌==◌, List, length, Option}
+use Rattle.std.specs.Prelude.{option_map, unwrap_or}
 use Rattle.std.specs.List.{list_any}
 use Rattle.scan_base.specs.Predicate.{Pred}
 use Rattle.scan_base.specs.View.{pred_of}
@@ -56,4 +57,5 @@ is_all (select.List items) = false
 -- a JOIN with an aggregate or GROUP BY, or * with GROUP BY: such a query is left out
 abbrev pub is_left_out_whole : Sentence → Bool
 is_left_out_whole query =
-    (not (length query.joins == 0) && is_grouped query) || (is_all query.select && not (length query.group_by == 0))
+    (not (length query.joins == 0) && is_grouped query)
+    || (is_all query.select && not (length query.group_by == 0))

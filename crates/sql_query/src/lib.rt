@@ -1,4 +1,5 @@
-//! A query as it was written: its names, places, joins and predicates, before any of them is looked up.
+//! A query as it was written: its names, places, joins and predicates, before any of them is looked
+//! up.
 #![tactic(auto)]
 
 pub mod query;

@@ -3,7 +3,8 @@
 
 ghost use Rattle.std.specs.Prelude.{◌≡◌};
 ghost use Rattle.std.specs.List.{list_any};
-ghost use Rattle.sql_query.specs.Sentence.{sentence_of, is_aggregate, has_aggregate, is_grouped, place_name};
+ghost use Rattle.sql_query.specs.Sentence.{sentence_of, is_aggregate, has_aggregate, is_grouped};
+ghost use Rattle.sql_query.specs.Sentence.{place_name};
 ghost use Rattle.sql_query.specs.Sentence.{is_left_out_whole};
 
 use scan_base::{Items, Predicate, Text};
@@ -187,7 +188,8 @@ impl Query {
         self.select.has_aggregate() || !self.group_by.is_empty()
     }
 
-    /// Whether it is left out as a whole: a JOIN with an aggregate or GROUP BY, or `*` with GROUP BY.
+    /// Whether it is left out as a whole: a JOIN with an aggregate or GROUP BY, or `*` with GROUP
+    /// BY.
     pub fn is_left_out(&self) -> bool
         ensures { result ≡ is_left_out_whole (sentence_of self.now) }
     {

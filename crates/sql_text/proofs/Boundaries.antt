@@ -1,4 +1,4 @@
--- A text may be cut behind a piece.
+-- A text may be cut after a piece.
 use Rattle.std.proofs.Common.{◌≡◌, ◌≢◌, ◌<◌, ◌≤◌, ℕ, ◌+◌, Bool, true, false, cond, List, [], ◌∷◌, ◌++◌, length, get_or, Option, Some, None, refl, sym, ap, subst, arith, append_assoc, append-nil}
 use Rattle.std.specs.Prelude.{◌==◌, ◌&&◌, IfSome}
 use Rattle.std.specs.Char.{is_ascii_digit}
@@ -79,7 +79,7 @@ more_passes p (y ∷ xs) x e f = both (p y) refl e (more_passes p xs x)
     both true g e more = rw g (more e f)
     both false g e more = absurd cc
 
--- the byte behind a comment is LF
+-- the byte after a comment is LF
 comment_cut : (front rest : List ℕ) → Spells comment front
     → ((form : Form) (text more : List ℕ) → front ++ rest ≡ text ++ more → Spells form text → length text ≤ length front)
     → IsCharBoundary (front ++ rest) (length front)

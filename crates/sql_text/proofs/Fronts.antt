@@ -93,7 +93,7 @@ digits_stands b tail first =
 
 -- ---- quotes
 
--- a piece in these quotes is no longer than n, where its value in quotes, or behind the quote that opens, is not
+-- a piece in these quotes is no longer than n, where its value in quotes, or after the quote that opens, is not
 pub record Bounded (quote : ℕ) (tail : List ℕ) (n : ℕ) : Type 0 where
   pub closed : (value more : List ℕ) → tail ≡ flat_map (doubled quote) value ++ (quote ∷ more) → length (flat_map (doubled quote) value) + 2 ≤ n
   pub unended : (value more : List ℕ) → tail ≡ flat_map (doubled quote) value ++ more → length (flat_map (doubled quote) value) + 1 ≤ n

@@ -32,7 +32,7 @@ abbrev pub Parts : ℕ → List ℕ → Type 0
 Parts quote [] = Unit {0}
 Parts quote (b ∷ bytes) = b ≢ quote
 
--- so many bytes up to the quote that closes, where `at` stand before: a value and a quote, and no quote behind
+-- so many bytes up to the quote that closes, where `at` stand before: a value and a quote, and no quote after
 pub record Closed (quote at : ℕ) (bytes : List ℕ) (len : ℕ) : Type 0 where
   pub value : List ℕ
   pub rest : List ℕ

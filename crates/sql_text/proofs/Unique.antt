@@ -37,7 +37,7 @@ two_marks comment g = inl refl
 two_marks (mark s) g = inr (s, refl)
 two_marks form g = absurd g
 
--- a value in quotes is none behind a quote that is not closed
+-- a value in quotes is none after a quote that is not closed
 not_both : (quote other : ℕ) (value more : List ℕ) → quoted quote value ≡ opened other more → ⊥
 not_both quote other value more e =
     let same : other ≡ quote = cc in

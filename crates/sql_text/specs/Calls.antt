@@ -1,5 +1,6 @@
 -- What the calls give.
-use Rattle.std.specs.Prelude.{◌≡◌, ◌≤◌, ◌<◌, ◌+◌, ℕ, ℤ, true, IsUtf8, List, map, length, slice_range, Option, None}
+use Rattle.std.specs.Prelude.{◌≡◌, ◌≤◌, ◌<◌, ◌+◌, ℕ, ℤ, true, IsUtf8, List, map, length}
+use Rattle.std.specs.Prelude.{slice_range, Option, None}
 use Rattle.std.specs.Prelude.{Result, Ok, Err, Vec}
 use Rattle.std.specs.Global.{Global}
 use Rattle.scan_base.specs.Limits.{most_query_bytes}
@@ -22,7 +23,8 @@ lexeme_of token = record { kind = token.kind; start = token.start; text = token.
 abbrev pub rows_of : List Meaning → List (List ℕ × TokenKind)
 rows_of rows = map (λ (row : Meaning). (row.word.now, row.kind)) rows
 
--- what a token's text says: of a delimited name and a string what stands between the quotes, and else the text
+-- what a token's text says: of a delimited name and a string what stands between the quotes, and
+-- else the text
 abbrev pub said : TokenKind → List ℕ → List ℕ
 said kind.DelimitedName text = unquoted (byte "\"") text
 said kind.String text = unquoted (byte "'") text
@@ -37,12 +39,14 @@ abbrev pub numeral : TokenKind → List ℕ → Option ℤ
 numeral kind.Digits text = number_of text
 numeral other text = None
 
--- what `tokens` answers, by the pieces of the text: they are these tokens, the text is too long, or there is
--- the first fault
+-- what `tokens` answers, by the pieces of the text: they are these tokens, the text is too long, or
+-- there is the first fault
 abbrev pub KeepsPieces : Result (Vec Token Global) Fault → List ℕ → Type 0
-KeepsPieces (Ok tokens) text = (length text ≤ most_query_bytes) × AreTokens text (map lexeme_of tokens.items)
+KeepsPieces (Ok tokens) text =
+    (length text ≤ most_query_bytes) × AreTokens text (map lexeme_of tokens.items)
 KeepsPieces (Err LimitReached) text = most_query_bytes < length text
-KeepsPieces (Err (BadSql position)) text = (length text ≤ most_query_bytes) × HasFaultAt text position
+KeepsPieces (Err (BadSql position)) text =
+    (length text ≤ most_query_bytes) × HasFaultAt text position
 KeepsPieces (Err OutOfMemory) text = Unit {0}
 KeepsPieces (Err other) text = ⊥
 

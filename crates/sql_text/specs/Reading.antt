@@ -1,5 +1,7 @@
 -- The tokens of a text, read from its front, or the fault.
-use Rattle.std.specs.Prelude.{ℕ, zero, suc, ◌+◌, ◌==◌, ◌&&◌, nat_le, Option, Some, None, option_and_then, Result, Ok, Err, List, [], ◌∷◌, ◌++◌, length, take, drop, if◌then◌else◌}
+use Rattle.std.specs.Prelude.{ℕ, zero, suc, ◌+◌, ◌==◌, ◌&&◌, nat_le, Option, Some, None}
+use Rattle.std.specs.Prelude.{option_and_then, Result, Ok, Err, List, [], ◌∷◌, ◌++◌, length, take}
+use Rattle.std.specs.Prelude.{drop, if◌then◌else◌}
 use Rattle.std.specs.Char.{is_ascii_digit}
 use Rattle.std.specs.List.{prefix_len}
 use Rattle.std.specs.Str.{byte}
@@ -13,7 +15,8 @@ use Rattle.sql_text.specs.declared.token.TokenKind.{TokenKind}
 use Rattle.sql_text.specs.declared.token.TokenKind.TheVariants as kind
 use Rattle.sql_text.specs.Words.{word_kind}
 use Rattle.sql_text.specs.Values.{is_small}
-use Rattle.sql_text.specs.Standard.{begins_word, continues_word, is_separator, continues_comment, Lexeme, token_here}
+use Rattle.sql_text.specs.Standard.{begins_word, continues_word, is_separator, continues_comment}
+use Rattle.sql_text.specs.Standard.{Lexeme, token_here}
 use Rattle.sql_text.specs.Symbols.{symbols, symbol_in}
 
 -- ---- what stands at the front, sound
@@ -26,8 +29,8 @@ space len = Some (record { kind = None; len = len })
 abbrev pub token : TokenKind → ℕ → Option Front
 token kind len = Some (record { kind = Some kind; len = len })
 
--- The number of bytes up to the quote that closes, with it, where a piece of a value of `at` bytes stands
--- before these. A quote that another follows is one of the value.
+-- The number of bytes up to the quote that closes, with it, where a piece of a value of `at` bytes
+-- stands before these. A quote that another follows is one of the value.
 abbrev pub closed_at : ℕ → ℕ → List ℕ → Option ℕ
 closed_at quote at [] = None
 closed_at quote at (b ∷ []) = if b == quote then Some (at + 1) else None
@@ -35,14 +38,16 @@ closed_at quote at (b ∷ c ∷ bytes) =
     if b == quote then (if c == quote then closed_at quote (at + 2) bytes else Some (at + 1))
     else closed_at quote (at + 1) (c ∷ bytes)
 
--- a string, behind its opening quote
+-- a string, after its opening quote
 abbrev pub string_front : List ℕ → Option Front
-string_front bytes = option_and_then (λ (len : ℕ). token kind.String (1 + len)) (closed_at (byte "'") 0 bytes)
+string_front bytes =
+    option_and_then (λ (len : ℕ). token kind.String (1 + len)) (closed_at (byte "'") 0 bytes)
 
--- a delimited name, behind its opening quote; it is not empty
+-- a delimited name, after its opening quote; it is not empty
 abbrev pub delimited_front : List ℕ → Option Front
 delimited_front bytes =
-    option_and_then (λ (len : ℕ). if len == 1 then None else token kind.DelimitedName (1 + len)) (closed_at (byte "\"") 0 bytes)
+    option_and_then (λ (len : ℕ). if len == 1 then None else token kind.DelimitedName (1 + len))
+    (closed_at (byte "\"") 0 bytes)
 
 -- a word, the longest that stands there
 abbrev pub word_front : List ℕ → Option Front
@@ -55,7 +60,7 @@ digits_front bytes =
     let len = prefix_len is_ascii_digit bytes in
     if is_small (take len bytes) then token kind.Digits len else None
 
--- a comment, behind the two signs
+-- a comment, after the two signs
 abbrev pub comment_front : List ℕ → Option Front
 comment_front bytes = space (2 + prefix_len continues_comment bytes)
 
@@ -105,11 +110,12 @@ tokens_within (suc most) start (b ∷ bytes) = do
   more ← tokens_within most (start + front.len) (drop front.len (b ∷ bytes))
   Ok (token_here front.kind start (take front.len (b ∷ bytes)) ++ more)
 
--- the tokens of bytes, of which the first begins at `start`: each piece has a byte, so there are no more
--- pieces than bytes
+-- the tokens of bytes, of which the first begins at `start`: each piece has a byte, so there are no
+-- more pieces than bytes
 unfoldable pub tokens_from : ℕ → List ℕ → Result (List Lexeme) Fault
 tokens_from start bytes = tokens_within (length bytes) start bytes
 
 -- the tokens of a query's text, which may have so many bytes
 unfoldable pub tokens_in : List ℕ → Result (List Lexeme) Fault
-tokens_in text = demand (nat_le (length text) most_query_bytes) LimitReached >>= λ _. tokens_from 0 text
+tokens_in text =
+    demand (nat_le (length text) most_query_bytes) LimitReached >>= λ _. tokens_from 0 text

@@ -1,6 +1,8 @@
--- What the tokens of a query are, apart from any order of reading. A text is cut into pieces, each the
--- longest that stands at its place; then the pieces that are neither separators nor comments are tokens.
-use Rattle.std.specs.Prelude.{◌≡◌, ◌≢◌, ℕ, ◌+◌, ◌≤◌, ◌==◌, ◌||◌, Bool, true, false, not, IsTrue, Option, Some, None, List, [], ◌∷◌, ◌++◌, length, codes}
+-- What the tokens of a query are, apart from any order of reading. A text is cut into pieces, each
+-- the longest that stands at its place; then the pieces that are neither separators nor comments
+-- are tokens.
+use Rattle.std.specs.Prelude.{◌≡◌, ◌≢◌, ℕ, ◌+◌, ◌≤◌, ◌==◌, ◌||◌, Bool, true, false, not, IsTrue}
+use Rattle.std.specs.Prelude.{Option, Some, None, List, [], ◌∷◌, ◌++◌, length, codes}
 use Rattle.std.specs.Char.{is_ascii_alphabetic, is_ascii_alphanumeric, is_ascii_digit}
 use Rattle.std.specs.List.{list_all}
 use Rattle.std.specs.Str.{byte, bytes_eq}
@@ -49,7 +51,8 @@ pub data Form : Type 0 where
 -- the bytes, all of them, are such a piece
 abbrev pub Spells : Form → List ℕ → Type 0
 Spells separator bytes = (b : ℕ) × (bytes ≡ b ∷ []) × IsTrue (is_separator b)
-Spells comment bytes = (rest : List ℕ) × (bytes ≡ codes "--" ++ rest) × IsTrue (list_all continues_comment rest)
+Spells comment bytes =
+    (rest : List ℕ) × (bytes ≡ codes "--" ++ rest) × IsTrue (list_all continues_comment rest)
 Spells word bytes =
     (first : ℕ) × (rest : List ℕ) × (bytes ≡ first ∷ rest) × IsTrue (begins_word first)
     × IsTrue (list_all continues_word rest)
@@ -70,7 +73,8 @@ pub record StandsInFront (piece : Piece) (bytes rest : List ℕ) : Type 0 where
   pub whole : bytes ≡ piece.text ++ rest
   pub spells : Spells piece.form piece.text
   pub longest :
-      (form : Form) (text more : List ℕ) → bytes ≡ text ++ more → Spells form text → length text ≤ length piece.text
+      (form : Form) (text more : List ℕ) → bytes ≡ text ++ more → Spells form text →
+      length text ≤ length piece.text
 
 -- the pieces stand in front of the bytes, one after the other, and then the rest
 abbrev pub AreCut : List ℕ → List Piece → List ℕ → Type 0
@@ -129,8 +133,8 @@ pub record AreTokens (text : List ℕ) (tokens : List Lexeme) : Type 0 where
   pub all_sound : IsTrue (list_all sound pieces)
   pub are : tokens ≡ tokens_of 0 pieces
 
--- behind so many bytes, all of them pieces without a fault, bytes are left, and no piece without a fault is
--- the longest that stands in front of them
+-- after so many bytes, all of them pieces without a fault, bytes are left, and no piece without a
+-- fault is the longest that stands in front of them
 pub record HasFaultAt (text : List ℕ) (position : ℕ) : Type 0 where
   pub pieces : List Piece
   pub rest : List ℕ

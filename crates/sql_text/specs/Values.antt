@@ -1,6 +1,8 @@
 -- What tokens say: the value of digits, and what stands between quotes.
-use Rattle.std.specs.Prelude.{ℕ, ◌==◌, ◌^◌, Bool, nat_lt, List, [], ◌∷◌, ◌++◌, flat_map, if◌then◌else◌}
-use Rattle.std.specs.Prelude.{nat_le, ◌+◌, ◌-◌, slice_index, slice_range, ℤ, pos, length, not, ◌&&◌, Option, Some, None}
+use Rattle.std.specs.Prelude.{ℕ, ◌==◌, ◌^◌, Bool, nat_lt, List, [], ◌∷◌, ◌++◌, flat_map}
+use Rattle.std.specs.Prelude.{if◌then◌else◌}
+use Rattle.std.specs.Prelude.{nat_le, ◌+◌, ◌-◌, slice_index, slice_range, ℤ, pos, length, not, ◌&&◌}
+use Rattle.std.specs.Prelude.{Option, Some, None}
 use Rattle.std.specs.Char.{is_ascii_digit}
 use Rattle.std.specs.List.{list_all}
 use Rattle.std.specs.Str.Parse.{digits_value}
@@ -9,7 +11,7 @@ use Rattle.std.specs.Str.Parse.{digits_value}
 abbrev pub doubled : ℕ → ℕ → List ℕ
 doubled quote b = if b == quote then quote ∷ quote ∷ [] else b ∷ []
 
--- a value behind an opening quote
+-- a value after an opening quote
 abbrev pub opened : ℕ → List ℕ → List ℕ
 opened quote value = quote ∷ flat_map (doubled quote) value
 
@@ -27,12 +29,14 @@ is_digits bytes = list_all is_ascii_digit bytes && not (length bytes == 0)
 
 -- the value that bytes say as a literal of digits
 unfoldable pub number_of : List ℕ → Option ℤ
-number_of bytes = if is_digits bytes && is_small bytes then Some (pos (digits_value 10 bytes)) else None
+number_of bytes =
+    if is_digits bytes && is_small bytes then Some (pos (digits_value 10 bytes)) else None
 
 -- what stands between two quotes, where a text has them at its ends, and else the text
 abbrev pub inside : ℕ → List ℕ → List ℕ
 inside quote text =
-    if nat_le 2 (length text) && ((slice_index text 0 == quote) && (slice_index text (length text - 1) == quote))
+    if nat_le 2 (length text)
+    && ((slice_index text 0 == quote) && (slice_index text (length text - 1) == quote))
     then slice_range text 1 (length text - 1) else text
 
 -- each pair of quotes is one quote
@@ -40,7 +44,8 @@ abbrev pub undoubled : ℕ → List ℕ → List ℕ
 undoubled quote [] = []
 undoubled quote (b ∷ []) = b ∷ []
 undoubled quote (b ∷ c ∷ bytes) =
-    if (b == quote) && (c == quote) then quote ∷ undoubled quote bytes else b ∷ undoubled quote (c ∷ bytes)
+    if (b == quote) && (c == quote) then quote ∷ undoubled quote bytes
+    else b ∷ undoubled quote (c ∷ bytes)
 
 -- the value that is written between quotes
 unfoldable pub unquoted : ℕ → List ℕ → List ℕ

@@ -1,5 +1,6 @@
 -- The words that have a meaning of their own. The case of their letters has none.
-use Rattle.std.specs.Prelude.{Bool, true, false, ℕ, List, [], ◌∷◌, ◌++◌, Option, Some, None, unwrap_or, map, codes, if◌then◌else◌}
+use Rattle.std.specs.Prelude.{Bool, true, false, ℕ, List, [], ◌∷◌, ◌++◌, Option, Some, None}
+use Rattle.std.specs.Prelude.{unwrap_or, map, codes, if◌then◌else◌}
 use Rattle.std.specs.Str.{str_eq_ignore_ascii_case}
 use Rattle.sql_text.specs.declared.word.Keyword.{Keyword}
 use Rattle.sql_text.specs.declared.word.Keyword.TheVariants as word
@@ -52,8 +53,8 @@ is_name kind.Name = true
 is_name kind.DelimitedName = true
 is_name _ = false
 
--- Whether SQL has the token where this server leaves it out: such a token offends with a fault of its own.
--- `NULL` and `DATE` have their place in the grammar, and are left out elsewhere.
+-- Whether SQL has the token where this server leaves it out: such a token offends with a fault of
+-- its own. `NULL` and `DATE` have their place in the grammar, and are left out elsewhere.
 abbrev pub is_left_out : TokenKind → Bool
 is_left_out kind.LeftOut = true
 is_left_out (kind.Keyword word.Null) = true

@@ -4,8 +4,8 @@
 ghost use Rattle.sql_text.specs.Laws.{ReadingKeepsPieces, RefusalIsFirstFault, AtMostOneList};
 ghost use Rattle.sql_text.specs.Laws.{AtMostOneFault, TokensOrFault, QuotedReadsBack};
 
-/// A text reads as a list of tokens exactly where its pieces, each the longest at its place, are that
-/// list.
+/// A text reads as a list of tokens exactly where its pieces, each the longest at its place, are
+/// that list.
 pub fn reading_keeps_pieces()
     ensures { ReadingKeepsPieces }
 {}

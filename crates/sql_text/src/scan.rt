@@ -19,22 +19,27 @@ pub const MOST_BYTES: usize = 16_384;
 ///
 /// # Errors
 ///
-/// `Fault::LimitReached` where the text has more than `MOST_BYTES` bytes. Otherwise `Fault::BadSql` at the
-/// first byte of the first piece that is no token: a byte that begins none, a quote that is not closed, a
-/// delimited name that is empty, digits of 10^38 or more. `Fault::OutOfMemory` where memory is refused.
+/// `Fault::LimitReached` where the text has more than `MOST_BYTES` bytes. Otherwise `Fault::BadSql`
+/// at the first byte of the first piece that is no token: a byte that begins none, a quote that is
+/// not closed, a delimited name that is empty, digits of 10^38 or more. `Fault::OutOfMemory` where
+/// memory is refused.
 pub fn tokens(alloc: Global, sql: &str) -> Result<Vec<Token<'_>>, Fault>
-    ensures exact { GivesUnlessMemory (λ tokens. map lexeme_of tokens.items) result (tokens_in sql.now) }
+    ensures exact { GivesUnlessMemory (λ tokens. map lexeme_of tokens.items) result
+        (tokens_in sql.now) }
     ensures pieces { KeepsPieces result sql.now }
     ensures places { IfOk result (λ tokens. All (IsAtPlace sql.now) (map lexeme_of tokens.items)) }
     ensures names { IfOk result (λ tokens. All SaysText (map lexeme_of tokens.items)) }
-    ensures first { RefusesFirst result (demand (nat_le (length sql.now) most_query_bytes) LimitReached) }
+    ensures first { RefusesFirst result
+        (demand (nat_le (length sql.now) most_query_bytes) LimitReached) }
 {
     read_tokens(alloc, sql)
 }
 
 fn read_tokens(alloc: Global, sql: &str) -> Result<Vec<Token<'_>>, Fault>
-    ensures exact { GivesUnlessMemory (λ tokens. map lexeme_of tokens.items) result (tokens_in sql.now) }
-    ensures first { RefusesFirst result (demand (nat_le (length sql.now) most_query_bytes) LimitReached) }
+    ensures exact { GivesUnlessMemory (λ tokens. map lexeme_of tokens.items) result
+        (tokens_in sql.now) }
+    ensures first { RefusesFirst result
+        (demand (nat_le (length sql.now) most_query_bytes) LimitReached) }
 {
     if sql.len() > MOST_BYTES {
         return Err(Fault::LimitReached);

@@ -14,7 +14,8 @@ use std::alloc::{AllocError, Global};
 /// What a token is.
 #[derive(Clone, Copy, Debug, PartialEq, Eq)]
 pub enum TokenKind {
-    /// A word of the grammar, in any case. `NULL` and `DATE` are such words, and left out elsewhere.
+    /// A word of the grammar, in any case. `NULL` and `DATE` are such words, and left out
+    /// elsewhere.
     Keyword(Keyword),
     /// A word of SQL, in any case, that this server leaves out.
     LeftOut,
@@ -32,8 +33,8 @@ pub enum TokenKind {
 
 impl TokenKind {
     /// Whether SQL has such a token where this server leaves it out: a word that is left out, or an
-    /// operator of arithmetic or `||`. The words `NULL` and `DATE` are left out but for their place in the
-    /// grammar.
+    /// operator of arithmetic or `||`. The words `NULL` and `DATE` are left out but for their place
+    /// in the grammar.
     pub fn is_left_out(self) -> bool
         ensures { result ≡ is_left_out self }
     {
@@ -76,8 +77,8 @@ impl<'a> Token<'a> {
         }
     }
 
-    /// What the token says: of a delimited name and a string what stands between the quotes, with one quote
-    /// for each pair; of any other token its text.
+    /// What the token says: of a delimited name and a string what stands between the quotes, with
+    /// one quote for each pair; of any other token its text.
     pub fn value(self, alloc: Global) -> Result<Text, AllocError>
         ensures { IfOk result (λ value. value ≡ said self.entry.kind self.entry.text.now) }
     {

@@ -64,7 +64,7 @@ logs_grow log put database h = (longer, ap database_of longer ∙ database_of-pu
 pub logs_stay : LogsStay
 logs_stay log put fault h = rw h refl
 
--- an item of a list with one more behind it: one of the list's, or that one
+-- an item of a list with one more after it: one of the list's, or that one
 pushed_at : {X G : Type 0} (xs : List X) (y z : X) (n : ℕ) → slice_get (xs ++ y ∷ []) n ≡ Some z →
     (slice_get xs n ≡ Some z → G) → (n ≡ length xs → y ≡ z → G) → G
 pushed_at [] y z zero h old new = new refl cc
@@ -72,7 +72,7 @@ pushed_at [] y z (suc n) h old new = cc
 pushed_at (x ∷ xs) y z zero h old new = old h
 pushed_at (x ∷ xs) y z (suc n) h old new = pushed_at xs y z n h old (λ e. new (ap suc e))
 
--- a log with an accepted put behind it
+-- a log with an accepted put after it
 pub longer_log : (log : List Put) (put : Put) (database : Database) → AreAccepted log → after (database_of log) (length log) put ≡ Ok database →
     AreAccepted (log ++ put ∷ [])
 longer_log log put database is h n other at = pushed_at log put other n at old new

@@ -25,7 +25,7 @@ use Rattle.table_versions.specs.Batches.{ArePlaced, placed_table}
 use Rattle.table_versions.proofs.Placing.{batches, batches_push, batch_there, placed_push}
 use Rattle.table_versions.proofs.Storable.{IsBatch, batch_at}
 
--- what is so of each item at its place, and of one more behind them
+-- what is so of each item at its place, and of one more after them
 pub each_push : {X : Type 0} (P : ℕ → X → Type 0) (xs : List X) (new : X) → ((i : ℕ) (x : X) → slice_get xs i ≡ Some x → P i x) → P (length xs) new →
     (i : ℕ) (x : X) → slice_get (xs ++ new ∷ []) i ≡ Some x → P i x
 each_push P [] new each last zero x at = let same : new ≡ x = cc in subst (P 0) same last
@@ -44,7 +44,7 @@ there_append [] more j y at = cc
 there_append (x ∷ xs) more zero y at = at
 there_append (x ∷ xs) more (suc j) y at = there_append xs more j y at
 
--- pages are right, whatever batches come behind
+-- pages are right, whatever batches come after
 pub pages_append : (batches more : List BatchAt) (pages : List StatsPage) → ArePages batches pages → ArePages (batches ++ more) pages
 pages_append batches more pages are = record {
   few = omega (arith, are.few, length-append batches more);

@@ -8,7 +8,7 @@ use Rattle.table_versions.specs.Table.{Name}
 use Rattle.table_versions.specs.Database.{with_table}
 use Rattle.table_versions.specs.Place.{IsPlace}
 
--- an item of a list, with those before it and those behind it
+-- an item of a list, with those before it and those after it
 pub split_at : {X : Type 0} (xs : List X) (i : ℕ) (x : X) → slice_get xs i ≡ Some x →
     (drop i xs ≡ x ∷ drop (i + 1) xs) × (take (i + 1) xs ≡ take i xs ++ x ∷ [])
 split_at [] i x at = cc

@@ -24,7 +24,7 @@ pub rows-append : (batches more : List BatchAt) →
 rows-append batches more =
     ap length (flat_map-append rows_of batches more) ∙ length-append (flat_map rows_of batches) (flat_map rows_of more)
 
--- the rows of batches and of one more behind them
+-- the rows of batches and of one more after them
 pub rows-push : (batches : List BatchAt) (batch : BatchAt) →
     length (flat_map rows_of (batches ++ batch ∷ [])) ≡ length (flat_map rows_of batches) + batch.rows
 rows-push batches batch = omega (arith, rows-append batches (batch ∷ []), rows-cons batch [])
@@ -44,7 +44,7 @@ rows-from batches batch i h at =
     ap (λ left. length (flat_map rows_of left)) (split_at batches i batch (slice_get_read batches (length batches) i batch refl h at)).0
     ∙ rows-cons batch (drop (i + 1) batches)
 
--- the rows up to behind a batch
+-- the rows up to after a batch
 pub rows-until : (batches : List BatchAt) (batch : BatchAt) (i : ℕ) → i < length batches → batch ≡ get_or batches i batch →
     rows_before batches (i + 1) ≡ rows_before batches i + batch.rows
 rows-until batches batch i h at =

@@ -49,7 +49,7 @@ replaced = put absent.Create Replace Utf8 []
 abbrev table : DataType → List Row → Table
 table data_type rows = record { schema = record { fields = field (codes "a") data_type ∷ [] }; rows = rows }
 
--- rows 1, 2; then 3 behind them; then another schema in their place
+-- rows 1, 2; then 3 after them; then another schema in their place
 abbrev log : List Put
 log = created ∷ appended int64 (int 3 ∷ []) ∷ replaced ∷ []
 
@@ -137,7 +137,7 @@ good_null : after [] 0 (record (put absent.Create Fail int64 ((Null ∷ []) ∷ 
     ) ∷ [])
 good_null = refl
 
--- the 256th table, and none behind it, but more rows for one that is there
+-- the 256th table, and none after it, but more rows for one that is there
 abbrev full : ℕ → Database
 full n = map (λ i. (97 ∷ i ∷ [], table int64 [])) (range_with_len 0 n)
 
@@ -160,7 +160,7 @@ text-65536 = refl
 text-65537 : after [] 0 (long 65537) ≡ Err LimitReached
 text-65537 = refl
 
--- the last commit and the one behind it
+-- the last commit and the one after it
 commit-65536 : after [] 65535 (put absent.Create Fail int64 []) ≡ Ok ((codes "t", table int64 []) ∷ [])
 commit-65536 = refl
 
@@ -177,7 +177,7 @@ is_logged = refl
 refused_in_log : AreAccepted (created ∷ created ∷ []) → ⊥
 refused_in_log is = let no : Err TableExists ≡ Ok (version (created ∷ created ∷ []) 2) = is 1 created refl in cc
 
--- batches without rows are not stored, and an append's stand behind the old ones
+-- batches without rows are not stored, and an append's stand after the old ones
 abbrev batch : ℕ → BatchAt
 batch rows = record { columns = []; rows = rows }
 

@@ -51,7 +51,7 @@ module _ {T : Type 0} where
   absent name [] h g = refl
   absent name (x ∷ es) h g = rw (other_back name x.0 h) (absent name es (still name x es h g) g.1)
 
-  -- behind an entry of a lower name
+  -- after an entry of a lower name
   pub in_back : (es : List (Name × T)) (e : Name × T) (i : ℕ) (name : Name) → IsInOrder es → slice_get es i ≡ Some e → IsBelow e.0 name →
       table_at es name ≡ table_at (drop (i + 1) es) name
   in_back [] e i name g at h = cc

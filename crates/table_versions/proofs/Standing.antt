@@ -9,7 +9,7 @@ use Rattle.table_versions.specs.Standing.{rows_before, StandsAt, BatchesAreRows}
 use Rattle.table_versions.proofs.Places.{split_at}
 use Rattle.table_versions.proofs.Rowing.{length-rows_of, rows-push}
 
--- what stands behind the first of two lists
+-- what stands after the first of two lists
 drop_past : {X : Type 0} (front rest : List X) (n : ℕ) → drop (length front + n) (front ++ rest) ≡ drop n rest
 drop_past [] rest n = let e : 0 + n ≡ n = omega arith in rw e refl
 drop_past (x ∷ front) rest n = let e : suc (length front) + n ≡ suc (length front + n) = omega arith in rw e (drop_past front rest n)
@@ -22,7 +22,7 @@ cut_within front middle rest from to ordered within =
     ap (take (to - from)) (drop_past front (middle ++ rest) from ∙ drop-append-le from middle rest (omega (arith, ordered, within)))
     ∙ take-append-le (to - from) (drop from middle) rest long
 
--- the batches before one, it, and those behind it
+-- the batches before one, it, and those after it
 parted : (batches : List BatchAt) (i : ℕ) (batch : BatchAt) → slice_get batches i ≡ Some batch →
     flat_map rows_of batches ≡ flat_map rows_of (take i batches) ++ (rows_of batch ++ flat_map rows_of (drop (i + 1) batches))
 parted batches i batch at =

@@ -42,7 +42,7 @@ pub second_false : (a b : Bool) → (a || b) ≡ false → b ≡ false
 second_false true b h = let no : true ≡ false = h in cc
 second_false false b h = h
 
--- sound rows and sound rows behind them
+-- sound rows and sound rows after them
 pub sound-append : (fields : List Field) (front rest : List Row) → AreSound fields front → AreSound fields rest → AreSound fields (front ++ rest)
 sound-append fields front rest f r = record {
   nulls = list_any-append (has_bad_null fields) front rest ∙ or_from _ _ f.nulls r.nulls;

@@ -114,7 +114,7 @@ alone put is names nulls texts few = record {
   few = few;
 }
 
--- the old table with the rows of a put behind its own
+-- the old table with the rows of a put after its own
 extended : (old : Table) (put : Put) → IsTable old → IsPut put → same_fields old.schema.fields put.schema.fields ≡ true → list_any (has_bad_null put.schema.fields) put.rows ≡ false
     → list_any (list_any is_long_text) put.rows ≡ false → length (old.rows ++ put.rows) ≤ most_rows → IsTable (record { schema = old.schema; rows = old.rows ++ put.rows })
 extended old put table is same nulls texts few = record {

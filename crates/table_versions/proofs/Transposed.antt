@@ -33,7 +33,7 @@ any-map : {X Y : Type 0} (test : Y → Bool) (f : X → Y) (xs : List X) → lis
 any-map test f [] = refl
 any-map test f (x ∷ xs) = ap (λ b. test (f x) || b) (any-map test f xs)
 
--- a test behind a flag
+-- a test after a flag
 any-and : {X : Type 0} (flag : Bool) (test : X → Bool) (xs : List X) → list_any (λ x. flag && test x) xs ≡ (flag && list_any test xs)
 any-and true test xs = refl
 any-and false test xs = any-false xs

@@ -1,12 +1,15 @@
 -- The database after a put, and after a log of puts.
-use Rattle.std.specs.Prelude.{◌≡◌, ℕ, ◌+◌, ◌==◌, Bool, false, not, ◌&&◌, ◌||◌, if◌then◌else◌, List, [], ◌∷◌, ◌++◌, length, take, slice_get, nat_lt, nat_le, Option, Some, None, is_some, Result, Ok, Err}
+use Rattle.std.specs.Prelude.{◌≡◌, ℕ, ◌+◌, ◌==◌, Bool, false, not, ◌&&◌, ◌||◌, if◌then◌else◌, List}
+use Rattle.std.specs.Prelude.{[], ◌∷◌, ◌++◌, length, take, slice_get, nat_lt, nat_le, Option, Some}
+use Rattle.std.specs.Prelude.{None, is_some, Result, Ok, Err}
 use Rattle.std.specs.List.{list_any}
 use Rattle.std.specs.Str.{bytes_eq}
 use Rattle.std.specs.Cmp.Lexicographic.{slice_cmp}
 use Rattle.std.specs.Ordering.{nat_cmp, is_lt}
 use Rattle.arrow_schema.specs.declared.schema.Schema.{Schema}
 use Rattle.scan_base.specs.declared.fault.Fault.{Fault}
-use Rattle.scan_base.specs.declared.fault.Fault.TheVariants.{BadBatch, TableMissing, TableExists, SchemaMismatch, LimitReached}
+use Rattle.scan_base.specs.declared.fault.Fault.TheVariants.{BadBatch, TableMissing, TableExists}
+use Rattle.scan_base.specs.declared.fault.Fault.TheVariants.{SchemaMismatch, LimitReached}
 use Rattle.scan_base.specs.Reading.{first_fault, unless}
 use Rattle.scan_base.specs.Lists.{repeats}
 use Rattle.scan_base.specs.declared.put_options.IfExists.{IfExists}
@@ -14,7 +17,8 @@ use Rattle.scan_base.specs.declared.put_options.IfExists.TheVariants.{Append}
 use Rattle.scan_base.specs.declared.put_options.IfNotExist.{IfNotExist}
 use Rattle.scan_base.specs.Limits.{most_name_bytes, most_rows, most_tables, most_commits}
 use Rattle.scan_base.specs.PutOptions.{refuses_present, refuses_absent}
-use Rattle.table_versions.specs.Table.{Name, Row, Table, same_name, same_fields, has_bad_null, is_long_text}
+use Rattle.table_versions.specs.Table.{Name, Row, Table, same_name, same_fields, has_bad_null}
+use Rattle.table_versions.specs.Table.{is_long_text}
 
 -- tables by name, in byte order of the names
 abbrev pub Database : Type 0
@@ -23,7 +27,8 @@ Database = List (Name × Table)
 -- the table of a name, of plain tables and of stored ones
 abbrev pub table_at : {T : Type 0} → List (Name × T) → Name → Option T
 table_at [] name = None
-table_at (entry ∷ entries) name = if bytes_eq entry.0 name then Some entry.1 else table_at entries name
+table_at (entry ∷ entries) name =
+    if bytes_eq entry.0 name then Some entry.1 else table_at entries name
 
 -- with this table at a name, in its place by byte order
 abbrev pub with_table : {T : Type 0} → Name → T → List (Name × T) → List (Name × T)
@@ -56,14 +61,16 @@ abbrev pub columns_of : Option Table → Option Schema
 columns_of (Some table) = Some table.schema
 columns_of None = None
 
--- why a put is refused, in this order, where this is the table of its name, there are so many tables, and n
--- puts were accepted before it
+-- why a put is refused, in this order, where this is the table of its name, there are so many
+-- tables, and n puts were accepted before it
 abbrev pub faults_at : Option Table → ℕ → ℕ → Put → List (Bool × Fault)
 faults_at there tables n put =
     (length put.table == 0 || nat_lt most_name_bytes (length put.table), LimitReached) ∷
     (is_some there && refuses_present put.if_exists, TableExists) ∷
-    (not (is_some there) && refuses_absent put.if_not_exist, TableMissing) ∷
-    (repeats same_name put.schema.fields || differs put.if_exists (columns_of there) put.schema, SchemaMismatch) ∷
+    (not (is_some there) && refuses_absent put.if_not_exist, TableMissing) ∷ (
+      repeats same_name put.schema.fields || differs put.if_exists (columns_of there) put.schema,
+      SchemaMismatch,
+    ) ∷
     (list_any (has_bad_null put.schema.fields) put.rows, BadBatch) ∷
     (list_any (list_any is_long_text) put.rows, LimitReached) ∷
     (nat_lt most_rows (length (table_after put.if_exists there put).rows), LimitReached) ∷
@@ -88,7 +95,8 @@ accepted old (Err fault) = old
 -- the database after these puts, where n were accepted before them
 abbrev pub after_all : Database → ℕ → List Put → Database
 after_all database n [] = database
-after_all database n (put ∷ puts) = after_all (accepted database (after database n put)) (n + 1) puts
+after_all database n (put ∷ puts) =
+    after_all (accepted database (after database n put)) (n + 1) puts
 
 -- the database after puts, of which those that are refused are passed over
 abbrev pub database_of : List Put → Database
@@ -100,7 +108,8 @@ version puts n = database_of (take n puts)
 
 -- all of these puts are accepted: put n by version n, and it gives version n + 1
 abbrev pub AreAccepted : List Put → Type 0
-AreAccepted puts = (n : ℕ) (put : Put) → slice_get puts n ≡ Some put → after (version puts n) n put ≡ Ok (version puts (n + 1))
+AreAccepted puts = (n : ℕ) (put : Put) → slice_get puts n ≡ Some put →
+    after (version puts n) n put ≡ Ok (version puts (n + 1))
 
 -- the puts after one more: an accepted one stands at their end, and a refused one changes nothing
 abbrev pub logged : List Put → Put → List Put

@@ -1,5 +1,5 @@
--- What the code keeps of every put, of every stored table and of every catalog. A public call cites it to say that what it
--- takes or gives is so; what a put means needs none of it.
+-- What the code keeps of every put, of every stored table and of every catalog. A public call cites
+-- it to say that what it takes or gives is so; what a put means needs none of it.
 use Rattle.std.specs.Prelude.{◌≡◌, ◌≤◌, ℕ, false, IsTrue, All, List, length}
 use Rattle.std.specs.List.{list_all, list_any}
 use Rattle.arrow_schema.specs.declared.schema.Field.{Field}
@@ -29,7 +29,8 @@ pub record AreSound (fields : List Field) (rows : List Row) : Type 0 where
   pub nulls : list_any (has_bad_null fields) rows ≡ false
   pub texts : list_any (list_any is_long_text) rows ≡ false
 
--- a stored table also has rows in each batch, each batch stands, all rows are sound, and this is their number
+-- a stored table also has rows in each batch, each batch stands, all rows are sound, and this is
+-- their number
 pub record IsKept (table : TableAt) (rows : ℕ) : Type 0 where
   pub storable : IsStorable table.schema table.batches
   pub filled : IsTrue (list_all has_rows table.batches)
@@ -38,7 +39,8 @@ pub record IsKept (table : TableAt) (rows : ℕ) : Type 0 where
   pub counted : rows ≡ length (table_of table).rows
   pub few : rows ≤ most_rows
 
--- the entries of a catalog stand in byte order of their names, each of which a table may have, and are not too many
+-- the entries of a catalog stand in byte order of their names, each of which a table may have, and
+-- are not too many
 pub record IsCatalog (entries : CatalogAt) : Type 0 where
   pub ordered : IsInOrder entries
   pub named : All (λ (entry : Name × TableAt). IsName entry.0) entries

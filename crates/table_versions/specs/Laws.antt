@@ -1,34 +1,41 @@
 -- Laws of databases and of lists of puts.
-use Rattle.std.specs.Prelude.{◌≡◌, ◌≤◌, ℕ, if◌then◌else◌, List, [], ◌∷◌, ◌++◌, length, All, Some, Ok, Err}
+use Rattle.std.specs.Prelude.{◌≡◌, ◌≤◌, ℕ, if◌then◌else◌, List, [], ◌∷◌, ◌++◌, length, All, Some}
+use Rattle.std.specs.Prelude.{Ok, Err}
 use Rattle.std.specs.Str.{bytes_eq}
 use Rattle.scan_base.specs.declared.fault.Fault.{Fault}
 use Rattle.scan_base.specs.Limits.{most_rows}
 use Rattle.table_versions.specs.Table.{Name, Table}
 use Rattle.table_versions.specs.Order.{IsInOrder}
-use Rattle.table_versions.specs.Database.{Database, Put, table_at, with_table, after, database_of, version, AreAccepted, logged}
+use Rattle.table_versions.specs.Database.{Database, Put, table_at, with_table, after, database_of}
+use Rattle.table_versions.specs.Database.{version, AreAccepted, logged}
 use Rattle.table_versions.specs.Valid.{IsDatabase, IsPut, HasDatabases}
 
 -- the table that was put is found at its name, and each other name has what it had
 abbrev pub TablesAreFound : Type 0
 TablesAreFound =
     (name other : Name) (table : Table) (database : Database) →
-    table_at (with_table name table database) other ≡ (if bytes_eq name other then Some table else table_at database other)
+    table_at (with_table name table database) other
+    ≡ (if bytes_eq name other then Some table else table_at database other)
 
--- behind puts, an accepted one is logged, gives the database after them all, and changes no earlier version
+-- after puts, an accepted one is logged, gives the database after them all, and changes no earlier
+-- version
 abbrev pub LogsGrow : Type 0
 LogsGrow =
-    (puts : List Put) (put : Put) (database : Database) → after (database_of puts) (length puts) put ≡ Ok database →
+    (puts : List Put) (put : Put) (database : Database) →
+    after (database_of puts) (length puts) put ≡ Ok database →
     (logged puts put ≡ puts ++ put ∷ []) × (database_of (logged puts put) ≡ database)
     × ((n : ℕ) → n ≤ length puts → version (logged puts put) n ≡ version puts n)
 
 -- a refused put is not logged
 abbrev pub LogsStay : Type 0
 LogsStay =
-    (puts : List Put) (put : Put) (fault : Fault) → after (database_of puts) (length puts) put ≡ Err fault → logged puts put ≡ puts
+    (puts : List Put) (put : Put) (fault : Fault) →
+    after (database_of puts) (length puts) put ≡ Err fault → logged puts put ≡ puts
 
--- no puts at all are accepted ones, and so are those that are logged behind accepted ones
+-- no puts at all are accepted ones, and so are those that are logged after accepted ones
 abbrev pub LogsHoldAcceptedPuts : Type 0
-LogsHoldAcceptedPuts = AreAccepted [] × ((puts : List Put) (put : Put) → AreAccepted puts → AreAccepted (logged puts put))
+LogsHoldAcceptedPuts = AreAccepted []
+    × ((puts : List Put) (put : Put) → AreAccepted puts → AreAccepted (logged puts put))
 
 -- the names of every version are in byte order, and each stands once
 abbrev pub NamesAreInOrder : Type 0
@@ -36,13 +43,14 @@ NamesAreInOrder = (puts : List Put) → IsInOrder (database_of puts)
 
 -- an accepted put has no more rows than a table may have
 abbrev pub AcceptedPutsAreFew : Type 0
-AcceptedPutsAreFew = (old : Database) (n : ℕ) (put : Put) (new : Database) → after old n put ≡ Ok new → length put.rows ≤ most_rows
+AcceptedPutsAreFew = (old : Database) (n : ℕ) (put : Put) (new : Database) →
+    after old n put ≡ Ok new → length put.rows ≤ most_rows
 
 -- an accepted put of rows of their columns' types leaves tables alone
 abbrev pub AcceptedPutsKeepDatabases : Type 0
 AcceptedPutsKeepDatabases =
-    (old : Database) (n : ℕ) (put : Put) (new : Database) → IsDatabase old → IsPut put → after old n put ≡ Ok new →
-    IsDatabase new
+    (old : Database) (n : ℕ) (put : Put) (new : Database) → IsDatabase old → IsPut put →
+    after old n put ≡ Ok new → IsDatabase new
 
 -- and so every version of such puts has tables alone
 abbrev pub VersionsAreDatabases : Type 0

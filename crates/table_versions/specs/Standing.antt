@@ -9,11 +9,13 @@ use Rattle.table_versions.specs.Stored.{TableAt, table_of}
 abbrev pub rows_before : List BatchAt → ℕ → ℕ
 rows_before batches i = length (flat_map rows_of (take i batches))
 
--- batch i of a table: the next one begins behind its rows, and a cut of it is the table's rows from there
+-- batch i of a table: the next one begins after its rows, and a cut of it is the table's rows from
+-- there
 pub record StandsAt (table : TableAt) (i : ℕ) (batch : BatchAt) : Type 0 where
   pub next : rows_before table.batches (i + 1) ≡ rows_before table.batches i + batch.rows
   pub cut : (from to : ℕ) → from ≤ to → to ≤ batch.rows →
-      rows_of (cut_batch batch from to) ≡ take (to - from) (drop (rows_before table.batches i + from) (table_of table).rows)
+      rows_of (cut_batch batch from to)
+      ≡ take (to - from) (drop (rows_before table.batches i + from) (table_of table).rows)
 
 -- the rows of a table are those of its batches, in order
 abbrev pub BatchesAreRows : Type 0

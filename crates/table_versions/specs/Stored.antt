@@ -65,9 +65,10 @@ has_rows batch = nat_lt 0 batch.rows
 abbrev pub kept : List BatchAt → List BatchAt
 kept = filter has_rows
 
--- what is stored after a put: an append puts its batches behind the old ones, else they stand alone
+-- what is stored after a put: an append puts its batches after the old ones, else they stand alone
 abbrev pub stored_after : IfExists → Option TableAt → PutAt → TableAt
-stored_after Append (Some old) put = record { schema = old.schema; batches = old.batches ++ kept put.batches }
+stored_after Append (Some old) put =
+    record { schema = old.schema; batches = old.batches ++ kept put.batches }
 stored_after _ _ put = record { schema = put.schema; batches = kept put.batches }
 
 -- the catalog after a put, or the first fault

@@ -5,7 +5,8 @@ use Rattle.std.specs.Str.{bytes_eq}
 use Rattle.scan_base.specs.declared.value.Value.{Value}
 use Rattle.scan_base.specs.declared.value.Value.TheVariants.{Text}
 use Rattle.arrow_schema.specs.declared.data_type.DataType.{DataType}
-use Rattle.arrow_schema.specs.declared.data_type.DataType.TheVariants.{Integer, Utf8, Bool as Flag, Decimal128, Date, Dictionary}
+use Rattle.arrow_schema.specs.declared.data_type.DataType.TheVariants.{Integer, Utf8, Bool as Flag}
+use Rattle.arrow_schema.specs.declared.data_type.DataType.TheVariants.{Decimal128, Date, Dictionary}
 use Rattle.arrow_schema.specs.declared.schema.Field.{Field}
 use Rattle.arrow_schema.specs.declared.schema.Schema.{Schema}
 use Rattle.arrow_schema.specs.DataType.{bit_width, is_signed}
@@ -25,10 +26,11 @@ pub record Table : Type 0 where
   pub schema : Schema
   pub rows : List Row
 
--- Whether two columns have values of one type. A dictionary's id and index type are not compared, and a
--- dictionary of texts is another type than Utf8.
+-- Whether two columns have values of one type. A dictionary's id and index type are not compared,
+-- and a dictionary of texts is another type than Utf8.
 abbrev pub same_type : DataType → DataType → Bool
-same_type (Integer a) (Integer b) = bit_width a == bit_width b && same_flag (is_signed a) (is_signed b)
+same_type (Integer a) (Integer b) =
+    bit_width a == bit_width b && same_flag (is_signed a) (is_signed b)
 same_type Utf8 Utf8 = true
 same_type Flag Flag = true
 same_type Decimal128 Decimal128 = true
@@ -42,7 +44,8 @@ same_name a b = bytes_eq a.name b.name
 
 -- whether two columns have one name, one type and one nullable flag
 abbrev pub same_field : Field → Field → Bool
-same_field a b = same_name a b && same_type a.data_type b.data_type && same_flag a.nullable b.nullable
+same_field a b =
+    same_name a b && same_type a.data_type b.data_type && same_flag a.nullable b.nullable
 
 -- whether two schemas have the same columns in order
 abbrev pub same_fields : List Field → List Field → Bool
@@ -52,7 +55,8 @@ same_fields _ _ = false
 
 -- whether a row has a cell that is null in a column that takes no null
 abbrev pub has_bad_null : List Field → Row → Bool
-has_bad_null fields row = list_any (λ (cell : Field × Value). not cell.0.nullable && is_null cell.1) (zip fields row)
+has_bad_null fields row =
+    list_any (λ (cell : Field × Value). not cell.0.nullable && is_null cell.1) (zip fields row)
 
 -- whether a value is a text that is too long
 abbrev pub is_long_text : Value → Bool

@@ -11,7 +11,8 @@ use Rattle.table_versions.specs.Table.{Name, Row, Table, same_name, is_long_text
 use Rattle.table_versions.specs.Database.{Database, Put, version}
 use Rattle.table_versions.specs.Order.{IsInOrder}
 
--- a value of a column: of its type, null only where the column takes nulls, and no text above the limit
+-- a value of a column: of its type, null only where the column takes nulls, and no text above the
+-- limit
 pub record IsCell (field : Field) (value : Value) : Type 0 where
   pub typed : IsValueOf field.data_type value
   pub null : is_null value ≡ true → field.nullable ≡ true

@@ -1,6 +1,7 @@
 //! A version of the catalog: tables by name.
 
-ghost use Rattle.std.specs.Prelude.{◌≡◌, ◌==◌, ◌≤◌, ◌<◌, [], Some, All, length, map, IfOk, slice_get};
+ghost use Rattle.std.specs.Prelude.{◌≡◌, ◌==◌, ◌≤◌, ◌<◌, [], Some, All, length, map, IfOk};
+ghost use Rattle.std.specs.Prelude.{slice_get};
 ghost use Rattle.std.specs.Option.{option_copied};
 ghost use Rattle.std.specs.Arc.{arc_value};
 ghost use Rattle.scan_base.specs.Limits.{most_tables};
@@ -42,8 +43,8 @@ impl Model for CatalogVersion {
 }
 
 impl CatalogVersion {
-    /// No tables: version 0. Hashes of the values of this catalog, and of those that come after it, begin with the seed. It
-    /// takes no memory.
+    /// No tables: version 0. Hashes of the values of this catalog, and of those that come after it,
+    /// begin with the seed. It takes no memory.
     pub fn empty(alloc: Global, seed: HashSeed) -> CatalogVersion
         ensures { result ≡ [] }
     {
@@ -58,8 +59,8 @@ impl CatalogVersion {
         self.seed
     }
 
-    /// How many tables there are: at most 256. Their names are in byte order, and each stands once. A name has
-    /// 1 to 64 bytes.
+    /// How many tables there are: at most 256. Their names are in byte order, and each stands once.
+    /// A name has 1 to 64 bytes.
     pub fn len(&self) -> usize
         ensures count { result ≡ length self.now }
         ensures ordered { IsInOrder self.now }
@@ -112,7 +113,8 @@ impl CatalogVersion {
     }
 }
 
-// The table of a name among entries in byte order of theirs, looked for in the half where it may be.
+// The table of a name among entries in byte order of theirs, looked for in the half where it may
+// be.
 fn find_in<'a>(tables: &'a [Arc<(Text, TableVersion)>], name: &Text) -> Option<&'a TableVersion>
     requires { IsInOrder (map arc_value tables.now) }
     ensures { option_copied result ≡ table_at (map arc_value tables.now) name.now }

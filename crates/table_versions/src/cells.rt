@@ -32,8 +32,8 @@ fn has_null(column: &Column) -> bool
     column.null_count() > 0
 }
 
-// Whether a slot is a text that is too long. Slots are walked only where a text of the buffers is: a null may have it,
-// and of a dictionary's texts only those count that stand in slots.
+// Whether a slot is a text that is too long. Slots are walked only where a text of the buffers is:
+// a null may have it, and of a dictionary's texts only those count that stand in slots.
 fn is_long_column(column: &Column) -> bool
     ensures long { result ≡ is_long_column column.now }
     ensures stands { IsColumn column.now }

@@ -9,7 +9,8 @@ ghost use Rattle.arrays.specs.Batch.{BatchAt, rows_of};
 ghost use Rattle.arrays.specs.Typed.{AreOfTypes};
 ghost use Rattle.table_versions.specs.Kept.{Stands};
 ghost use Rattle.scan_base.specs.Limits.{most_name_bytes, most_rows};
-ghost use Rattle.table_versions.specs.Database.{table_after, columns_of, differs, faults_at, put_faults, after};
+ghost use Rattle.table_versions.specs.Database.{table_after, columns_of, differs, faults_at};
+ghost use Rattle.table_versions.specs.Database.{put_faults, after};
 ghost use Rattle.table_versions.specs.Stored.{tables_of, put_of, plain, kept};
 ghost use Rattle.table_versions.specs.Stored.{stored_after, catalog_after};
 ghost use Rattle.table_versions.specs.Kept.{IsStorable, AreSound};
@@ -106,18 +107,19 @@ fn refusal_at(old: Option<&TableVersion>, tables: usize, number: u64, put: &Put)
     None
 }
 
-/// Why a put is refused, if it is, where the snapshot's number counts the puts that were accepted before: the first
-/// fault of [`apply`]. It takes no memory.
+/// Why a put is refused, if it is, where the snapshot's number counts the puts that were accepted
+/// before: the first fault of [`apply`]. It takes no memory.
 pub fn refusal(snapshot: &Snapshot, put: &Put) -> Option<Fault>
     ensures { result
-        ≡ first_fault (put_faults (tables_of snapshot.now.catalog) snapshot.now.number (put_of put.now)) }
+        ≡ first_fault (put_faults (tables_of snapshot.now.catalog) snapshot.now.number
+        (put_of put.now)) }
 {
     let catalog = snapshot.catalog();
     let old = catalog.get(&put.table);
     refusal_at(old, catalog.len(), snapshot.number(), put)
 }
 
-// The old table with the batches behind its own.
+// The old table with the batches after its own.
 fn appended(
     alloc: Global,
     old: &TableVersion,
@@ -200,31 +202,32 @@ fn next_catalog(alloc: Global, snapshot: &Snapshot, put: Put) -> Result<CatalogV
 }
 
 /// The catalog after a put, where the snapshot's number counts the puts that were accepted before:
-/// a table that is absent is made of the put's schema and batches, an append goes on with them behind
-/// the old batches, and a replace has them alone. The snapshot stays as it is.
+/// a table that is absent is made of the put's schema and batches, an append goes on with them
+/// after the old batches, and a replace has them alone. The snapshot stays as it is.
 ///
 /// Old tables and batches are shared: a put copies a handle for each table, and an append at most
 /// 255 handles of batches and one for each 256 batches before those. Values are looked at for nulls
-/// only in columns that take none but may have some, and for long texts only in columns of texts. Of a
-/// dictionary, the values count that stand in rows.
+/// only in columns that take none but may have some, and for long texts only in columns of texts.
+/// Of a dictionary, the values count that stand in rows.
 ///
 /// # Errors
 ///
 /// The first fault is answered, in this order:
 ///
 /// - F12 (`Fault::LimitReached`) where the table's name has less than 1 or more than 64 bytes.
-/// - F10 (`Fault::TableExists`) where the table is there and is neither to be extended nor replaced.
+/// - F10 (`Fault::TableExists`) where the table is there and is neither to be extended nor
+///   replaced.
 /// - F9 (`Fault::TableMissing`) where it is absent and is not to be created.
-/// - F11 (`Fault::SchemaMismatch`) where two columns of the put have one name, or an append has other
-///   columns than the table: other names, types or nullable flags, or another order. A dictionary's
-///   id and index type are not compared.
+/// - F11 (`Fault::SchemaMismatch`) where two columns of the put have one name, or an append has
+///   other columns than the table: other names, types or nullable flags, or another order. A
+///   dictionary's id and index type are not compared.
 /// - F8 (`Fault::BadBatch`) where a cell is null in a column that takes no null.
 /// - F12 (`Fault::LimitReached`) where a text of a row has more than 65,536 bytes, where the table
-///   would have more than 16,777,216 rows, for a 257th table, and for a put behind 65,536 accepted
+///   would have more than 16,777,216 rows, for a 257th table, and for a put after 65,536 accepted
 ///   ones.
 ///
-/// F21 (`Fault::OutOfMemory`) is answered where memory is refused, and not for a put that is refused: to
-/// check it takes no memory.
+/// F21 (`Fault::OutOfMemory`) is answered where memory is refused, and not for a put that is
+/// refused: to check it takes no memory.
 pub fn apply(alloc: Global, snapshot: &Snapshot, put: Put) -> Result<CatalogVersion, Fault>
     ensures batches { GivesUnlessMemory (λ catalog. catalog) result
         (catalog_after snapshot.now.catalog snapshot.now.number put) }

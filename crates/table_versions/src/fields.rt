@@ -35,8 +35,8 @@ fn same_field(old: &Field, new: &Field) -> bool
     old.name == new.name && same_type(old.data_type, new.data_type) && old.nullable == new.nullable
 }
 
-/// Whether two schemas have the same columns in order: their names, types and nullable flags. A dictionary's id and
-/// index type are not compared. It takes no memory.
+/// Whether two schemas have the same columns in order: their names, types and nullable flags. A
+/// dictionary's id and index type are not compared. It takes no memory.
 pub fn same_fields(old: &[Field], new: &[Field]) -> bool
     ensures { result ≡ same_fields old.now new.now }
 {

@@ -57,7 +57,7 @@ impl GrowingTable {
         })
     }
 
-    // The table with one batch more behind its others.
+    // The table with one batch more after its others.
     fn with(self, alloc: Global, batch: MeasuredBatch) -> Result<GrowingTable, AllocError>
         requires filled { IsTrue (has_rows batch) }
         requires typed { AreOfTypes self.schema.fields batch.columns }
@@ -83,7 +83,8 @@ impl GrowingTable {
         })
     }
 
-    // The same table. Where it has 256 batches that no page of statistics has, there is one page more.
+    // The same table. Where it has 256 batches that no page of statistics has, there is one page
+    // more.
     fn with_page(self, alloc: Global) -> Result<GrowingTable, AllocError>
         ensures { IfOk result (λ table. table ≡ self) }
     {
@@ -156,7 +157,7 @@ impl GrowingTable {
         Ok(all)
     }
 
-    // The table with those of the batches that have rows behind its others.
+    // The table with those of the batches that have rows after its others.
     pub(crate) fn extended(
         self,
         alloc: Global,

@@ -20,8 +20,8 @@ pub fn logs_grow()
     ensures refused { LogsStay }
 {}
 
-/// What is logged is a log: each of its puts was accepted by the version before it, and gives the version
-/// behind it.
+/// What is logged is a log: each of its puts was accepted by the version before it, and gives the
+/// version after it.
 pub fn logs_hold_accepted_puts()
     ensures { LogsHoldAcceptedPuts }
 {}
@@ -31,8 +31,9 @@ pub fn accepted_puts_are_few()
     ensures { AcceptedPutsAreFew }
 {}
 
-/// An accepted put of rows of their columns' types leaves tables alone: each row has exactly one value for each
-/// column, of the column's type, null only where the column takes nulls, and no text of more than 65,536 bytes.
+/// An accepted put of rows of their columns' types leaves tables alone: each row has exactly one
+/// value for each column, of the column's type, null only where the column takes nulls, and no text
+/// of more than 65,536 bytes.
 pub fn accepted_puts_keep_databases()
     ensures { AcceptedPutsKeepDatabases }
 {}

@@ -12,7 +12,8 @@ use scan_base::{IfExists, IfNotExist, Text};
 use std::marker::Model;
 
 /// Batches for a table, and what to do where the table is absent and where it is there. The schema
-/// is one that can be written, and each batch has one column for each of its fields, of the field's type.
+/// is one that can be written, and each batch has one column for each of its fields, of the field's
+/// type.
 #[derive(Drop)]
 pub struct Put {
     pub(crate) table: Text,
@@ -40,8 +41,8 @@ impl Model for Put {
 }
 
 impl Put {
-    /// A put of these batches into the table of this name. What a reader of IPC messages gives meets
-    /// the conditions.
+    /// A put of these batches into the table of this name. What a reader of IPC messages gives
+    /// meets the conditions.
     pub fn new(
         table: Text,
         if_not_exist: IfNotExist,
@@ -69,8 +70,8 @@ impl Put {
         }
     }
 
-    /// How many rows are put: the lesser of that number and 2^64 - 1. An accepted put has at most 16,777,216
-    /// ([`crate::laws::accepted_puts_are_few`]).
+    /// How many rows are put: the lesser of that number and 2^64 - 1. An accepted put has at most
+    /// 16,777,216 ([`crate::laws::accepted_puts_are_few`]).
     pub fn rows(&self) -> usize
         ensures { result ≡ min (length (put_of self.now).rows) (2 ^ 64 - 1) }
     {

@@ -1,6 +1,7 @@
 //! A table as a version of the catalog has it.
 
-ghost use Rattle.std.specs.Prelude.{◌≡◌, ◌<◌, ◌≤◌, ◌*◌, ◌/◌, Some, length, option_map, slice_get, IfOk, IfSome};
+ghost use Rattle.std.specs.Prelude.{◌≡◌, ◌<◌, ◌≤◌, ◌*◌, ◌/◌, Some, length, option_map, slice_get};
+ghost use Rattle.std.specs.Prelude.{IfOk, IfSome};
 ghost use Rattle.std.specs.Arc.{arc_value};
 ghost use Rattle.arrow_schema.specs.Schema.{IsSchema};
 ghost use Rattle.arrays.specs.Batch.{BatchAt, rows_of};
@@ -26,8 +27,8 @@ use std::marker::Model;
 use std::sync::Arc;
 
 /// A table: its schema, which can be written, and its rows in batches. Each batch has rows, and one
-/// column for each field, of the field's type. No cell is null in a column that takes no null, and no text
-/// has more than 65,536 bytes. A longer version of the table shares these batches.
+/// column for each field, of the field's type. No cell is null in a column that takes no null, and
+/// no text has more than 65,536 bytes. A longer version of the table shares these batches.
 pub struct TableVersion {
     schema: Arc<Schema>,
     batches: Arc<Pages<PlacedBatch>>,
@@ -64,7 +65,8 @@ impl Model for TableVersion {
 
     ghost view = { λ t. placed_table (arc_value t.schema) (arc_value t.batches) };
 
-    ghost invariant = { λ t. AreStored (arc_value t.schema) (arc_value t.batches) (arc_value t.stats) t.rows };
+    ghost invariant = { λ t. AreStored (arc_value t.schema) (arc_value t.batches)
+        (arc_value t.stats) t.rows };
 }
 
 impl TableVersion {
@@ -93,8 +95,8 @@ impl TableVersion {
         self.batches.len()
     }
 
-    /// The batch of a number, counted from 0. It has rows, and one column for each field, of the field's
-    /// type. The rows of the batches, in order, are those of the table.
+    /// The batch of a number, counted from 0. It has rows, and one column for each field, of the
+    /// field's type. The rows of the batches, in order, are those of the table.
     pub fn batch(&self, index: usize) -> &Batch
         requires { index < length self.now.batches }
         ensures batch { slice_get self.now.batches index ≡ Some result.now }
@@ -123,7 +125,8 @@ impl TableVersion {
     /// How many rows the batch of a number has, at least 1.
     pub fn batch_rows(&self, index: usize) -> usize
         requires { index < length self.now.batches }
-        ensures rows { option_map (λ (batch : BatchAt). batch.rows) (slice_get self.now.batches index) ≡ Some result }
+        ensures rows { option_map (λ (batch : BatchAt). batch.rows)
+            (slice_get self.now.batches index) ≡ Some result }
         ensures filled { 0 < result }
     {
         match self.paged_rows(index) {
@@ -132,13 +135,16 @@ impl TableVersion {
         }
     }
 
-    /// What the values of a column of a batch are between, and how many are null. In the full pages of 256 batches it is read
-    /// without the batch, unless one of the two is a text of more than 36 bytes.
+    /// What the values of a column of a batch are between, and how many are null. In the full pages
+    /// of 256 batches it is read without the batch, unless one of the two is a text of more than 36
+    /// bytes.
     pub fn side(&self, index: usize, column: usize) -> Side<'_>
         requires batch { index < length self.now.batches }
         requires column { column < length self.now.schema.fields }
-        ensures stats { option_map (λ (batch : BatchAt). stats_in batch.columns column) (slice_get self.now.batches index) ≡ Some (side_at result) }
-        ensures wide { IfSome (slice_get self.now.batches index) (λ batch. length batch.columns ≡ length self.now.schema.fields) }
+        ensures stats { option_map (λ (batch : BatchAt). stats_in batch.columns column)
+            (slice_get self.now.batches index) ≡ Some (side_at result) }
+        ensures wide { IfSome (slice_get self.now.batches index)
+            (λ batch. length batch.columns ≡ length self.now.schema.fields) }
     {
         match self.paged_side(index, column) {
             Some(side) => side,
@@ -146,11 +152,13 @@ impl TableVersion {
         }
     }
 
-    /// How the least and the greatest text of a column of a batch begin. It is `None` of other values, and of a batch that has
-    /// no page.
+    /// How the least and the greatest text of a column of a batch begin. It is `None` of other
+    /// values, and of a batch that has no page.
     pub fn beginnings(&self, index: usize, column: usize) -> Option<Beginnings<'_>>
-        ensures wide { IfSome result (λ _. IfSome (slice_get self.now.batches index) (λ batch. length batch.columns ≡ length self.now.schema.fields)) }
-        ensures beginnings { IfSome result (λ known. (batch : BatchAt) × (slice_get self.now.batches index ≡ Some batch)
+        ensures wide { IfSome result (λ _. IfSome (slice_get self.now.batches index)
+            (λ batch. length batch.columns ≡ length self.now.schema.fields)) }
+        ensures beginnings { IfSome result
+            (λ known. (batch : BatchAt) × (slice_get self.now.batches index ≡ Some batch)
             × AreBeginnings known (stats_in batch.columns column)) }
     {
         self.paged_stats(index, column)?.beginnings()
@@ -158,8 +166,11 @@ impl TableVersion {
 
     // The values that the page of a batch has of a column.
     fn paged_side(&self, index: usize, column: usize) -> Option<Side<'_>>
-        ensures wide { IfSome result (λ _. IfSome (slice_get self.now.batches index) (λ batch. length batch.columns ≡ length self.now.schema.fields)) }
-        ensures stats { IfSome result (λ side. option_map (λ (batch : BatchAt). stats_in batch.columns column) (slice_get self.now.batches index) ≡ Some (side_at side)) }
+        ensures wide { IfSome result (λ _. IfSome (slice_get self.now.batches index)
+            (λ batch. length batch.columns ≡ length self.now.schema.fields)) }
+        ensures stats { IfSome result
+            (λ side. option_map (λ (batch : BatchAt). stats_in batch.columns column)
+            (slice_get self.now.batches index) ≡ Some (side_at side)) }
     {
         self.paged_stats(index, column)?.side()
     }
@@ -167,15 +178,19 @@ impl TableVersion {
     // The rows of a batch that has a page.
     fn paged_rows(&self, index: usize) -> Option<usize>
         ensures filled { IfSome result (λ rows. 0 < rows) }
-        ensures rows { IfSome result (λ rows. option_map (λ (batch : BatchAt). batch.rows) (slice_get self.now.batches index) ≡ Some rows) }
+        ensures rows { IfSome result
+            (λ rows. option_map (λ (batch : BatchAt). batch.rows) (slice_get self.now.batches index)
+            ≡ Some rows) }
     {
         self.page_of(index)?.rows.get(index % PAGE_BATCHES).copied()
     }
 
     // The statistics of a column of a batch that has a page.
     fn paged_stats(&self, index: usize, column: usize) -> Option<&OwnedStats>
-        ensures wide { IfSome result (λ _. IfSome (slice_get self.now.batches index) (λ batch. length batch.columns ≡ length self.now.schema.fields)) }
-        ensures stats { IfSome result (λ owned. AreOfBatch self.now.batches index column owned.now) }
+        ensures wide { IfSome result (λ _. IfSome (slice_get self.now.batches index)
+            (λ batch. length batch.columns ≡ length self.now.schema.fields)) }
+        ensures stats { IfSome result
+            (λ owned. AreOfBatch self.now.batches index column owned.now) }
     {
         self.page_of(index)?
             .columns
@@ -185,7 +200,8 @@ impl TableVersion {
 
     // The page of a batch.
     fn page_of(&self, index: usize) -> Option<&StatsPage>
-        ensures page { IfSome result (λ page. IsPageFrom self.now.batches (index / 256 * 256) page.now) }
+        ensures page { IfSome result
+            (λ page. IsPageFrom self.now.batches (index / 256 * 256) page.now) }
         ensures kept { IsKept self.now (length (table_of self.now).rows) }
     {
         let page = index / PAGE_BATCHES;

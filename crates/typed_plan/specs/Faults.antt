@@ -4,7 +4,8 @@ use Rattle.scan_base.specs.declared.fault.Fault.{Fault}
 use Rattle.scan_base.specs.declared.fault.Fault.TheVariants.{TypeClash}
 use Rattle.scan_base.specs.declared.predicate.Operand.{Operand}
 use Rattle.scan_base.specs.declared.predicate.Operand.TheVariants.{Column, Literal, Date}
-use Rattle.scan_base.specs.Predicate.{Pred, conjunction, disjunction, negation, truth_test, comparing, between}
+use Rattle.scan_base.specs.Predicate.{Pred, conjunction, disjunction, negation, truth_test}
+use Rattle.scan_base.specs.Predicate.{comparing, between}
 use Rattle.scan_base.specs.Predicate.{membership, null_test, constant}
 use Rattle.typed_plan.specs.declared.class.Class.{Class}
 use Rattle.typed_plan.specs.Class.{same_class, value_class}
@@ -46,13 +47,17 @@ abbrev pub compare_fault : Result Class Fault → Result Class Fault → Option 
 compare_fault left right = found left (λ a. found right (λ b. must (same_class a b) TypeClash))
 
 -- each item's name, and whether its class agrees
-abbrev pub items_fault : {C : Type 0} → (C → Result Class Fault) → Result Class Fault → List (Operand C) → Option Fault
-items_fault class_of class items = first_in (λ item. compare_fault class (operand_class class_of item)) items
+abbrev pub items_fault : {C : Type 0} → (C → Result Class Fault) → Result Class Fault →
+    List (Operand C) → Option Fault
+items_fault class_of class items =
+    first_in (λ item. compare_fault class (operand_class class_of item)) items
 
 -- a predicate from the left, where `class_of` says each column's class
 abbrev pub predicate_fault : {C : Type 0} → (C → Result Class Fault) → Pred C → Option Fault
-predicate_fault class_of (conjunction p q) = predicate_fault class_of p then predicate_fault class_of q
-predicate_fault class_of (disjunction p q) = predicate_fault class_of p then predicate_fault class_of q
+predicate_fault class_of (conjunction p q) =
+    predicate_fault class_of p then predicate_fault class_of q
+predicate_fault class_of (disjunction p q) =
+    predicate_fault class_of p then predicate_fault class_of q
 predicate_fault class_of (negation p) = predicate_fault class_of p
 predicate_fault class_of (truth_test negated tested p) = predicate_fault class_of p
 predicate_fault class_of (comparing comparison left right) =
@@ -61,6 +66,7 @@ predicate_fault class_of (between negated operand low high) =
     fault_in (operand_class class_of operand)
     then items_fault class_of (operand_class class_of operand) (low ∷ high ∷ [])
 predicate_fault class_of (membership negated operand items) =
-    fault_in (operand_class class_of operand) then items_fault class_of (operand_class class_of operand) items
+    fault_in (operand_class class_of operand)
+    then items_fault class_of (operand_class class_of operand) items
 predicate_fault class_of (null_test negated operand) = fault_in (operand_class class_of operand)
 predicate_fault class_of (constant truth) = None

@@ -22,4 +22,5 @@ tree_schemas (joined left right on) = tree_schemas left ++ tree_schemas right
 -- the tables that a plan holds are the catalog's, of the names that the plan reads
 abbrev pub HoldsFrom : CatalogAt → BoundAt → Type 0
 HoldsFrom catalog bound =
-    map (table_at catalog) (tree_tables (tree_of bound.plan)) ≡ map (λ (table : TableAt). Some table) bound.tables
+    map (table_at catalog) (tree_tables (tree_of bound.plan))
+    ≡ map (λ (table : TableAt). Some table) bound.tables

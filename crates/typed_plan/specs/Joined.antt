@@ -1,5 +1,6 @@
 -- The rows of FROM and WHERE, in the order of nested loops.
-use Rattle.std.specs.Prelude.{ℕ, ◌-◌, Bool, true, List, [], ◌∷◌, ◌++◌, map, take, drop, Option, Some, None}
+use Rattle.std.specs.Prelude.{ℕ, ◌-◌, Bool, true, List, [], ◌∷◌, ◌++◌, map, take, drop, Option}
+use Rattle.std.specs.Prelude.{Some, None}
 use Rattle.std.specs.List.{list_all, filter, flat_map}
 use Rattle.arrow_schema.specs.declared.schema.Field.{Field}
 use Rattle.scan_base.specs.declared.comparison.Comparison.TheVariants.{Equal}
@@ -27,7 +28,8 @@ rows_in (Some table) = table.rows
 
 -- the columns of a place
 abbrev pub place_columns : Database → Place → Scope
-place_columns database place = columns_in (place_name place) (fields_in (table_at database place.table))
+place_columns database place =
+    columns_in (place_name place) (fields_in (table_at database place.table))
 
 -- the rows of a place
 abbrev pub place_rows : Database → Place → List Row
@@ -36,7 +38,8 @@ place_rows database place = rows_in (table_at database place.table)
 -- the columns of the places so far and of these joins
 abbrev pub scope_after : Database → Scope → List Join → Scope
 scope_after database scope [] = scope
-scope_after database scope (join ∷ joins) = scope_after database (scope ++ place_columns database join.place) joins
+scope_after database scope (join ∷ joins) =
+    scope_after database (scope ++ place_columns database join.place) joins
 
 -- the columns of all places
 abbrev pub scope_of : Sentence → Database → Scope
@@ -46,7 +49,8 @@ scope_of query database = scope_after database (place_columns database query.fir
 abbrev pub fits_on : Scope → List Equality → Row → Bool
 fits_on scope on row =
     list_all
-    (λ equality. keeps (compared Equal (cell_of scope row equality.left) (cell_of scope row equality.right))) on
+    (λ equality.
+    keeps (compared Equal (cell_of scope row equality.left) (cell_of scope row equality.right))) on
 
 -- a row with each row of the new place that fits it, in the order of the table
 abbrev pub extensions : Scope → List Equality → List Row → Row → List Row
@@ -57,7 +61,8 @@ abbrev pub rows_after : Database → Scope → List Join → List Row → List R
 rows_after database scope [] rows = rows
 rows_after database scope (join ∷ joins) rows =
     let wider = scope ++ place_columns database join.place in
-    rows_after database wider joins (flat_map (extensions wider join.on (place_rows database join.place)) rows)
+    rows_after database wider joins
+    (flat_map (extensions wider join.on (place_rows database join.place)) rows)
 
 -- the rows a up to, not with, b
 abbrev pub rows_between : ℕ → ℕ → List Row → List Row
@@ -76,4 +81,5 @@ passes scope (Some predicate) row = keeps (truth_of (cell_of scope row) predicat
 
 -- the joined rows for which WHERE is true, in order
 abbrev pub kept : Sentence → Database → ℕ → ℕ → List Row
-kept query database a b = filter (passes (scope_of query database) query.filter) (joined query database a b)
+kept query database a b =
+    filter (passes (scope_of query database) query.filter) (joined query database a b)

@@ -1,5 +1,6 @@
 -- The rows that a query means.
-use Rattle.std.specs.Prelude.{◌≡◌, ◌≤◌, ℕ, false, if◌then◌else◌, List, [], ◌∷◌, ◌++◌, length, map, pos}
+use Rattle.std.specs.Prelude.{◌≡◌, ◌≤◌, ℕ, false, if◌then◌else◌, List, [], ◌∷◌, ◌++◌, length, map}
+use Rattle.std.specs.Prelude.{pos}
 use Rattle.scan_base.specs.declared.value.Value.{Value}
 use Rattle.scan_base.specs.declared.value.Value.TheVariants.{Null, Int}
 use Rattle.sql_query.specs.declared.query.Expression.{Expression}
@@ -34,7 +35,8 @@ value_in_group scope rows (Sum name) = sum_of (map (λ row. cell_of scope row na
 -- the selected values of a group
 abbrev pub summed : Scope → Select → Group → Row
 summed scope select.All group = []
-summed scope (select.List items) group = map (λ item. value_in_group scope group.rows item.expression) items
+summed scope (select.List items) group =
+    map (λ item. value_in_group scope group.rows item.expression) items
 
 -- the rows of a query over the rows a up to, not with, b of its first place
 abbrev pub meaning : Sentence → Database → ℕ → ℕ → List Row
@@ -44,9 +46,9 @@ meaning query database a b =
     then map (summed scope query.select) (groups_of scope query.group_by (kept query database a b))
     else map (selected scope query.select) (kept query database a b)
 
--- Two neighboring ranges of a query that is not grouped give the rows of the range that they make up. So its
--- endpoints may be fetched one by one.
+-- Two neighboring ranges of a query that is not grouped give the rows of the range that they make
+-- up. So its endpoints may be fetched one by one.
 abbrev pub RangesJoin : Type 0
 RangesJoin =
-    (query : Sentence) (database : Database) (a b c : ℕ) → is_grouped query ≡ false → a ≤ b → b ≤ c →
-    meaning query database a b ++ meaning query database b c ≡ meaning query database a c
+    (query : Sentence) (database : Database) (a b c : ℕ) → is_grouped query ≡ false → a ≤ b →
+    b ≤ c → meaning query database a b ++ meaning query database b c ≡ meaning query database a c

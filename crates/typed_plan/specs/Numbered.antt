@@ -2,7 +2,8 @@
 use Rattle.std.specs.Prelude.{map}
 use Rattle.scan_base.specs.declared.predicate.Operand.{Operand}
 use Rattle.scan_base.specs.declared.predicate.Operand.TheVariants.{Column, Literal, Date}
-use Rattle.scan_base.specs.Predicate.{Pred, conjunction, disjunction, negation, truth_test, comparing, between}
+use Rattle.scan_base.specs.Predicate.{Pred, conjunction, disjunction, negation, truth_test}
+use Rattle.scan_base.specs.Predicate.{comparing, between}
 use Rattle.scan_base.specs.Predicate.{membership, null_test, constant}
 
 -- an operand with another name of its column
@@ -17,7 +18,8 @@ predicate_map f (conjunction p q) = conjunction (predicate_map f p) (predicate_m
 predicate_map f (disjunction p q) = disjunction (predicate_map f p) (predicate_map f q)
 predicate_map f (negation p) = negation (predicate_map f p)
 predicate_map f (truth_test negated tested p) = truth_test negated tested (predicate_map f p)
-predicate_map f (comparing comparison left right) = comparing comparison (operand_map f left) (operand_map f right)
+predicate_map f (comparing comparison left right) =
+    comparing comparison (operand_map f left) (operand_map f right)
 predicate_map f (between negated operand low high) =
     between negated (operand_map f operand) (operand_map f low) (operand_map f high)
 predicate_map f (membership negated operand items) =

@@ -46,16 +46,21 @@ is_true predicate row = keeps (truth_of (cell_in row) predicate)
 
 -- whether both cells of each key are equal in a joined row; a null is equal to nothing
 abbrev pub fits : List JoinKey → Row → Bool
-fits on row = list_all (λ key. keeps (compared Equal (cell_in row key.left) (cell_in row key.right))) on
+fits on row =
+    list_all (λ key. keeps (compared Equal (cell_in row key.left) (cell_in row key.right))) on
 
 -- the joined rows that fit, in the order of nested loops, the left outermost
 abbrev pub joined_rows : List JoinKey → List Row → List Row → List Row
-joined_rows on lefts rights = flat_map (λ left. filter (fits on) (map (λ right. left ++ right) rights)) lefts
+joined_rows on lefts rights =
+    flat_map (λ left. filter (fits on) (map (λ right. left ++ right) rights)) lefts
 
--- the rows of a tree, where `cut` says which rows of the first table it reads; of the others it reads all
+-- the rows of a tree, where `cut` says which rows of the first table it reads; of the others it
+-- reads all
 abbrev pub tree_rows : Tree → Database → (List Row → List Row) → List Row
-tree_rows (scan table schema columns) database cut = taken columns (cut (rows_in (table_at database table)))
-tree_rows (filtered predicate tree) database cut = filter (is_true predicate) (tree_rows tree database cut)
+tree_rows (scan table schema columns) database cut =
+    taken columns (cut (rows_in (table_at database table)))
+tree_rows (filtered predicate tree) database cut =
+    filter (is_true predicate) (tree_rows tree database cut)
 tree_rows (joined left right on) database cut =
     joined_rows on (tree_rows left database cut) (tree_rows right database (λ rows. rows))
 
@@ -66,16 +71,20 @@ answered group CountRows = Int (pos (length group.rows))
 answered group (Count column) = count_of (map (λ row. cell_in row column) group.rows)
 answered group (Sum column) = sum_of (map (λ row. cell_in row column) group.rows)
 
--- the groups of rows by these cells, by first appearance; without keys there is one group of all rows, also of none
+-- the groups of rows by these cells, by first appearance; without keys there is one group of all
+-- rows, also of none
 abbrev pub groups_by : List ℕ → List Row → List Group
 groups_by [] rows = record { key = []; rows = rows } ∷ []
-groups_by (key ∷ keys) rows = fold (λ groups row. with_row (map (cell_in row) (key ∷ keys)) row groups) [] rows
+groups_by (key ∷ keys) rows =
+    fold (λ groups row. with_row (map (cell_in row) (key ∷ keys)) row groups) [] rows
 
 -- what the result takes of rows: cells of each row, or what the items give of each group
 abbrev pub output_rows : Output → List Row → List Row
 output_rows (Project columns) rows = taken columns rows
-output_rows (Groups keys items) rows = map (λ group. map (answered group) items) (groups_by keys rows)
+output_rows (Groups keys items) rows =
+    map (λ group. map (answered group) items) (groups_by keys rows)
 
 -- the rows of a plan over the rows a up to, not with, b of its first table
 abbrev pub plan_rows : PlanAt → Database → ℕ → ℕ → List Row
-plan_rows plan database a b = output_rows plan.output (tree_rows plan.tree database (rows_between a b))
+plan_rows plan database a b =
+    output_rows plan.output (tree_rows plan.tree database (rows_between a b))

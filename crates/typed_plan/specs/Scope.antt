@@ -1,5 +1,6 @@
 -- The columns that the names of a query may stand for.
-use Rattle.std.specs.Prelude.{ℕ, ◌+◌, Bool, true, ◌&&◌, if◌then◌else◌, List, [], ◌∷◌, map, Option, Some, None, Result}
+use Rattle.std.specs.Prelude.{ℕ, ◌+◌, Bool, true, ◌&&◌, if◌then◌else◌, List, [], ◌∷◌, map, Option}
+use Rattle.std.specs.Prelude.{Some, None, Result}
 use Rattle.std.specs.Prelude.{Ok, Err}
 use Rattle.std.specs.Str.{bytes_eq}
 use Rattle.arrow_schema.specs.declared.schema.Field.{Field}
@@ -44,7 +45,8 @@ abbrev pub the_only : List ℕ → Result ℕ Fault
 the_only (number ∷ []) = Ok number
 the_only _ = Err UnknownName
 
--- the number of the column that a name means, counted from 0; one that means none, or several, is a fault
+-- the number of the column that a name means, counted from 0; one that means none, or several, is a
+-- fault
 abbrev pub column_of : Scope → ColumnName → Result ℕ Fault
 column_of scope name = the_only (numbers_of 0 name scope)
 
@@ -57,6 +59,7 @@ number_in (Err fault) = 0
 abbrev pub numbered : Scope → ColumnName → ℕ
 numbered scope name = number_in (column_of scope name)
 
--- a row's value in the column that a name means; a query with a name that means none is refused before
+-- a row's value in the column that a name means; a query with a name that means none is refused
+-- before
 abbrev pub cell_of : Scope → Row → ColumnName → Value
 cell_of scope row name = cell_in row (numbered scope name)

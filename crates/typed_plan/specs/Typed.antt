@@ -1,5 +1,6 @@
 -- What a plan that is well typed has: each column is there, and what is compared is of one class.
-use Rattle.std.specs.Prelude.{◌≡◌, ℕ, Bool, true, false, not, ◌&&◌, IsTrue, List, ◌++◌, length, map, nat_lt, slice_get, get_or, unwrap_or}
+use Rattle.std.specs.Prelude.{◌≡◌, ℕ, Bool, true, false, not, ◌&&◌, IsTrue, List, ◌++◌, length, map}
+use Rattle.std.specs.Prelude.{nat_lt, slice_get, get_or, unwrap_or}
 use Rattle.std.specs.Prelude.{Option, Some, None, Result, Ok, Err}
 use Rattle.std.specs.List.{list_all}
 use Rattle.arrow_schema.specs.declared.data_type.DataType.{DataType}
@@ -64,13 +65,15 @@ is_place (joined left right on) = false
 
 -- a key's cells are there, and of one class
 abbrev pub key_fault : List DataType → JoinKey → Option Fault
-key_fault types key = compare_fault (class_of_number types key.left) (class_of_number types key.right)
+key_fault types key =
+    compare_fault (class_of_number types key.left) (class_of_number types key.right)
 
--- whether a key has a cell of the first `seam` and one behind them
+-- whether a key has a cell of the first `seam` and one after them
 abbrev pub spans : ℕ → JoinKey → Bool
 spans seam key = nat_lt key.left seam && not (nat_lt key.right seam)
 
--- each column is there, and what a predicate and a key compare is of one class; each further place is joined alone
+-- each column is there, and what a predicate and a key compare is of one class; each further place
+-- is joined alone
 abbrev pub IsTypedTree : Tree → Type 0
 IsTypedTree (scan table schema columns) = IsTrue (has_columns (length schema.fields) columns)
 IsTypedTree (filtered predicate tree) =
@@ -102,18 +105,21 @@ output_types (Groups keys items) types = map (item_type keys types) items
 abbrev pub HasOutput : Output → List DataType → Type 0
 HasOutput (Project columns) types = IsTrue (has_columns (length types) columns)
 HasOutput (Groups keys items) types =
-    IsTrue (list_all (λ key. nat_lt key (length types)) keys) × IsTrue (list_all (has_item (length keys) types) items)
+    IsTrue (list_all (λ key. nat_lt key (length types)) keys)
+    × IsTrue (list_all (has_item (length keys) types) items)
 
 -- whether an output makes groups
 abbrev pub is_grouping : Output → Bool
 is_grouping (Project columns) = false
 is_grouping (Groups keys items) = true
 
--- A plan is well typed, and its result has the types that its schema says. Only rows of one place are grouped.
+-- A plan is well typed, and its result has the types that its schema says. Only rows of one place
+-- are grouped.
 pub record IsTyped (plan : PlanAt) : Type 0 where
   pub tree : IsTypedTree plan.tree
   pub output : HasOutput plan.output (tree_types plan.tree)
-  pub types : types_of plan.schema.fields ≡ answered_from 0 (output_types plan.output (tree_types plan.tree))
+  pub types : types_of plan.schema.fields
+      ≡ answered_from 0 (output_types plan.output (tree_types plan.tree))
   pub alone : is_grouping plan.output ≡ true → is_place plan.tree ≡ true
 
 -- the tables of a plan are there, with the columns that it says
@@ -125,5 +131,6 @@ IsOver (joined left right on) database = IsOver left database × IsOver right da
 -- a predicate that is well typed over columns of these types names columns that are there
 abbrev pub TypedPredicatesNameColumns : Type 0
 TypedPredicatesNameColumns =
-    (types : List DataType) (predicate : Pred ℕ) → predicate_fault (class_of_number types) predicate ≡ None →
+    (types : List DataType) (predicate : Pred ℕ) →
+    predicate_fault (class_of_number types) predicate ≡ None →
     IsTrue (names_only (λ column. nat_lt column (length types)) predicate)

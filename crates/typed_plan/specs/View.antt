@@ -7,7 +7,8 @@ use Rattle.scan_base.specs.View.{pred_of}
 use Rattle.table_versions.specs.Stored.{TableAt}
 use Rattle.typed_plan.specs.Plan.{Tree, scan, filtered, joined, PlanAt}
 
--- a bound query: the tables of its places in order, a tree of boxes, what the result takes of its rows, and the result's columns
+-- a bound query: the tables of its places in order, a tree of boxes, what the result takes of its
+-- rows, and the result's columns
 pub record BoundAt : Type 0 where
   pub tables : List TableAt
   pub plan : Plan

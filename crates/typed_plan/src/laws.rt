@@ -9,8 +9,8 @@ pub fn ranges_join()
     ensures { RangesJoin }
 {}
 
-/// A predicate that is well typed over columns of some types names columns that are there, so it has
-/// a truth in each row that has these columns.
+/// A predicate that is well typed over columns of some types names columns that are there, so it
+/// has a truth in each row that has these columns.
 pub fn typed_predicates_name_columns()
     ensures { TypedPredicatesNameColumns }
 {}

@@ -43,8 +43,8 @@ pub enum Plan {
         predicate: Predicate<usize>,
         input: Box<Plan>,
     },
-    /// Each row of the left with each row of the right for which both cells of each key are equal, in the order of nested
-    /// loops, the left outermost. The right reads one place alone.
+    /// Each row of the left with each row of the right for which both cells of each key are equal,
+    /// in the order of nested loops, the left outermost. The right reads one place alone.
     Join {
         left: Box<Plan>,
         right: Box<Plan>,
@@ -52,8 +52,8 @@ pub enum Plan {
     },
 }
 
-/// Two cells of a joined row that are to be equal: one of its left part, and one of its right part. Both are counted from
-/// the row's begin.
+/// Two cells of a joined row that are to be equal: one of its left part, and one of its right part.
+/// Both are counted from the row's begin.
 #[derive(Clone, Copy, Drop)]
 pub struct JoinKey {
     pub left: usize,
@@ -78,16 +78,17 @@ pub enum Aggregate {
 pub enum Output {
     /// Cells of each row.
     Project(Columns),
-    /// Items of each group of rows that have the same values in these columns, by first appearance. Without a column there
-    /// is one group of all rows, also of none.
+    /// Items of each group of rows that have the same values in these columns, by first appearance.
+    /// Without a column there is one group of all rows, also of none.
     Groups {
         keys: Items<usize>,
         items: Items<Aggregate>,
     },
 }
 
-/// A bound query: the tables of its places, what gives its rows, and the columns of its result. It is well typed: each
-/// column is there, what is compared is of one class, and the result has the types that its schema says.
+/// A bound query: the tables of its places, what gives its rows, and the columns of its result. It
+/// is well typed: each column is there, what is compared is of one class, and the result has the
+/// types that its schema says.
 pub struct TypedPlan {
     pub(crate) tables: Vec<TableVersion>,
     pub(crate) plan: Plan,
@@ -120,18 +121,23 @@ impl Model for TypedPlan {
 
     ghost coded = { Prim.hlevel (codes, tree.the_row.coded) };
 
-    ghost view = { λ t. record { tables = t.tables.items; plan = t.plan; output = t.output; schema = t.schema } };
+    ghost view = { λ t.
+        record { tables = t.tables.items; plan = t.plan; output = t.output; schema = t.schema } };
 
     ghost invariant = { λ t.
-        IsTyped (plan_of (record { tables = t.tables.items; plan = t.plan; output = t.output; schema = t.schema }))
-        × (tree_schemas (tree_of t.plan) ≡ map (λ (table : TableAt). table.schema) t.tables.items) };
+        IsTyped (plan_of
+        (record { tables = t.tables.items; plan = t.plan; output = t.output; schema = t.schema }))
+        × (tree_schemas (tree_of t.plan)
+        ≡ map (λ (table : TableAt). table.schema) t.tables.items) };
 }
 
 impl TypedPlan {
-    /// The tables of the places, in their order, with the columns that the plan says; there is one or more.
+    /// The tables of the places, in their order, with the columns that the plan says; there is one
+    /// or more.
     pub fn tables(&self) -> &[TableVersion]
         ensures tables { result.now ≡ self.now.tables }
-        ensures columns { tree_schemas (tree_of self.now.plan) ≡ map (λ (table : TableAt). table.schema) self.now.tables }
+        ensures columns { tree_schemas (tree_of self.now.plan)
+            ≡ map (λ (table : TableAt). table.schema) self.now.tables }
         ensures some { 0 < length self.now.tables }
     {
         self.tables.as_slice()
@@ -159,14 +165,16 @@ impl TypedPlan {
         &self.schema
     }
 
-    /// The tables, what gives the rows, what the result takes of them, and the columns of the result, apart.
+    /// The tables, what gives the rows, what the result takes of them, and the columns of the
+    /// result, apart.
     pub fn into_parts(self) -> (Vec<TableVersion>, Plan, Output, Schema)
         ensures tables { result.0.items ≡ self.tables }
         ensures plan { result.1 ≡ self.plan }
         ensures output { result.2 ≡ self.output }
         ensures schema { result.3 ≡ self.schema }
         ensures typed { IsTyped (plan_of self) }
-        ensures columns { tree_schemas (tree_of self.plan) ≡ map (λ (table : TableAt). table.schema) self.tables }
+        ensures columns { tree_schemas (tree_of self.plan)
+            ≡ map (λ (table : TableAt). table.schema) self.tables }
     {
         let TypedPlan {
             tables,
@@ -179,9 +187,12 @@ impl TypedPlan {
 
     /// A plan of these parts.
     pub fn new(tables: Vec<TableVersion>, plan: Plan, output: Output, schema: Schema) -> TypedPlan
-        requires typed { IsTyped (plan_of (record { tables = tables.items; plan = plan; output = output; schema = schema })) }
-        requires columns { tree_schemas (tree_of plan) ≡ map (λ (table : TableAt). table.schema) tables.items }
-        ensures { result ≡ record { tables = tables.items; plan = plan; output = output; schema = schema } }
+        requires typed { IsTyped (plan_of
+            (record { tables = tables.items; plan = plan; output = output; schema = schema })) }
+        requires columns { tree_schemas (tree_of plan)
+            ≡ map (λ (table : TableAt). table.schema) tables.items }
+        ensures { result
+            ≡ record { tables = tables.items; plan = plan; output = output; schema = schema } }
     {
         TypedPlan {
             tables,

@@ -24,7 +24,7 @@ pub accepted_is : {Z : Type 0} (read : Result Z Fault) → IsOk read → (z : Z)
 accepted_is (Ok z) accepts = (z, refl)
 accepted_is (Err cause) accepts = let no : false ≡ true = accepts in cc
 
--- an accepted put comes behind fewer than there may be
+-- an accepted put comes after fewer than there may be
 pub few_before : (log : Log) (put : Put) (new : Database) → after_log log put ≡ Ok new → puts_in log < most_commits
 few_before log put new accepts =
     let old = database_of log in

@@ -24,7 +24,7 @@ refused_first_so X Y fault (Err cause) first = cc first
 at_end : (made more : List Placed) (entries : List Signed) (entry : Entry) → more ≡ made ++ (length entries, entry) ∷ [] → more ≡ made ++ (length (log_of entries), entry) ∷ []
 at_end made more entries entry is = is ∙ ap (λ (place : ℕ). made ++ (place, entry) ∷ []) (sym (log_of-length entries))
 
--- a put that was accepted: the seat has then seen the log behind it, and made its entry at the end of the log that it met
+-- a put that was accepted: the seat has then seen the log after it, and made its entry at the end of the log that it met
 pub accepted_behind : {X Y : Type 0} (x : X) (y : Y) (old new : Seat) (put : Put) (entries : List Signed) (next : Log) → Begins old.log (log_of entries)
     → IsAnswered (Ok x) (log_of entries) put next → RefusesFirst (Ok x) (after_log (log_of entries) put) → new.log ≡ next
     → new.made ≡ old.made ++ (length entries, added put) ∷ [] → PutsBehind (Ok y) old put new

@@ -33,7 +33,7 @@ counted_at counts log by count seat entry false is counted few same within =
     own-append seat log (signed by entry ∷ []) ∙ (ap (λ end. own seat log ++ end) none ∙ append-nil (own seat log)) in
     get_or-set_other counts by seat count 0 apart ∙ (counted seat within ∙ ap length (sym more))
 
--- what is counted of each seat, behind an entry more
+-- what is counted of each seat, after an entry more
 pub counted_more : (counts : List ℕ) (log after : List Signed) (by count : ℕ) (entry : Entry) (made more : List Placed) → Counted counts log → by < length counts
     → length made ≡ length (own by log) → more ≡ made ++ (length log, entry) ∷ [] → count ≡ length more → after ≡ log ++ signed by entry ∷ [] → Counted (slice_set counts by count) after
 counted_more counts log after by count entry made more counted few same last is on seat within =

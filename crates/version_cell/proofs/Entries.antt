@@ -23,7 +23,7 @@ puts_in_more entries s =
     let log = log_of entries in
     ap puts_in (log_of-more entries s) ∙ (ap length (puts_of-append log (s.entry ∷ [])) ∙ length-append (puts_of log) (puts_of (s.entry ∷ [])))
 
--- an accepted entry behind a log of accepted puts
+-- an accepted entry after a log of accepted puts
 pub is_log_behind : (log : Log) (e : Entry) → IsLog log → Accepts log e → IsLog (log ++ e ∷ [])
 is_log_behind log (added put) is accepts =
     let new = accepted_is (after_log log put) accepts in

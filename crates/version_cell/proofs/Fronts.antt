@@ -46,12 +46,12 @@ pub either_begins : (b : Bool) (xs ys zs : List Signed) (m n : ℕ) → m ≡ le
 either_begins true xs ys zs m n e f p q is = let front = prefix_shorter xs ys zs p q (grind (arith, nat_tests)) in (front.0, sym front.1)
 either_begins false xs ys zs m n e f p q is = let front = prefix_shorter ys xs zs q p (grind (arith, nat_tests)) in (front.0, sym front.1)
 
--- the log behind a put goes on from the one that it met
+-- the log after a put goes on from the one that it met
 pub goes_on : {X : Type 0} (result : Result X Fault) (log : Log) (put : Put) (next : Log) → IsAnswered result log put next → Begins log next
 goes_on (Ok receipt) log put next answered = (added put ∷ [], answered.0)
 goes_on (Err fault) log put next answered = ([], answered.0 ∙ sym (append-nil log))
 
--- and so does the log behind an expiry
+-- and so does the log after an expiry
 pub goes_on_so : (result : Result ℕ Fault) (log : Log) (version : ℕ) (next : Log) → IsExpired result log version next → Begins log next
 goes_on_so (Ok floor) log version next answered = (expired version ∷ [], answered.1)
 goes_on_so (Err fault) log version next answered = ([], answered.0 ∙ sym (append-nil log))

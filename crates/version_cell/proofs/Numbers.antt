@@ -33,7 +33,7 @@ length_lowered [] = refl
 length_lowered (zero ∷ numbers) = omega (arith, length_lowered numbers)
 length_lowered (suc number ∷ numbers) = omega (arith, length_lowered numbers)
 
--- with some ones beside them, they are as many as the power that is missed by one
+-- with some ones next to them, they are as many as the power that is missed by one
 no_fewer : (n : ℕ) (numbers : List ℕ) (ones : ℕ) → powers numbers + ones + 1 ≡ 2 ^ n → n ≤ length numbers + ones
 no_fewer zero numbers ones sum = omega arith
 no_fewer (suc n) numbers ones sum =

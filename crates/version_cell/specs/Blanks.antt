@@ -2,7 +2,8 @@
 use Rattle.std.specs.Prelude.{◌≡◌, ℕ}
 use Rattle.logbook.specs.Pages.{Book}
 
--- the book of its log, the ledgers of its entries, of its asks and of the numbers of its seats, and how many seats it will have
+-- the book of its log, the ledgers of its entries, of its asks and of the numbers of its seats, and
+-- how many seats it will have
 pub record BlankAt : Type 0 where
   pub book : Book
   pub ledger : ℕ
@@ -13,7 +14,8 @@ pub record BlankAt : Type 0 where
 -- the cell has this book, and these ledgers, each with a part for each seat
 abbrev pub IsNamed : BlankAt → Book → ℕ → ℕ → ℕ → ℕ → Type 0
 IsNamed blank book ledger parts asks numbers =
-    (blank.book ≡ book) × (blank.ledger ≡ ledger) × (blank.seats ≡ parts) × (blank.asks ≡ asks) × (blank.numbers ≡ numbers)
+    (blank.book ≡ book) × (blank.ledger ≡ ledger) × (blank.seats ≡ parts) × (blank.asks ≡ asks)
+    × (blank.numbers ≡ numbers)
 
 -- seats of a cell
 abbrev pub most_seats : ℕ

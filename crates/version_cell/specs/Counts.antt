@@ -1,5 +1,6 @@
 -- Inside: what is counted of each seat.
-use Rattle.std.specs.Prelude.{◌≡◌, ◌<◌, ◌+◌, ℕ, List, length, slice_index_or, Bool, Option, Some, None, if◌then◌else◌}
+use Rattle.std.specs.Prelude.{◌≡◌, ◌<◌, ◌+◌, ℕ, List, length, slice_index_or, Bool, Option, Some}
+use Rattle.std.specs.Prelude.{None, if◌then◌else◌}
 use Rattle.version_cell.specs.Signed.{Signed, own}
 
 -- how many entries of a log each seat made, by the numbers of the seats

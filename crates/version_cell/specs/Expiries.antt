@@ -6,13 +6,16 @@ use Rattle.version_log.specs.Expiry.{IsExpired}
 use Rattle.version_cell.specs.Seats.{Seat, MakesNone}
 
 -- an accepted mark that met a log is the last entry that was made through the seat, at the place
--- behind that log, and a refused one is none of them
+-- after that log, and a refused one is none of them
 abbrev pub CountsExpiry : Result ℕ Fault → Seat → Log → ℕ → Seat → Type 0
-CountsExpiry (Ok floor) old log version new = new.made ≡ old.made ++ (length log, expired version) ∷ []
+CountsExpiry (Ok floor) old log version new =
+    new.made ≡ old.made ++ (length log, expired version) ∷ []
 CountsExpiry (Err fault) old log version new = MakesNone old new
 
--- It met a log that goes on from all that the seat had seen, and the seat has then seen the log behind it, and no more.
-pub record ExpiresBehind (result : Result ℕ Fault) (old : Seat) (version : ℕ) (new : Seat) : Type 0 where
+-- It met a log that goes on from all that the seat had seen, and the seat has then seen the log
+-- after it, and no more.
+pub record ExpiresBehind (result : Result ℕ Fault) (old : Seat) (version : ℕ)
+    (new : Seat) : Type 0 where
   pub log : Log
   pub met : Begins old.log log
   pub answered : IsExpired result log version new.log

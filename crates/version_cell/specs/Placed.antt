@@ -3,7 +3,7 @@ use Rattle.std.specs.Prelude.{ℕ, List}
 use Rattle.std.specs.List.{enumerate_from}
 use Rattle.version_log.specs.Log.{Entry, Log}
 
--- an entry, behind its place in the log
+-- an entry, after its place in the log
 abbrev pub Placed : Type 0
 Placed = ℕ × Entry
 

@@ -1,11 +1,13 @@
 -- Inside: the rule of the book, and what its step tells.
-use Rattle.std.specs.Prelude.{ℕ, ◌≡◌, ◌≤◌, ◌==◌, true, List, [], ◌∷◌, ◌++◌, length, IsOk, MatchBool, Option, Some, None}
+use Rattle.std.specs.Prelude.{ℕ, ◌≡◌, ◌≤◌, ◌==◌, true, List, [], ◌∷◌, ◌++◌, length, IsOk, MatchBool}
+use Rattle.std.specs.Prelude.{Option, Some, None}
 use Rattle.version_log.specs.Log.{Entry, Log, added, expired, puts_in}
 use Rattle.logbook.specs.Pages.{Cell, Step, View, Book, Named}
 use Rattle.version_cell.specs.Puts.{after_log}
 use Rattle.version_cell.specs.Signed.{Signed}
 
--- the first word is the length of the log. A book has two words, of which this one leaves the second at 0
+-- the first word is the length of the log. A book has two words, of which this one leaves the
+-- second at 0
 pub record IsKept (cells : List Cell) (log : List Signed) : Type 0 where
   pub words : cells ≡ (length log, true) ∷ (0, true) ∷ []
 
@@ -15,9 +17,11 @@ head_of book = record { tracked = true; key = 0; book = book }
 
 -- the entry was added to all that had been seen; or the log was longer, and was seen
 abbrev pub Adds : Step Signed → View Signed ℕ → ℕ → View Signed ℕ → Type 0
-Adds step before found after = MatchBool (found == step.old) (after.0 ≡ before.0 ++ step.ask ∷ []) (length after.0 ≡ found)
+Adds step before found after =
+    MatchBool (found == step.old) (after.0 ≡ before.0 ++ step.ask ∷ []) (length after.0 ≡ found)
 
--- what a log takes in: a put that nothing refuses, or an expiry of versions below one that was reached
+-- what a log takes in: a put that nothing refuses, or an expiry of versions below one that was
+-- reached
 abbrev pub Accepts : Log → Entry → Type 0
 Accepts log (added put) = IsOk (after_log log put)
 Accepts log (expired version) = version ≤ puts_in log

@@ -44,9 +44,9 @@ AsksNone old new = new.asks ≡ old.asks
 abbrev pub MakesNone : Seat → Seat → Type 0
 MakesNone old new = new.made ≡ old.made
 
--- Seats that are done with: a log that goes on from all that they had seen, how many they are, how many entries were made
--- through them, and which were made through each, with their places in the log, the last seat
--- first.
+-- Seats that are done with: a log that goes on from all that they had seen, how many they are, how
+-- many entries were made through them, and which were made through each, with their places in the
+-- log, the last seat first.
 pub record GatheredAt : Type 0 where
   pub log : Log
   pub seats : ℕ

@@ -1,7 +1,8 @@
 -- Inside: what is counted of seats.
 use Rattle.std.specs.Prelude.{ℕ}
 
--- the shares of so many seats: the entries that were made through them, their asks, and the powers of two of their numbers
+-- the shares of so many seats: the entries that were made through them, their asks, and the powers
+-- of two of their numbers
 pub record SharesAt : Type 0 where
   pub seats : ℕ
   pub entries : ℕ
@@ -9,7 +10,8 @@ pub record SharesAt : Type 0 where
   pub numbers : ℕ
 
 abbrev pub shares_at : ℕ → ℕ → ℕ → ℕ → SharesAt
-shares_at seats entries asks numbers = record { seats = seats; entries = entries; asks = asks; numbers = numbers }
+shares_at seats entries asks numbers =
+    record { seats = seats; entries = entries; asks = asks; numbers = numbers }
 
 -- what shares are cut from: the number of the next seat, and how many are left
 pub record CutterAt : Type 0 where

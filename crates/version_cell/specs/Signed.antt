@@ -1,5 +1,6 @@
 -- The log of a cell, in which each entry has the number of the seat through which it was made.
-use Rattle.std.specs.Prelude.{◌≡◌, ◌⊎◌, ◌==◌, ◌+◌, ◌^◌, ℕ, List, [], ◌∷◌, ◌++◌, length, map, Option, Some, None, if◌then◌else◌}
+use Rattle.std.specs.Prelude.{◌≡◌, ◌⊎◌, ◌==◌, ◌+◌, ◌^◌, ℕ, List, [], ◌∷◌, ◌++◌, length, map, Option}
+use Rattle.std.specs.Prelude.{Some, None, if◌then◌else◌}
 use Rattle.std.specs.List.{enumerate_from}
 use Rattle.version_log.specs.Log.{Entry, Log}
 use Rattle.version_cell.specs.Merges.{Merges}
@@ -17,7 +18,7 @@ signed seat entry = record { seat = seat; entry = entry }
 abbrev pub log_of : List Signed → Log
 log_of entries = map (λ (s : Signed). s.entry) entries
 
--- the entries of one seat among these, each of which stands behind its place
+-- the entries of one seat among these, each of which stands after its place
 abbrev pub own_of : ℕ → List (ℕ × Signed) → List Placed
 own_of seat [] = []
 own_of seat (at ∷ more) =
@@ -74,7 +75,8 @@ pub record PartsAt : Type 0 where
 -- one seat before what was before, if anything was
 abbrev pub one_before : {X : Type 0} → (X → PartsAt) → Option X → ℕ → List Placed → PartsAt
 one_before f None seat made = record { parts = []; steps = 0 }
-one_before f (Some before) seat made = record { parts = part_at seat made ∷ (f before).parts; steps = (f before).steps + 1 }
+one_before f (Some before) seat made =
+    record { parts = part_at seat made ∷ (f before).parts; steps = (f before).steps + 1 }
 
 -- the entries of each
 abbrev pub made_by_each : List Part → List (List Placed)

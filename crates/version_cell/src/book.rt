@@ -1,5 +1,6 @@
 //! The log of a cell, as a history that only grows.
-ghost use Rattle.std.specs.Prelude.{◌≡◌, ◌+◌, ◌<◌, ◌≤◌, ◌^◌, ◌++◌, ◌∷◌, [], length, MatchBool, IfSome};
+ghost use Rattle.std.specs.Prelude.{◌≡◌, ◌+◌, ◌<◌, ◌≤◌, ◌^◌, ◌++◌, ◌∷◌, [], length, MatchBool};
+ghost use Rattle.std.specs.Prelude.{IfSome};
 ghost use Rattle.version_log.specs.Log.{puts_in};
 ghost use Rattle.version_cell.specs.Rules.{head_of};
 ghost use Rattle.version_cell.specs.Signed.{log_of, GoesOn};
@@ -59,8 +60,9 @@ impl Plain<Signed, Signed, u64> for Add {
     ghost state = { λ entry. None };
 }
 
-/// Which cell it is: the book of its log, the ledger in which its entries are counted, and the names of two more: of its asks, and
-/// of the numbers of its seats. Each call of a program picks it.
+/// Which cell it is: the book of its log, the ledger in which its entries are counted, and the
+/// names of two more: of its asks, and of the numbers of its seats. Each call of a program picks
+/// it.
 pub trait CellName: Ledger {
     ghost use Rattle.std.specs.Prelude.{ℕ};
     ghost use Rattle.logbook.specs.Pages.{Book};
@@ -154,7 +156,8 @@ impl History {
 
     /// Whether it has as many entries as it may have.
     pub fn is_full(&self) -> bool
-        ensures { MatchBool result (2 ^ 62 ≤ length self.now.seen.log) (length self.now.seen.log < 2 ^ 62) }
+        ensures { MatchBool result (2 ^ 62 ≤ length self.now.seen.log)
+            (length self.now.seen.log < 2 ^ 62) }
     {
         self.entries >= MOST_ENTRIES
     }
@@ -212,7 +215,8 @@ impl History {
     pub fn with(&self, head: &Head, entry: &Signed) -> Option<History>
         requires head { head.now ≡ head_of self.now.seen.book }
         requires room { length self.now.seen.log < 2 ^ 62 }
-        ensures { IfSome result (λ h. (h.seen.book ≡ self.now.seen.book) × (h.seen.log ≡ self.now.seen.log ++ entry.now ∷ [])) }
+        ensures { IfSome result (λ h. (h.seen.book ≡ self.now.seen.book)
+            × (h.seen.log ≡ self.now.seen.log ++ entry.now ∷ [])) }
     {
         let mut seen = self.seen.again();
         let mut offer: Offer<Signed, u64, Law, Nothing> = seen.plain::<Nothing, Signed, Add>(entry);

@@ -24,8 +24,9 @@ use std::marker::Model;
 use std::sync::{Arc, Wait};
 use version_log::VersionIndex;
 
-/// A cell of version 0 alone, which has no name yet. Contracts see it as the book of its log, the ledgers of its entries, of its asks
-/// and of the numbers of its seats, and how many seats it will have.
+/// A cell of version 0 alone, which has no name yet. Contracts see it as the book of its log, the
+/// ledgers of its entries, of its asks and of the numbers of its seats, and how many seats it will
+/// have.
 #[derive(Drop)]
 pub struct Blank {
     opened: Opened,
@@ -50,7 +51,8 @@ impl Model for Blank {
       seats = b.seats;
     } };
 
-    ghost invariant = { λ b. (0 < b.seats) × (b.seats ≤ most_seats) × (b.ledgers.entries.parts ≡ b.seats)
+    ghost invariant = { λ b. (0 < b.seats) × (b.seats ≤ most_seats)
+        × (b.ledgers.entries.parts ≡ b.seats)
         × (b.ledgers.asks.parts ≡ b.seats) × (b.ledgers.numbers.parts ≡ b.seats)
         × IsIndexOf (arc_value b.index) [] };
 }
@@ -144,7 +146,7 @@ fn first_writer<C: CellName>(alloc: Global, store: Store, seats: usize) -> Optio
     CellWriter::<C>::new(alloc, store, second, seats).ok()
 }
 
-// The writer behind one publish of what it shows, which leaves room for the next.
+// The writer after one publish of what it shows, which leaves room for the next.
 fn with_room<C: CellName, R: Wait>(rt: &R, writer: CellWriter<C>) -> Option<CellWriter<C>>
     requires book { writer.desk.shown.value.history.seen.book ≡ C.book }
     requires pending { drop writer.behind writer.log.items ≡ [] }

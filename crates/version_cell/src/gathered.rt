@@ -15,8 +15,8 @@ use std::marker::Model;
 use std::mem;
 use std::snapshot::Snapshot;
 
-// Seats one by one: the number of each, and the entries that were made through it, with their places
-// in the log. Contracts alone see them, by snapshots, which take no memory.
+// Seats one by one: the number of each, and the entries that were made through it, with their
+// places in the log. Contracts alone see them, by snapshots, which take no memory.
 #[derive(Drop)]
 pub(crate) struct Parts {
     before: Option<Snapshot<Parts>>,
@@ -58,8 +58,9 @@ impl Parts {
     }
 }
 
-/// Seats that are done with. Contracts see it as a log that goes on from all that these had seen, how many they are, how many
-/// entries were made through them, and which were made through each, with their places in the log.
+/// Seats that are done with. Contracts see it as a log that goes on from all that these had seen,
+/// how many they are, how many entries were made through them, and which were made through each,
+/// with their places in the log.
 #[derive(Drop)]
 pub struct Gathered<C: CellName> {
     pub(crate) history: History,
@@ -70,7 +71,8 @@ pub struct Gathered<C: CellName> {
 impl<C: CellName> Model for Gathered<C> {
     ghost use Rattle.std.specs.Prelude.{◌≡◌, length};
     ghost use Rattle.version_cell.specs.Seats.{GatheredAt, gathered_at};
-    ghost use Rattle.version_cell.specs.Signed.{log_of, made_by_all, made_by_each, powers, seats_of, AreAmong};
+    ghost use Rattle.version_cell.specs.Signed.{log_of, made_by_all, made_by_each, powers};
+    ghost use Rattle.version_cell.specs.Signed.{seats_of, AreAmong};
 
     ghost Value = { GatheredAt };
 
@@ -78,7 +80,8 @@ impl<C: CellName> Model for Gathered<C> {
         (made_by_each g.parts.value.parts) };
 
     ghost invariant = { λ g. (g.history.seen.book ≡ C.book)
-        × (g.shares.seats ≡ length g.parts.value.parts) × (g.shares.entries ≡ made_by_all g.parts.value.parts)
+        × (g.shares.seats ≡ length g.parts.value.parts)
+        × (g.shares.entries ≡ made_by_all g.parts.value.parts)
         × (g.shares.numbers ≡ powers (seats_of g.parts.value.parts))
         × AreAmong g.parts.value.parts g.history.seen.log };
 }
@@ -112,8 +115,8 @@ impl<C: CellName> Gathered<C> {
     fn take_maker(&mut self, maker: Maker<C>)
         ensures log { Begins self.old.log self.new.log }
         ensures seen { Begins (log_of maker.seen) self.new.log }
-        ensures rest { self.new ≡ gathered_at self.new.log (self.old.seats + 1) (self.old.made + length maker.made)
-            (maker.made ∷ self.old.each) }
+        ensures rest { self.new ≡ gathered_at self.new.log (self.old.seats + 1)
+            (self.old.made + length maker.made) (maker.made ∷ self.old.each) }
     {
         let Maker {
             seat,

@@ -1,4 +1,5 @@
-//! The versions of one catalog, which one thread at a time makes and others look at without waiting.
+//! The versions of one catalog, which one thread at a time makes and others look at without
+//! waiting.
 #![tactic(auto)]
 
 mod book;

@@ -14,8 +14,9 @@ use std::marker::Model;
 use std::{mem, snapshot};
 use version_log::Entry;
 
-// Who makes entries. Contracts see it as the number of its seat, the log that it has seen, with the seat of each entry, the entries
-// that it made, each with its place in the log, and how often it asked.
+// Who makes entries. Contracts see it as the number of its seat, the log that it has seen, with the
+// seat of each entry, the entries that it made, each with its place in the log, and how often it
+// asked.
 #[derive(Drop)]
 pub(crate) struct Maker<C: CellName> {
     pub(crate) seat: u64,
@@ -124,7 +125,7 @@ impl<C: CellName> Maker<C> {
         Rest::new(self.seat, self.history.again(), self.asked.again())
     }
 
-    // It made the entry that stands behind what it had seen, at that place, and that is counted.
+    // It made the entry that stands after what it had seen, at that place, and that is counted.
     #[tactic(auto, using(crate::proofs::Parts::among_made))]
     pub(crate) fn make(&mut self, tally: &mut Tally<C>, told: &History, entry: &Entry)
         requires book { told.now.seen.book ≡ C.book }

@@ -1,6 +1,7 @@
 //! Who publishes: the log of a cell grows, and its seats are shown the versions.
 
-ghost use Rattle.std.specs.Prelude.{◌≡◌, ◌≢◌, ◌<◌, ◌≤◌, ◌^◌, ◌++◌, ◌∷◌, [], length, drop, fold, IfOk, IfErr, MatchResult, IsOk, Err};
+ghost use Rattle.std.specs.Prelude.{◌≡◌, ◌≢◌, ◌<◌, ◌≤◌, ◌^◌, ◌++◌, ◌∷◌, [], length, drop, fold};
+ghost use Rattle.std.specs.Prelude.{IfOk, IfErr, MatchResult, IsOk, Err};
 ghost use Rattle.std.specs.Arc.{arc_value};
 ghost use Rattle.scan_base.specs.Reading.{RefusesFirst};
 ghost use Rattle.scan_base.specs.declared.fault.Fault.TheVariants.{OutOfMemory};
@@ -36,8 +37,9 @@ pub struct Receipt<C: CellName> {
     of: PhantomData<C>,
 }
 
-// Who makes the versions of a cell. Contracts see it as the cell's log, with the seat of each entry; it is a log of accepted puts.
-// It keeps the handle `rt`, since its end waits for the seats that are reading.
+// Who makes the versions of a cell. Contracts see it as the cell's log, with the seat of each
+// entry; it is a log of accepted puts. It keeps the handle `rt`, since its end waits for the seats
+// that are reading.
 pub(crate) struct Publisher<C: CellName, R: Wait + Drop> {
     head: Head,
     writer: Option<CellWriter<C>>,
@@ -82,9 +84,10 @@ impl<C: CellName, R: Wait + Drop> Publisher<C, R> {
         self.writer.as_ref().unwrap().published()
     }
 
-    // The versions behind a put, or why it is refused. Nothing has changed yet.
+    // The versions after a put, or why it is refused. Nothing has changed yet.
     fn prepare(&self, alloc: Global, put: Put) -> Result<Arc<VersionIndex>, Fault>
-        ensures ok { IfOk result (λ index. IsIndexOf (arc_value index) (log_of self.now ++ added (put_of put) ∷ [])) }
+        ensures ok { IfOk result
+            (λ index. IsIndexOf (arc_value index) (log_of self.now ++ added (put_of put) ∷ [])) }
         ensures accepted { IfOk result (λ _. IsOk (after_log (log_of self.now) (put_of put))) }
         ensures room { IfOk result (λ _. length self.now < 2 ^ 62) }
         ensures typed { IfOk result (λ _. IsPut (put_of put)) }
@@ -95,7 +98,8 @@ impl<C: CellName, R: Wait + Drop> Publisher<C, R> {
         self.store().after(alloc, put)
     }
 
-    // Adds an entry to the book and shows the versions behind it. From here on nothing can refuse the entry.
+    // Adds an entry to the book and shows the versions after it. From here on nothing can refuse
+    // the entry.
     fn commit(&mut self, index: Arc<VersionIndex>, entry: &Signed)
         requires kept { IsIndexOf (arc_value index) (log_of self.old ++ entry.now.entry ∷ []) }
         requires accepted { Accepts (log_of self.old) entry.now.entry }
@@ -111,7 +115,8 @@ impl<C: CellName, R: Wait + Drop> Publisher<C, R> {
         };
     }
 
-    // The history with the entry added. It asks again where the book were longer than what is shown, which it never is.
+    // The history with the entry added. It asks again where the book were longer than what is
+    // shown, which it never is.
     fn record(&self, entry: &Signed) -> History
         requires room { length self.now < 2 ^ 62 }
         ensures book { result.seen.book ≡ C.book }
@@ -144,11 +149,12 @@ impl<C: CellName, R: Wait + Drop> Publisher<C, R> {
         Told::new(self.history())
     }
 
-    // Makes the next version, with this put of the seat with a number. It waits for the seats that are reading the copy which it
-    // changes.
+    // Makes the next version, with this put of the seat with a number. It waits for the seats that
+    // are reading the copy which it changes.
     pub(crate) fn put(&mut self, alloc: Global, seat: u64, put: Put) -> Result<Receipt<C>, Fault>
         ensures answered { IsAnswered result (log_of self.old) (put_of put) (log_of self.new) }
-        ensures added { MatchResult result (λ _. self.new ≡ self.old ++ signed seat (added (put_of put)) ∷ [])
+        ensures added { MatchResult result
+            (λ _. self.new ≡ self.old ++ signed seat (added (put_of put)) ∷ [])
             (λ _. self.new ≡ self.old) }
         ensures first { RefusesFirst result (after_log (log_of self.old) (put_of put)) }
         ensures receipt { IfOk result (λ receipt. (receipt.number ≡ puts_in (log_of self.new))
@@ -167,10 +173,12 @@ impl<C: CellName, R: Wait + Drop> Publisher<C, R> {
         })
     }
 
-    // Drops the versions below a number, for the seat with a number, and gives the floor behind it. It waits as a put does.
+    // Drops the versions below a number, for the seat with a number, and gives the floor after it.
+    // It waits as a put does.
     pub(crate) fn expire(&mut self, alloc: Global, seat: u64, version: u64) -> Result<u64, Fault>
         ensures answered { IsExpired result (log_of self.old) version (log_of self.new) }
-        ensures added { MatchResult result (λ _. self.new ≡ self.old ++ signed seat (expired version) ∷ [])
+        ensures added { MatchResult result
+            (λ _. self.new ≡ self.old ++ signed seat (expired version) ∷ [])
             (λ _. self.new ≡ self.old) }
         ensures few { IfOk result (λ _. length self.new ≤ 2 ^ 62) }
     {
@@ -191,8 +199,8 @@ impl<C: CellName, R: Wait + Drop> Drop for Publisher<C, R> {
     }
 }
 
-// Shows a store behind an entry. Behind a mark it shows it twice: the copy which is not shown keeps the versions that were
-// dropped, until the next time.
+// Shows a store after an entry. After a mark it shows it twice: the copy which is not shown keeps
+// the versions that were dropped, until the next time.
 fn publish<C: CellName, R: Wait>(
     rt: &R,
     writer: CellWriter<C>,

@@ -23,8 +23,8 @@ use table_versions::Put;
 // The number of entries that are made through no seat.
 const NO_SEAT: u64 = u64::MAX;
 
-/// Who puts into a cell. Contracts see it as the cell's log. It keeps the handle `rt`, since its end waits for the
-/// seats that are reading.
+/// Who puts into a cell. Contracts see it as the cell's log. It keeps the handle `rt`, since its
+/// end waits for the seats that are reading.
 #[derive(Drop)]
 pub struct Putter<C: CellName, R: Wait + Drop> {
     pub(crate) publisher: Publisher<C, R>,
@@ -68,12 +68,13 @@ impl<C: CellName, R: Wait + Drop> Putter<C, R> {
         self.publisher.tell()
     }
 
-    /// Makes the next version, with this put. It waits for the seats that are reading the copy which it changes.
+    /// Makes the next version, with this put. It waits for the seats that are reading the copy
+    /// which it changes.
     ///
     /// # Errors
     ///
-    /// Those of [`table_versions::apply`], and F21 (`Fault::OutOfMemory`) only for a put that none of them refuses. Nothing
-    /// has changed then, and no seat sees it later.
+    /// Those of [`table_versions::apply`], and F21 (`Fault::OutOfMemory`) only for a put that none
+    /// of them refuses. Nothing has changed then, and no seat sees it later.
     pub fn put(&mut self, alloc: Global, put: Put) -> Result<Receipt<C>, Fault>
         ensures answered { IsAnswered result self.old (put_of put) self.new }
         ensures first { RefusesFirst result (after_log self.old (put_of put)) }
@@ -84,13 +85,14 @@ impl<C: CellName, R: Wait + Drop> Putter<C, R> {
         self.publisher.put(alloc, NO_SEAT, put)
     }
 
-    /// Marks the versions below a number as expired, and gives the floor: the greatest number that was so marked. From then on no
-    /// seat gets a version below it, and their memory is given back where nobody else has them. It waits as `put` does.
+    /// Marks the versions below a number as expired, and gives the floor: the greatest number that
+    /// was so marked. From then on no seat gets a version below it, and their memory is given back
+    /// where nobody else has them. It waits as `put` does.
     ///
     /// # Errors
     ///
-    /// F18 (`Fault::VersionUnknown`) where the log has fewer puts, and F21 (`Fault::OutOfMemory`) only where it has as many. Nothing
-    /// has changed then.
+    /// F18 (`Fault::VersionUnknown`) where the log has fewer puts, and F21 (`Fault::OutOfMemory`)
+    /// only where it has as many. Nothing has changed then.
     pub fn expire(&mut self, alloc: Global, version: u64) -> Result<u64, Fault>
         ensures { IsExpired result self.old version self.new }
     {

@@ -1,7 +1,8 @@
 //! Who looks.
 
 ghost use Rattle.std.specs.Prelude.{◌≡◌, ◌+◌, ◌⊎◌, ◌≤◌, ◌<◌, [], IfOk, IfErr, IfSome, MatchBool};
-ghost use Rattle.scan_base.specs.declared.fault.Fault.TheVariants.{OutOfMemory, VersionExpired, VersionUnknown};
+ghost use Rattle.scan_base.specs.declared.fault.Fault.TheVariants.{OutOfMemory, VersionExpired};
+ghost use Rattle.scan_base.specs.declared.fault.Fault.TheVariants.{VersionUnknown};
 ghost use Rattle.version_log.specs.Log.{puts_in, floor_of, database_of, version, Begins};
 ghost use Rattle.table_versions.specs.Stored.{tables_of};
 ghost use Rattle.version_cell.specs.Seats.{seat, AsksNone, EntersOnce, MakesNone, MayEnter};
@@ -67,7 +68,8 @@ impl<C: CellName> Scanner<C> {
         ensures made { MakesNone self.old self.new }
         ensures asks { AsksNone self.old self.new }
         ensures begins { Begins self.old.log self.new.log }
-        ensures ok { IfOk result (λ store. EntersOnce self.old self.new × (log_of store.history.seen.log ≡ self.new.log)) }
+        ensures ok { IfOk result (λ store. EntersOnce self.old self.new
+            × (log_of store.history.seen.log ≡ self.new.log)) }
         ensures err { IfErr result (λ fault. (fault ≡ OutOfMemory) × MayEnter self.old self.new) }
     {
         let reader = self.reader.take().unwrap();
@@ -95,8 +97,8 @@ impl<C: CellName> Scanner<C> {
     ///
     /// # Errors
     ///
-    /// F21 (`Fault::OutOfMemory`) where the putter is gone, or one handle more of a version is refused; and were a log entered that is
-    /// behind what the seat has seen, which never is.
+    /// F21 (`Fault::OutOfMemory`) where the putter is gone, or one handle more of a version is
+    /// refused; and were a log entered that is after what the seat has seen, which never is.
     pub fn current(&mut self) -> Result<Snapshot, Fault>
         ensures number { self.new.number ≡ self.old.number }
         ensures made { MakesNone self.old self.new }
@@ -115,8 +117,8 @@ impl<C: CellName> Scanner<C> {
     ///
     /// # Errors
     ///
-    /// F18 (`Fault::VersionUnknown`) where that log has fewer puts, F19 (`Fault::VersionExpired`) where the number is below its
-    /// floor, and F21 (`Fault::OutOfMemory`) as `current` does.
+    /// F18 (`Fault::VersionUnknown`) where that log has fewer puts, F19 (`Fault::VersionExpired`)
+    /// where the number is below its floor, and F21 (`Fault::OutOfMemory`) as `current` does.
     pub fn at(&mut self, number: u64) -> Result<Snapshot, Fault>
         ensures number { self.new.number ≡ self.old.number }
         ensures made { MakesNone self.old self.new }
@@ -127,9 +129,11 @@ impl<C: CellName> Scanner<C> {
             × (tables_of snapshot.catalog ≡ version self.new.log number)) }
         ensures kept { IfOk result (λ _. floor_of self.new.log ≤ number) }
         ensures err { IfErr result (λ fault.
-            ((fault ≡ VersionUnknown) × EntersOnce self.old self.new × (puts_in self.new.log < number))
-            ⊎ (((fault ≡ VersionExpired) × EntersOnce self.old self.new × (number ≤ puts_in self.new.log)
-            × (number < floor_of self.new.log)) ⊎ ((fault ≡ OutOfMemory) × MayEnter self.old self.new))) }
+            ((fault ≡ VersionUnknown) × EntersOnce self.old self.new
+            × (puts_in self.new.log < number))
+            ⊎ (((fault ≡ VersionExpired) × EntersOnce self.old self.new
+            × (number ≤ puts_in self.new.log) × (number < floor_of self.new.log))
+            ⊎ ((fault ≡ OutOfMemory) × MayEnter self.old self.new))) }
     {
         let store = self.enter()?;
         if number > store.history.puts() {
@@ -141,7 +145,8 @@ impl<C: CellName> Scanner<C> {
         Ok(store.version(number)?)
     }
 
-    // Whether what was told has no fewer entries than the seat has seen. It then goes on from these.
+    // Whether what was told has no fewer entries than the seat has seen. It then goes on from
+    // these.
     pub(crate) fn is_within(&self, told: &Told<C>) -> bool
         ensures { MatchBool result (Begins self.now.log told.now) (Begins told.now self.now.log) }
     {
@@ -163,7 +168,8 @@ impl<C: CellName> Scanner<C> {
         Told::new(self.maker.history().again())
     }
 
-    /// From now on the seat sees no less than was told, and no more than this and what it had seen. It makes no enter.
+    /// From now on the seat sees no less than was told, and no more than this and what it had seen.
+    /// It makes no enter.
     pub fn learn(&mut self, told: &Told<C>)
         ensures number { self.new.number ≡ self.old.number }
         ensures made { MakesNone self.old self.new }
@@ -171,7 +177,8 @@ impl<C: CellName> Scanner<C> {
         ensures begins { Begins self.old.log self.new.log }
         ensures told { Begins told.now self.new.log }
         ensures longer { (self.new.log ≡ self.old.log) ⊎ (self.new.log ≡ told.now) }
-        ensures enters { (self.new.enters ≡ self.old.enters) × (self.new.entered ≡ self.old.entered) }
+        ensures enters { (self.new.enters ≡ self.old.enters)
+            × (self.new.entered ≡ self.old.entered) }
     {
         self.maker.learn(told.history());
     }

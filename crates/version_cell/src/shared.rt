@@ -77,7 +77,8 @@ impl<C: CellName, R: Wait + Drop> Counting<C, R> {
         ensures begins { Begins seat.old.log seat.new.log }
         ensures made { MakesNone seat.old seat.new }
         ensures number { seat.new.number ≡ seat.old.number }
-        ensures enters { (seat.new.enters ≡ seat.old.enters) × (seat.new.entered ≡ seat.old.entered) }
+        ensures enters { (seat.new.enters ≡ seat.old.enters)
+            × (seat.new.entered ≡ seat.old.entered) }
         ensures rest { IsRestOf result C.book seat.new }
         ensures exact { result.log ≡ self.old.publisher }
         ensures same { self.new.publisher ≡ self.old.publisher }
@@ -97,14 +98,16 @@ impl<C: CellName, R: Wait + Drop> Counting<C, R> {
         requires within { Begins seat.old.log (log_of self.old.publisher) }
         requires known { seat.old.number < length self.old.counts.items }
         requires counted { length seat.old.made ≡ length (own seat.old.number self.old.publisher) }
-        ensures answered { IsAnswered result (log_of self.old.publisher) (put_of put) (log_of self.new.publisher) }
+        ensures answered { IsAnswered result (log_of self.old.publisher) (put_of put)
+            (log_of self.new.publisher) }
         ensures put { PutsBehind result seat.old (put_of put) seat.new }
         ensures asks { AsksOnce seat.old seat.new }
         ensures seat { seat.new.number ≡ seat.old.number }
         ensures number { IfOk result (λ number. number ≡ puts_in seat.new.log) }
         ensures typed { IfOk result (λ _. IsPut (put_of put)) }
         ensures begins { Begins seat.old.log seat.new.log }
-        ensures enters { (seat.new.enters ≡ seat.old.enters) × (seat.new.entered ≡ seat.old.entered) }
+        ensures enters { (seat.new.enters ≡ seat.old.enters)
+            × (seat.new.entered ≡ seat.old.entered) }
     {
         let Counting {
             publisher,
@@ -125,12 +128,14 @@ impl<C: CellName, R: Wait + Drop> Counting<C, R> {
         requires within { Begins seat.old.log (log_of self.old.publisher) }
         requires known { seat.old.number < length self.old.counts.items }
         requires counted { length seat.old.made ≡ length (own seat.old.number self.old.publisher) }
-        ensures answered { IsExpired result (log_of self.old.publisher) version (log_of self.new.publisher) }
+        ensures answered { IsExpired result (log_of self.old.publisher) version
+            (log_of self.new.publisher) }
         ensures expiry { ExpiresBehind result seat.old version seat.new }
         ensures asks { AsksOnce seat.old seat.new }
         ensures seat { seat.new.number ≡ seat.old.number }
         ensures begins { Begins seat.old.log seat.new.log }
-        ensures enters { (seat.new.enters ≡ seat.old.enters) × (seat.new.entered ≡ seat.old.entered) }
+        ensures enters { (seat.new.enters ≡ seat.old.enters)
+            × (seat.new.entered ≡ seat.old.entered) }
     {
         let Counting {
             publisher,
@@ -188,13 +193,15 @@ fn catch_up<C: CellName, R: Wait + Drop>(
     maker: &mut Maker<C>,
 )
     requires within { Begins (log_of maker.old.seen) (log_of publisher.now) }
-    ensures asked { maker.new ≡ maker_at maker.old.seat publisher.now maker.old.made (maker.old.asks + 1) }
+    ensures asked { maker.new
+        ≡ maker_at maker.old.seat publisher.now maker.old.made (maker.old.asks + 1) }
     ensures tally { tally.new ≡ tally.old }
 {
     maker.ask(tally, &publisher.history());
 }
 
-/// A putter that threads share under one lock. Each entry is made through a seat, and stands among those of that seat.
+/// A putter that threads share under one lock. Each entry is made through a seat, and stands among
+/// those of that seat.
 #[derive(Drop)]
 pub struct SharedPutter<C: CellName, R: Wait + Drop> {
     counting: Mutex<Counting<C, R>>,
@@ -219,8 +226,8 @@ impl<C: CellName, R: Wait + Drop> SharedPutter<C, R> {
         }
     }
 
-    /// Puts, lets the seat see the log behind the put, also a refused one, and gives the put's number. What the seat learns
-    /// was told under the same hold of the lock. It is no enter.
+    /// Puts, lets the seat see the log after the put, also a refused one, and gives the put's
+    /// number. What the seat learns was told under the same hold of the lock. It is no enter.
     ///
     /// The log that a put meets goes on from what its seat has seen. No seat is ever ahead of the
     /// log, nor has made what the log has not. So the lock is held once; else it would be let go,
@@ -242,7 +249,8 @@ impl<C: CellName, R: Wait + Drop> SharedPutter<C, R> {
         ensures number { IfOk result (λ number. number ≡ puts_in seat.new.log) }
         ensures typed { IfOk result (λ _. IsPut (put_of put)) }
         ensures begins { Begins seat.old.log seat.new.log }
-        ensures enters { (seat.new.enters ≡ seat.old.enters) × (seat.new.entered ≡ seat.old.entered) }
+        ensures enters { (seat.new.enters ≡ seat.old.enters)
+            × (seat.new.entered ≡ seat.old.entered) }
     {
         for _ in rt.forever() {
             let mut counting = self.counting.lock(rt);
@@ -255,8 +263,9 @@ impl<C: CellName, R: Wait + Drop> SharedPutter<C, R> {
         unreachable!()
     }
 
-    /// Marks the versions below a number as expired, lets the seat see the log behind the mark, also of a refused expiry, and gives
-    /// the floor. The lock is held as `put` holds it. It is no enter.
+    /// Marks the versions below a number as expired, lets the seat see the log after the mark, also
+    /// of a refused expiry, and gives the floor. The lock is held as `put` holds it. It is no
+    /// enter.
     ///
     /// # Errors
     ///
@@ -272,7 +281,8 @@ impl<C: CellName, R: Wait + Drop> SharedPutter<C, R> {
         ensures asks { AsksOnce seat.old seat.new }
         ensures seat { seat.new.number ≡ seat.old.number }
         ensures begins { Begins seat.old.log seat.new.log }
-        ensures enters { (seat.new.enters ≡ seat.old.enters) × (seat.new.entered ≡ seat.old.entered) }
+        ensures enters { (seat.new.enters ≡ seat.old.enters)
+            × (seat.new.entered ≡ seat.old.entered) }
     {
         for _ in rt.forever() {
             let mut counting = self.counting.lock(rt);
@@ -297,7 +307,8 @@ impl<C: CellName, R: Wait + Drop> SharedPutter<C, R> {
         ensures begins { Begins seat.old.log seat.new.log }
         ensures made { MakesNone seat.old seat.new }
         ensures seat { seat.new.number ≡ seat.old.number }
-        ensures enters { (seat.new.enters ≡ seat.old.enters) × (seat.new.entered ≡ seat.old.entered) }
+        ensures enters { (seat.new.enters ≡ seat.old.enters)
+            × (seat.new.entered ≡ seat.old.entered) }
         ensures rest { IsRestOf result C.book seat.new }
     {
         for _ in rt.forever() {
@@ -319,9 +330,9 @@ impl<C: CellName, R: Wait + Drop> SharedPutter<C, R> {
         self.counting.get_mut().gather()
     }
 
-    /// The whole log, where all seats of the cell are done with: it goes on from all that they had seen, and is made up of the
-    /// entries that were made through each, at the places where these were made. So each place is of
-    /// one seat. The putter ends with it.
+    /// The whole log, where all seats of the cell are done with: it goes on from all that they had
+    /// seen, and is made up of the entries that were made through each, at the places where these
+    /// were made. So each place is of one seat. The putter ends with it.
     ///
     /// No seat is ever ahead of the log, so it is looked at once; were one, this would never end.
     pub fn whole_log(self, rt: &impl Wait, all: Gathered<C>) -> Told<C>

@@ -1,6 +1,7 @@
-//! What readers take: all versions so far, beside the log that they are of.
+//! What readers take: all versions so far, next to the log that they are of.
 
-ghost use Rattle.std.specs.Prelude.{◌≡◌, ◌≢◌, ◌≤◌, ◌<◌, ◌^◌, ◌++◌, ◌∷◌, [], length, IfOk, IfErr, IsOk, Err};
+ghost use Rattle.std.specs.Prelude.{◌≡◌, ◌≢◌, ◌≤◌, ◌<◌, ◌^◌, ◌++◌, ◌∷◌, [], length, IfOk, IfErr};
+ghost use Rattle.std.specs.Prelude.{IsOk, Err};
 ghost use Rattle.std.specs.Arc.{arc_value};
 ghost use Rattle.scan_base.specs.Reading.{RefusesFirst};
 ghost use Rattle.scan_base.specs.declared.fault.Fault.TheVariants.{OutOfMemory};
@@ -53,9 +54,11 @@ impl Store {
     // The newest version.
     pub(crate) fn newest(&self) -> &Snapshot
         ensures number { result.now.number ≡ puts_in (log_of self.now.history.seen.log) }
-        ensures tables { tables_of result.now.catalog ≡ database_of (log_of self.now.history.seen.log) }
+        ensures tables { tables_of result.now.catalog
+            ≡ database_of (log_of self.now.history.seen.log) }
         ensures few { puts_in (log_of self.now.history.seen.log) ≤ most_commits }
-        ensures kept { floor_of (log_of self.now.history.seen.log) ≤ puts_in (log_of self.now.history.seen.log) }
+        ensures kept { floor_of (log_of self.now.history.seen.log)
+            ≤ puts_in (log_of self.now.history.seen.log) }
     {
         self.index.newest()
     }
@@ -78,16 +81,18 @@ impl Store {
         self.index.at(number)
     }
 
-    // The versions after a put, behind a handle.
+    // The versions after a put, after a handle.
     pub(crate) fn after(&self, alloc: Global, put: Put) -> Result<Arc<VersionIndex>, Fault>
         ensures ok { IfOk result (λ index. IsIndexOf (arc_value index)
             (log_of self.now.history.seen.log ++ added (put_of put) ∷ [])) }
-        ensures accepted { IfOk result (λ _. IsOk (after_log (log_of self.now.history.seen.log) (put_of put))) }
+        ensures accepted { IfOk result
+            (λ _. IsOk (after_log (log_of self.now.history.seen.log) (put_of put))) }
         ensures room { IfOk result (λ _. length self.now.history.seen.log < 2 ^ 62) }
         ensures typed { IfOk result (λ _. IsPut (put_of put)) }
         ensures err { IfErr result (λ fault. fault ≢ OutOfMemory
             → after_log (log_of self.now.history.seen.log) (put_of put) ≡ Err fault) }
-        ensures first { RefusesFirst result (after_log (log_of self.now.history.seen.log) (put_of put)) }
+        ensures first { RefusesFirst result
+            (after_log (log_of self.now.history.seen.log) (put_of put)) }
     {
         let catalog = apply(alloc, self.newest(), put)?;
         let longer = self.index.with(alloc, catalog)?;
@@ -98,13 +103,14 @@ impl Store {
         Ok(index)
     }
 
-    // The versions after an expiry of those below a number, behind a handle.
+    // The versions after an expiry of those below a number, after a handle.
     pub(crate) fn without(&self, alloc: Global, version: u64) -> Result<Arc<VersionIndex>, Fault>
         ensures ok { IfOk result (λ index. IsIndexOf (arc_value index)
             (log_of self.now.history.seen.log ++ expired version ∷ [])) }
         ensures reached { IfOk result (λ _. version ≤ puts_in (log_of self.now.history.seen.log)) }
         ensures room { IfOk result (λ _. length self.now.history.seen.log < 2 ^ 62) }
-        ensures err { IfErr result (λ fault. RefusesExpiry fault (log_of self.now.history.seen.log) version) }
+        ensures err { IfErr result
+            (λ fault. RefusesExpiry fault (log_of self.now.history.seen.log) version) }
     {
         if version > self.history.puts() {
             return Err(Fault::VersionUnknown);

@@ -31,7 +31,8 @@ impl Signed {
 
     /// Whether it is a mark.
     pub fn is_mark(&self) -> bool
-        ensures { MatchBool result (puts_in (self.now.entry ∷ []) ≡ 0) (puts_in (self.now.entry ∷ []) ≡ 1) }
+        ensures { MatchBool result (puts_in (self.now.entry ∷ []) ≡ 0)
+            (puts_in (self.now.entry ∷ []) ≡ 1) }
     {
         self.entry.is_mark()
     }

@@ -1,5 +1,5 @@
-//! What is counted of all seats of a cell: the entries that were made, and how often the putter was asked. Each seat has a share of
-//! each count. A third ledger keeps the numbers of seats apart.
+//! What is counted of all seats of a cell: the entries that were made, and how often the putter was
+//! asked. Each seat has a share of each count. A third ledger keeps the numbers of seats apart.
 
 ghost use Rattle.std.specs.Prelude.{◌≡◌, ◌<◌, ◌+◌, ◌-◌, ◌^◌};
 ghost use Rattle.version_cell.specs.Blanks.{most_seats};
@@ -47,13 +47,15 @@ impl<C: CellName> Model for Shares<C> {
 
     ghost view = { λ s. shares_at s.entries.parts s.entries.amount s.asks.amount s.numbers.amount };
 
-    ghost invariant = { λ s. (s.asks.parts ≡ s.entries.parts) × (s.numbers.parts ≡ s.entries.parts) };
+    ghost invariant = { λ s. (s.asks.parts ≡ s.entries.parts)
+        × (s.numbers.parts ≡ s.entries.parts) };
 }
 
 impl<C: CellName> Shares<C> {
     // With the shares of others.
     pub(crate) fn merge(&mut self, other: Shares<C>)
-        ensures { self.new ≡ shares_at (self.old.seats + other.seats) (self.old.entries + other.entries)
+        ensures { self.new
+            ≡ shares_at (self.old.seats + other.seats) (self.old.entries + other.entries)
             (self.old.asks + other.asks) (self.old.numbers + other.numbers) }
     {
         let Shares {
@@ -92,7 +94,8 @@ pub struct Ledgers {
 impl Ledgers {
     /// Those of a cell with so many seats.
     pub fn new(seats: u64) -> Ledgers
-        ensures { (result.entries.parts ≡ seats) × (result.asks.parts ≡ seats) × (result.numbers.parts ≡ seats) }
+        ensures { (result.entries.parts ≡ seats) × (result.asks.parts ≡ seats)
+            × (result.numbers.parts ≡ seats) }
     {
         Ledgers {
             entries: Blank::new(seats),
@@ -196,7 +199,8 @@ fn power_of(number: u64) -> u64
     1 << number
 }
 
-// What is counted of all seats. Contracts see it as the number of entries that were made through them. It has no bytes.
+// What is counted of all seats. Contracts see it as the number of entries that were made through
+// them. It has no bytes.
 #[derive(Drop)]
 pub(crate) struct Tally<C: CellName> {
     entries: Book<C>,
@@ -221,7 +225,8 @@ impl<C: CellName> Tally<C> {
     pub(crate) fn count(&mut self, shares: &mut Shares<C>)
         requires { 0 < shares.old.seats }
         ensures total { self.new ≡ self.old + 1 }
-        ensures shares { shares.new ≡ shares_at shares.old.seats (shares.old.entries + 1) shares.old.asks shares.old.numbers }
+        ensures shares { shares.new ≡ shares_at shares.old.seats
+            (shares.old.entries + 1) shares.old.asks shares.old.numbers }
     {
         self.entries.add(&mut shares.entries, 1);
     }
@@ -230,7 +235,8 @@ impl<C: CellName> Tally<C> {
     pub(crate) fn ask(&mut self, shares: &mut Shares<C>)
         requires { 0 < shares.old.seats }
         ensures same { self.new ≡ self.old }
-        ensures shares { shares.new ≡ shares_at shares.old.seats shares.old.entries (shares.old.asks + 1) shares.old.numbers }
+        ensures shares { shares.new ≡ shares_at shares.old.seats shares.old.entries
+            (shares.old.asks + 1) shares.old.numbers }
     {
         self.asks.add(&mut shares.asks, 1);
     }

@@ -33,7 +33,7 @@ newest_kept floor next versions newest le lt is =
       few = is.few;
     }
 
--- a version that comes behind is the newest
+-- a version that comes after is the newest
 pub newest_added : (floor : ℕ) (versions : List CatalogAt) (newest next : VersionAt) → floor + length versions ≤ most_commits
     → next.number ≡ newest.number + 1 → IsNewest (index_at floor versions) newest → IsNewest (index_at floor (versions ++ next.catalog ∷ [])) next
 newest_added floor versions newest next room number is =

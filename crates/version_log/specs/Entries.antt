@@ -21,6 +21,8 @@ last_of f None = []
 last_of f (Some entry) = f entry ∷ []
 
 -- what was before, if anything was, and then the entry
-abbrev pub one_longer : {X Y : Type 0} → (X → EntriesAt) → (Y → Entry) → Option X → Option Y → EntriesAt
+abbrev pub one_longer : {X Y : Type 0} → (X → EntriesAt) → (Y → Entry) → Option X →
+    Option Y → EntriesAt
 one_longer f g None last = record { entries = []; steps = 0 }
-one_longer f g (Some before) last = record { entries = (f before).entries ++ last_of g last; steps = (f before).steps + 1 }
+one_longer f g (Some before) last =
+    record { entries = (f before).entries ++ last_of g last; steps = (f before).steps + 1 }

@@ -33,7 +33,7 @@ floor_of (expired version ∷ log) = max version (floor_of log)
 abbrev pub database_of : Log → Database
 database_of log = puts.database_of (puts_of log)
 
--- the database behind the first n puts of a log
+-- the database after the first n puts of a log
 abbrev pub version : Log → ℕ → Database
 version log n = puts.version (puts_of log) n
 

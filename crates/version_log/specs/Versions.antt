@@ -8,7 +8,8 @@ use Rattle.version_log.specs.Index.{IndexAt}
 -- this database, and those after each of these puts, where n were accepted before them
 abbrev pub versions_from : Database → ℕ → List Put → List Database
 versions_from database n [] = database ∷ []
-versions_from database n (put ∷ puts) = database ∷ versions_from (accepted database (after database n put)) (n + 1) puts
+versions_from database n (put ∷ puts) =
+    database ∷ versions_from (accepted database (after database n put)) (n + 1) puts
 
 unfoldable pub versions_of : List Put → List Database
 versions_of puts = versions_from [] 0 puts

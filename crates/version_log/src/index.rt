@@ -1,6 +1,7 @@
 //! Versions by number.
 
-ghost use Rattle.std.specs.Prelude.{◌≡◌, ◌<◌, ◌≤◌, ◌+◌, ◌-◌, ◌∷◌, ◌++◌, [], Some, length, drop, map, IfOk, slice_get};
+ghost use Rattle.std.specs.Prelude.{◌≡◌, ◌<◌, ◌≤◌, ◌+◌, ◌-◌, ◌∷◌, ◌++◌, [], Some, length, drop};
+ghost use Rattle.std.specs.Prelude.{map, IfOk, slice_get};
 ghost use Rattle.std.specs.Arc.{arc_value};
 ghost use Rattle.scan_base.specs.Limits.{most_commits};
 ghost use Rattle.version_log.specs.Index.{index_at};
@@ -13,9 +14,10 @@ use std::marker::Model;
 use std::sync::Arc;
 use table_versions::{CatalogVersion, Snapshot};
 
-/// All versions so far, but for those that were dropped: at most 65,537, numbered from 0. Those from some number on stand in
-/// pages of 256, and the few before them in a list of their own. A longer index shares that list, the full pages and all
-/// versions. Contracts see it as the number of the oldest version that is there, and the tables of all versions from it on.
+/// All versions so far, but for those that were dropped: at most 65,537, numbered from 0. Those
+/// from some number on stand in pages of 256, and the few before them in a list of their own. A
+/// longer index shares that list, the full pages and all versions. Contracts see it as the number
+/// of the oldest version that is there, and the tables of all versions from it on.
 #[derive(Drop)]
 pub struct VersionIndex {
     floor: u64,
@@ -31,7 +33,8 @@ impl Model for VersionIndex {
 
     ghost Value = { IndexAt };
 
-    ghost view = { λ index. index_at index.floor (map arc_value (arc_value index.front).items ++ index.later) };
+    ghost view = { λ index. index_at index.floor
+        (map arc_value (arc_value index.front).items ++ index.later) };
 
     ghost invariant = { λ index. IsNewest (index_at index.floor
         (map arc_value (arc_value index.front).items ++ index.later)) index.newest };
@@ -69,21 +72,23 @@ impl VersionIndex {
     pub fn newest(&self) -> &Snapshot
         ensures last { result.now.number + 1 ≡ self.now.floor + length self.now.versions }
         ensures kept { self.now.floor ≤ result.now.number }
-        ensures tables { slice_get self.now.versions (result.now.number - self.now.floor) ≡ Some result.now.catalog }
+        ensures tables { slice_get self.now.versions (result.now.number - self.now.floor)
+            ≡ Some result.now.catalog }
         ensures few { result.now.number ≤ most_commits }
     {
         &self.newest
     }
 
-    /// The versions so far, and this one behind them. It copies at most 256 handles of pages and 255 of versions, and no
-    /// table.
+    /// The versions so far, and this one after them. It copies at most 256 handles of pages and 255
+    /// of versions, and no table.
     ///
     /// # Errors
     ///
     /// `AllocError` where memory is refused.
     pub fn with(&self, alloc: Global, version: CatalogVersion) -> Result<VersionIndex, AllocError>
         requires room { self.now.floor + length self.now.versions ≤ most_commits }
-        ensures { IfOk result (λ index. index ≡ index_at self.now.floor (self.now.versions ++ version ∷ [])) }
+        ensures { IfOk result
+            (λ index. index ≡ index_at self.now.floor (self.now.versions ++ version ∷ [])) }
     {
         let handle = Arc::new(alloc, version).map_err(|_| AllocError)?;
         let newest = Snapshot::new(self.newest.number() + 1, Arc::try_clone(&handle)?);
@@ -95,8 +100,9 @@ impl VersionIndex {
         })
     }
 
-    /// The versions from a number on. Those below it are dropped: their memory is given back where nobody else has them. It copies
-    /// at most 256 handles of pages and 511 of versions, and no table.
+    /// The versions from a number on. Those below it are dropped: their memory is given back where
+    /// nobody else has them. It copies at most 256 handles of pages and 511 of versions, and no
+    /// table.
     ///
     /// # Errors
     ///
@@ -155,7 +161,9 @@ impl VersionIndex {
         requires kept { self.now.floor ≤ number }
         requires reached { number < self.now.floor + length self.now.versions }
         ensures number { IfOk result (λ snapshot. snapshot.number ≡ number) }
-        ensures tables { IfOk result (λ snapshot. slice_get self.now.versions (number - self.now.floor) ≡ Some snapshot.catalog) }
+        ensures tables { IfOk result
+            (λ snapshot. slice_get self.now.versions (number - self.now.floor)
+            ≡ Some snapshot.catalog) }
     {
         let version = Arc::try_clone(self.version((number - self.floor) as usize))?;
         Ok(Snapshot::new(number, version))

@@ -1,4 +1,5 @@
-//! The log of a catalog: what was accepted and what was expired, in order.
+//! The log of a catalog: what was accepted and what was expired, in order; and an index of it, by
+//! which a version is found without a walk through the log.
 #![tactic(auto)]
 
 pub mod index;

@@ -71,7 +71,8 @@ impl Model for Entries {
 
     ghost size = { λ entries. entries.steps };
 
-    ghost view = { λ e. one_longer (λ before. before.value) (λ entry. entry.value) e.before e.last };
+    ghost view = { λ e. one_longer (λ before. before.value)
+        (λ entry. entry.value) e.before e.last };
 }
 
 impl Entries {

@@ -17,7 +17,8 @@ pub trait Watches {
     // What may have become of it while it was told of so many rows.
     ghost told: { ℕ → Self → Self → Type 0 };
 
-    /// So many rows more were looked at. Whether the work is to go on. Where it is not, nothing more is asked.
+    /// So many rows more were looked at. Whether the work is to go on. Where it is not, nothing
+    /// more is asked.
     fn goes_on(&mut self, rows: usize) -> bool
         requires { ready self.old }
         ensures ready { result ≡ true → ready self.new }
@@ -27,14 +28,16 @@ pub trait Watches {
     // Nothing became of it where it was not asked.
     ghost unasked: { (one : Self) → watched one one };
 
-    // It may watch work behind other work.
-    ghost again: { (one next last : Self) → watched one next → watched next last → watched one last };
+    // It may watch work after other work.
+    ghost again: { (one next last : Self) → watched one next → watched next last →
+        watched one last };
 
     // Where it was not asked it was told of no row.
     ghost untold: { (one : Self) → told 0 one one };
 
-    // It may be told of rows behind others.
-    ghost told_again: { (some more : ℕ) (one next last : Self) → told some one next → told more next last → told (some + more) one last };
+    // It may be told of rows after others.
+    ghost told_again: { (some more : ℕ) (one next last : Self) → told some one next →
+        told more next last → told (some + more) one last };
 }
 
 /// Nobody watches: the work goes on to its end.

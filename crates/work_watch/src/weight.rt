@@ -2,7 +2,8 @@
 
 use scan_base::Predicate;
 
-/// How many comparisons a predicate makes for each row at most. Contracts say nothing of it: it tells what a row costs.
+/// How many comparisons a predicate makes for each row at most. Contracts say nothing of it: it
+/// tells what a row costs.
 pub fn comparisons_in(predicate: &Predicate<usize>) -> usize {
     match predicate {
         Predicate::And(left, right) => comparisons_in(left).saturating_add(comparisons_in(right)),

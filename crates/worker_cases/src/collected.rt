@@ -7,7 +7,7 @@ use std::sync::Wait;
 use std::sync::atomic::Ordering;
 use std::thread::Threads;
 
-/// The answers in their order, each behind a blank.
+/// The answers in their order, each after a blank.
 pub fn answers_of<R: Threads + Wait + Sync, G: Gate + Sync>(
     rt: &R,
     alloc: Global,
@@ -98,7 +98,8 @@ pub fn one_growth_is_refused<R: Threads + Wait + Sync>(
     format!(in alloc; "{all}{} begun", work.begun.load(Ordering::SeqCst))
 }
 
-/// Whether a call is refused that has more workers than there is memory for their answers, and how many morsels were begun.
+/// Whether a call is refused that has more workers than there is memory for their answers, and how
+/// many morsels were begun.
 pub fn a_call_is_refused<R: Threads + Wait + Sync>(
     rt: &R,
     alloc: Global,

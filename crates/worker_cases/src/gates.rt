@@ -32,7 +32,8 @@ impl<'a, R: Clock> HoldsOne<'a, R> {
         }
     }
 
-    /// Whether the held morsel goes on because a later one entered, within 10,000 turns of a millisecond.
+    /// Whether the held morsel goes on because a later one entered, within 10,000 turns of a
+    /// millisecond.
     pub fn opens(&self) -> bool {
         for _ in 0..10_000u32 {
             if self.opened.load(Ordering::SeqCst) {
@@ -62,7 +63,8 @@ impl<'a, R: Clock> Gate for HoldsOne<'a, R> {
     }
 }
 
-/// Two workers answer eight morsels while morsel 0 is held: whether it was let go by a later one, and the answers.
+/// Two workers answer eight morsels while morsel 0 is held: whether it was let go by a later one,
+/// and the answers.
 pub fn a_held_worker_holds_no_other<R: Threads + Wait + Clock + Sync>(
     rt: &R,
     alloc: Global,
@@ -114,7 +116,8 @@ fn all_enter<R: Threads + Wait + Clock + Sync>(
     Ok(answers.len() == 50 && gate.opened.load(Ordering::SeqCst) == 50)
 }
 
-/// For how many numbers of workers, of 1 to 16, so many morsels are at work at once: where none is chosen first, and where all are.
+/// For how many numbers of workers, of 1 to 16, so many morsels are at work at once: where none is
+/// chosen first, and where all are.
 pub fn all_workers_are_at_work_at_once<R: Threads + Wait + Clock + Sync>(
     rt: &R,
     alloc: Global,
@@ -168,7 +171,8 @@ fn each_enters<R: Threads + Wait + Sync>(
     Ok(marked == (1 << 50) - 1 && gate.entered.load(Ordering::SeqCst) == 50)
 }
 
-/// For how many numbers of workers, of 1 to 16, each morsel passes the gate once: where none is chosen first, and where all are.
+/// For how many numbers of workers, of 1 to 16, each morsel passes the gate once: where none is
+/// chosen first, and where all are.
 pub fn each_morsel_passes_the_gate_once<R: Threads + Wait + Sync>(
     rt: &R,
     alloc: Global,

@@ -1,4 +1,5 @@
-//! What workers answer: of each case a line, with its name and what came. `stdout` has what is wanted.
+//! What workers answer: of each case a line, with its name and what came. `stdout` has what is
+//! wanted.
 #![tactic(auto)]
 
 mod collected;

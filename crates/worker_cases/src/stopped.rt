@@ -31,7 +31,8 @@ impl Reads<Result<Vec<usize>, AllocError>> for UpToRefusal {
     }
 }
 
-// How many answers to 50 morsels are read, and whether the reader came to the end. One morsel may ask for too much.
+// How many answers to 50 morsels are read, and whether the reader came to the end. One morsel may
+// ask for too much.
 fn read_up_to<R: Threads + Wait + Sync>(
     rt: &R,
     alloc: Global,
@@ -44,8 +45,8 @@ fn read_up_to<R: Threads + Wait + Sync>(
     Ok((reader.read, ended.is_ok()))
 }
 
-/// For how many numbers of workers, of 1 to 16, exactly the answers before morsel 20 are read where that one is refused, and
-/// all 50 in the next call, where none is.
+/// For how many numbers of workers, of 1 to 16, exactly the answers before morsel 20 are read where
+/// that one is refused, and all 50 in the next call, where none is.
 pub fn stops_at_a_refusal<R: Threads + Wait + Sync>(
     rt: &R,
     alloc: Global,

@@ -100,7 +100,8 @@ impl Reads<Made> for ByTurns {
     }
 }
 
-// So many turns the reader takes: more than there may be of the morsels that are begun beside one without end. So it waits for that one too.
+// So many turns the reader takes: more than there may be of the morsels that are begun next to one
+// without end. So it waits for that one too.
 const TURNS: u32 = 200;
 
 // It waits until another worker has begun a morsel, and takes its turns.
@@ -141,7 +142,8 @@ impl<'a, R: Clock> Reads<Made> for ManyTurns<'a, R> {
     }
 }
 
-/// For how many numbers of workers, of 1 to 16, all answers come in their order where each takes three turns and is read by turns.
+/// For how many numbers of workers, of 1 to 16, all answers come in their order where each takes
+/// three turns and is read by turns.
 pub fn answers_come_in_turns<R: Threads + Wait + Sync>(
     rt: &R,
     alloc: Global,
@@ -158,8 +160,8 @@ pub fn answers_come_in_turns<R: Threads + Wait + Sync>(
     format!(in alloc; "{whole}")
 }
 
-/// For how many numbers of workers, of 2 to 16, 200 turns of the reader are over before an answer whose turns have no end, and the
-/// workers stop when it reads no more.
+/// For how many numbers of workers, of 2 to 16, 200 turns of the reader are over before an answer
+/// whose turns have no end, and the workers stop when it reads no more.
 pub fn workers_stop_between_turns<R: Threads + Wait + Clock + Sync>(
     rt: &R,
     alloc: Global,

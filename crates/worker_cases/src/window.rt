@@ -6,7 +6,8 @@ use std::sync::Wait;
 use std::sync::atomic::{AtomicU64, Ordering};
 use std::thread::Threads;
 
-// How many answers were begun, with how many the reader is done, and how many there were at most between.
+// How many answers were begun, with how many the reader is done, and how many there were at most
+// between.
 #[derive(Drop)]
 struct Counts {
     begun: AtomicU64,
@@ -47,7 +48,8 @@ struct Held {
     made: Counts,
 }
 
-// 200 morsels. Each is counted as it is chosen, and as it is made: at once, or later where it is chosen first.
+// 200 morsels. Each is counted as it is chosen, and as it is made: at once, or later where it is
+// chosen first.
 #[derive(Drop)]
 struct Counted<'a> {
     held: &'a Held,
@@ -89,7 +91,8 @@ impl<'a> Work for Counted<'a> {
     }
 }
 
-// It takes its time over each answer, so that others go ahead. One that was chosen alone it makes itself.
+// It takes its time over each answer, so that others go ahead. One that was chosen alone it makes
+// itself.
 #[derive(Drop)]
 struct Slow<'a> {
     held: &'a Held,
@@ -143,7 +146,8 @@ fn most_of<R: Threads + Wait + Sync>(
     })
 }
 
-/// For how many numbers of workers, of 1 to 16, no more answers were there at once than workers, with the one that is read.
+/// For how many numbers of workers, of 1 to 16, no more answers were there at once than workers,
+/// with the one that is read.
 pub fn at_most_as_many_as_workers<R: Threads + Wait + Sync>(
     rt: &R,
     alloc: Global,
@@ -158,8 +162,9 @@ pub fn at_most_as_many_as_workers<R: Threads + Wait + Sync>(
     format!(in alloc; "{within}")
 }
 
-/// For how many numbers of workers, of 1 to 16, that is so where a morsel is chosen before its answer is made, and no more than
-/// three times as many were chosen as there are workers: those that are made or there, and twice as many.
+/// For how many numbers of workers, of 1 to 16, that is so where a morsel is chosen before its
+/// answer is made, and no more than three times as many were chosen as there are workers: those
+/// that are made or there, and twice as many.
 pub fn at_most_three_times_as_many_are_chosen<R: Threads + Wait + Sync>(
     rt: &R,
     alloc: Global,

@@ -9,7 +9,8 @@ use std::thread;
 use std::thread::Threads;
 use std::time::{Clock, Duration};
 
-// It reads an answer, and leaves the workers time to fall asleep. Then it reads two more, and asks for none until the gate opens.
+// It reads an answer, and leaves the workers time to fall asleep. Then it reads two more, and asks
+// for none until the gate opens.
 #[derive(Drop)]
 struct LetsThemSleep<'a, R: Clock> {
     rt: &'a R,
@@ -32,7 +33,8 @@ impl<'a, R: Clock> Reads<Result<Vec<usize>, AllocError>> for LetsThemSleep<'a, R
     }
 }
 
-// Whether workers that sleep begin two morsels, for which the reader made room. The first is held until the second is begun.
+// Whether workers that sleep begin two morsels, for which the reader made room. The first is held
+// until the second is begun.
 fn are_woken<R: Threads + Wait + Clock + Sync>(
     rt: &R,
     alloc: Global,
@@ -43,7 +45,8 @@ fn are_woken<R: Threads + Wait + Clock + Sync>(
     in_order(rt, alloc, &Numbers::new(50), workers, &gate, &mut reader)
 }
 
-/// For how many numbers of workers, of 2 to 16, workers that sleep are woken as soon as the reader makes room for more morsels.
+/// For how many numbers of workers, of 2 to 16, workers that sleep are woken as soon as the reader
+/// makes room for more morsels.
 pub fn workers_are_woken<R: Threads + Wait + Clock + Sync>(
     rt: &R,
     alloc: Global,

@@ -1,5 +1,6 @@
 -- Inside: the slots of a new column, which is filled with values.
-use Rattle.std.specs.Prelude.{◌≡◌, ◌<◌, ◌*◌, ◌%◌, ◌^◌, ℕ, ℤ, pos, not, Bool as Truth, false, List, length, get_or, Option}
+use Rattle.std.specs.Prelude.{◌≡◌, ◌<◌, ◌*◌, ◌%◌, ◌^◌, ℕ, ℤ, pos, not, Bool as Truth, false, List}
+use Rattle.std.specs.Prelude.{length, get_or, Option}
 use Rattle.std.specs.Int.{w128, cast_unsigned}
 use Rattle.scan_base.specs.declared.value.Value.{Value}
 use Rattle.scan_base.specs.declared.value.Value.TheVariants.{Null, Bool, Int}
@@ -34,20 +35,27 @@ AreOfType data_type values count = (k : ℕ) → k < count → IsValueOf data_ty
 -- a slot is valid where its value is not null
 pub record AreValidUnlessNull (validity : Option (List Truth)) (values : List Value) : Type 0 where
   pub long : IsLong validity (length values)
-  pub each : (k : ℕ) → k < length values → is_valid validity k ≡ not (is_null (get_or values k Null))
+  pub each : (k : ℕ) → k < length values →
+      is_valid validity k ≡ not (is_null (get_or values k Null))
 
 -- the numbers of the first `count` values, packed in elements of a width
-pub record AreNumbersOf (width : ℕ) (packed : List ℕ) (values : List Value) (count : ℕ) : Type 0 where
+pub record AreNumbersOf (width : ℕ) (packed : List ℕ) (values : List Value)
+    (count : ℕ) : Type 0 where
   pub long : length packed ≡ width * count
-  pub each : (k : ℕ) → k < count → element_at width packed k ≡ low_bytes width (get_or values k Null)
+  pub each : (k : ℕ) → k < count →
+      element_at width packed k ≡ low_bytes width (get_or values k Null)
 
 -- slots of a layout have these values, and are of the type in which those of a type are copied
-pub record AreFilled (validity : Option (List Truth)) (kept : Values) (data_type : DataType) (values : List Value) : Type 0 where
+pub record AreFilled (validity : Option (List Truth)) (kept : Values) (data_type : DataType)
+    (values : List Value) : Type 0 where
   pub stand : IsLayout (layout_of validity (length values) kept)
   pub count : layout_count (layout_of validity (length values) kept) ≡ length values
-  pub slots : (k : ℕ) → k < length values → layout_slot (layout_of validity (length values) kept) k ≡ get_or values k Null
+  pub slots : (k : ℕ) → k < length values →
+      layout_slot (layout_of validity (length values) kept) k ≡ get_or values k Null
   pub typed : IsOfType (copied_type data_type) (layout_of validity (length values) kept)
 
--- what is kept fills slots with these values, whichever bits say that those are valid which are not null
+-- what is kept fills slots with these values, whichever bits say that those are valid which are not
+-- null
 abbrev pub FillSlots : Values → DataType → List Value → Type 0
-FillSlots kept data_type values = (validity : Option (List Truth)) → AreValidUnlessNull validity values → AreFilled validity kept data_type values
+FillSlots kept data_type values = (validity : Option (List Truth)) →
+    AreValidUnlessNull validity values → AreFilled validity kept data_type values

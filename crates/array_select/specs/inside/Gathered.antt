@@ -19,15 +19,20 @@ pub record AreAmong (first : ℕ) (places : List ℕ) (len : ℕ) : Type 0 where
   pub rising : AreRising places
   pub each : (k : ℕ) → k < length places → first + get_or places k 0 < len
 
--- `packed` has the elements of `values` at the first `count` of some places, which are counted from `first` on
-pub record HasElementsAt (width : ℕ) (packed values : List ℕ) (first : ℕ) (places : List ℕ) (count : ℕ) : Type 0 where
+-- `packed` has the elements of `values` at the first `count` of some places, which are counted from
+-- `first` on
+pub record HasElementsAt (width : ℕ) (packed values : List ℕ) (first : ℕ) (places : List ℕ)
+    (count : ℕ) : Type 0 where
   pub long : length packed ≡ width * count
-  pub each : (k : ℕ) → k < count → element_at width packed k ≡ element_at width values (first + get_or places k 0)
+  pub each : (k : ℕ) → k < count →
+      element_at width packed k ≡ element_at width values (first + get_or places k 0)
 
 -- of the slots at places those are valid that were
-pub record AreValidAt (gathered validity : Option (List Bool)) (first : ℕ) (places : List ℕ) : Type 0 where
+pub record AreValidAt (gathered validity : Option (List Bool)) (first : ℕ)
+    (places : List ℕ) : Type 0 where
   pub long : IsLong gathered (length places)
-  pub each : (k : ℕ) → k < length places → is_valid gathered k ≡ is_valid validity (first + get_or places k 0)
+  pub each : (k : ℕ) → k < length places →
+      is_valid gathered k ≡ is_valid validity (first + get_or places k 0)
 
 -- the texts of the slots at places, those of null slots too
 abbrev pub texts_at : TextsAt → ℕ → List ℕ → List Value
@@ -36,10 +41,13 @@ texts_at cells first places = map (λ place. Text (text_at cells (first + place)
 -- a layout has the slots of another at places, and is of its type
 pub record AreGathered (gathered layout : Layout) (first : ℕ) (places : List ℕ) : Type 0 where
   pub count : layout_count gathered ≡ length places
-  pub slots : (k : ℕ) → k < length places → layout_slot gathered k ≡ layout_slot layout (first + get_or places k 0)
+  pub slots : (k : ℕ) → k < length places →
+      layout_slot gathered k ≡ layout_slot layout (first + get_or places k 0)
   pub typed : (data_type : DataType) → IsOfType data_type layout → IsOfType data_type gathered
 
 -- values are those of the slots of a layout at places, whichever of these are valid
 abbrev pub AreValuesAt : Values → Layout → ℕ → List ℕ → Type 0
-AreValuesAt values layout first places = (validity : Option (List Bool)) → AreValidAt validity (layout_validity layout) first places →
-    AreSlots validity (length places) values × AreGathered (layout_of validity (length places) values) layout first places
+AreValuesAt values layout first places =
+    (validity : Option (List Bool)) → AreValidAt validity (layout_validity layout) first places →
+    AreSlots validity (length places) values
+    × AreGathered (layout_of validity (length places) values) layout first places

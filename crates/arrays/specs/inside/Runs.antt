@@ -14,11 +14,12 @@ parts_values parts = flat_map texts_values parts
 abbrev pub runs_values : List (List Value) → List Value
 runs_values runs = flat_map (λ run. run) runs
 
--- A run of parts counts its values too, knows how many of them stand in front of each part, and whether one may
--- be null.
+-- A run of parts counts its values too, knows how many of them stand in front of each part, and
+-- whether one may be null.
 pub record IsRun (parts : List TextsAt) (starts : List ℕ) (count : ℕ) (nulls : Bool) : Type 0 where
   pub counted : length (parts_values parts) ≡ count
   pub small : count ≤ most_values
   pub many : length starts ≡ length parts
-  pub fronts : (i : ℕ) → i < length parts → slice_index starts i ≡ length (parts_values (take i parts))
+  pub fronts : (i : ℕ) → i < length parts →
+      slice_index starts i ≡ length (parts_values (take i parts))
   pub sound : nulls ≡ false → list_any is_null (parts_values parts) ≡ false

@@ -7,4 +7,5 @@ use Rattle.arrays.specs.Layout.{layout_count, layout_slot, layout_validity}
 
 -- no valid slot is null
 abbrev pub AreNoNulls : Layout → Type 0
-AreNoNulls slots = (place : ℕ) → place < layout_count slots → is_valid (layout_validity slots) place ≡ true → is_null (layout_slot slots place) ≡ false
+AreNoNulls slots = (place : ℕ) → place < layout_count slots →
+    is_valid (layout_validity slots) place ≡ true → is_null (layout_slot slots place) ≡ false

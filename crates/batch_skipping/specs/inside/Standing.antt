@@ -6,7 +6,8 @@ use Rattle.scan_base.specs.declared.value.Value.TheVariants.{Text}
 use Rattle.batch_skipping.specs.declared.standing.Standing.{Standing}
 use Rattle.batch_stats.specs.Stats.{StatsAt, stats_of}
 
--- the first statistics are of texts of which the least and the greatest stand so to one text, and the second are of this text
+-- the first statistics are of texts of which the least and the greatest stand so to one text, and
+-- the second are of this text
 pub record StandSo (standing : Standing) (a b : StatsAt) : Type 0 where
   pub least : List ℕ
   pub greatest : List ℕ

@@ -18,8 +18,10 @@ pub record IsFirstValid (validity : Option (List Bool)) (from to place : ℕ) : 
   pub low : from ≤ place
   pub high : place < to
   pub valid : is_valid validity place ≡ true
-  pub nulls : (value : ℕ → Value) → ends_with None (where_valid validity value) from to ≡ ends_with None (where_valid validity value) place to
+  pub nulls : (value : ℕ → Value) → ends_with None (where_valid validity value) from to
+      ≡ ends_with None (where_valid validity value) place to
 
 -- no slot is valid
 abbrev pub AreNulls : Option (List Bool) → ℕ → ℕ → Type 0
-AreNulls validity from to = (value : ℕ → Value) → ends_with None (where_valid validity value) from to ≡ None
+AreNulls validity from to =
+    (value : ℕ → Value) → ends_with None (where_valid validity value) from to ≡ None

@@ -16,7 +16,8 @@ pub record IsTextAt (slot : ℕ → Value) (from to : ℕ) (text : SlotText) : T
 
 -- both ends are texts of such slots
 abbrev pub AreEndsAt : (ℕ → Value) → ℕ → ℕ → TextRange → Type 0
-AreEndsAt slot from to range = IsTextAt slot from to range.least × IsTextAt slot from to range.greatest
+AreEndsAt slot from to range =
+    IsTextAt slot from to range.least × IsTextAt slot from to range.greatest
 
 -- a text has its own key, and each of its bytes is one
 pub record IsKeyed (text : SlotText) : Type 0 where
@@ -29,4 +30,5 @@ AreKeyed range = IsKeyed range.least × IsKeyed range.greatest
 
 -- a text changes no end where its key is from one up to another
 abbrev pub KeepsEnds : Option (Value × Value) → ℕ → ℕ → Type 0
-KeepsEnds ends low high = (text : List ℕ) → AreBytes text → low ≤ key_of text → key_of text ≤ high → with_value ends (Text text) ≡ ends
+KeepsEnds ends low high = (text : List ℕ) → AreBytes text → low ≤ key_of text → key_of text ≤ high →
+    with_value ends (Text text) ≡ ends

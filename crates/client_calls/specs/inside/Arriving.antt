@@ -10,7 +10,9 @@ use Rattle.client_calls.specs.Answers.{Incoming, Fronts, Quiet, Halts}
 
 -- a message came, or a status and what it stands for; or why neither did, and nothing is taken then
 abbrev pub ArrivesAs : Result Arrival Fault → Incoming → Incoming → Received → Received → Type 0
-ArrivesAs (Ok (arrival.Message message)) old new all left = Fronts (Message message ∷ []) all left × Quiet old new
+ArrivesAs (Ok (arrival.Message message)) old new all left =
+    Fronts (Message message ∷ []) all left × Quiet old new
 ArrivesAs (Ok (arrival.End end)) old new all left =
-    (code : ℕ) × (text : List ℕ) × StatusSays code text end × Fronts (Status code text ∷ []) all left × Quiet old new
+    (code : ℕ) × (text : List ℕ) × StatusSays code text end
+    × Fronts (Status code text ∷ []) all left × Quiet old new
 ArrivesAs (Err fault) old new all left = (left ≡ all) × Halts fault left old new

@@ -1,5 +1,7 @@
--- Inside: runs that are passed on one behind the other, each while the first stream of the next one is begun.
-use Rattle.std.specs.Prelude.{◌≡◌, ◌⊎◌, ◌≤◌, ℕ, ◌+◌, List, [], ◌∷◌, ◌++◌, map, length, Some, None, Result, Ok, Err}
+-- Inside: runs that are passed on one after the other, each while the first stream of the next one
+-- is begun.
+use Rattle.std.specs.Prelude.{◌≡◌, ◌⊎◌, ◌≤◌, ℕ, ◌+◌, List, [], ◌∷◌, ◌++◌, map, length, Some, None}
+use Rattle.std.specs.Prelude.{Result, Ok, Err}
 use Rattle.flight_proto.specs.FlightInfo.{EndpointSaid}
 use Rattle.flight_proto.specs.Wanted.{Wanted}
 use Rattle.flight_info.specs.Payloads.{Payload}
@@ -15,7 +17,8 @@ use Rattle.client_commands.specs.declared.apart.Refused.{Refused}
 use Rattle.client_commands.specs.declared.lost.Lost.{Lost}
 use Rattle.client_commands.specs.declared.lost.Lost.TheVariants.{Failed, Unconnected}
 use Rattle.client_commands.specs.Fetching.{FetchesEach}
-use Rattle.client_commands.specs.InTurn.{BreaksUnconnected, IsWrittenWhole, RunsCame, StopsInTurn, Streams, StreamsUnconnected}
+use Rattle.client_commands.specs.InTurn.{BreaksUnconnected, IsWrittenWhole, RunsCame, StopsInTurn}
+use Rattle.client_commands.specs.InTurn.{Streams, StreamsUnconnected}
 use Rattle.client_commands.specs.Lines.{opened_line}
 use Rattle.client_commands.specs.Queries.{TellsEnd}
 use Rattle.client_commands.specs.Spread.{EachGives, GivesAtLast, Giving, IsEvenPart, RefusesTwice}
@@ -24,48 +27,62 @@ use Rattle.client_commands.specs.inside.Runs.{IsOpen, Opens, PassingAt, StopsInR
 
 -- ---- the next connection
 
--- a handle gave a connection, over which a stream was begun, seen by `view`, or failed; or it gave none
-abbrev pub Ahead : {N V : Type 0} → Giving N → (V → FetchAt) → Payload → N → Result (Result V Failure) (Refused N) → Type 0
+-- a handle gave a connection, over which a stream was begun, seen by `view`, or failed; or it gave
+-- none
+abbrev pub Ahead : {N V : Type 0} → Giving N → (V → FetchAt) → Payload → N →
+    Result (Result V Failure) (Refused N) → Type 0
 Ahead {N} Gives view ticket handle (Ok begun) =
-    (ends : Ends) × ((new : N) × Gives handle (Some ends) new) × BeginsFetch view ticket begun (opened_line ends)
+    (ends : Ends) × ((new : N) × Gives handle (Some ends) new)
+    × BeginsFetch view ticket begun (opened_line ends)
 Ahead Gives view ticket handle (Err refused) = Gives handle None refused.handle
 
 -- the same, where a handle that gave none was asked once more
-abbrev pub BeginsAtLast : {N V : Type 0} → Giving N → (V → FetchAt) → Payload → N → Result V Lost → Type 0
+abbrev pub BeginsAtLast : {N V : Type 0} → Giving N → (V → FetchAt) → Payload → N →
+    Result V Lost → Type 0
 BeginsAtLast Gives view ticket handle (Ok fetching) =
-    (ends : Ends) × GivesAtLast Gives handle ends × BeginsFetch view ticket (Ok fetching) (opened_line ends)
+    (ends : Ends) × GivesAtLast Gives handle ends
+    × BeginsFetch view ticket (Ok fetching) (opened_line ends)
 BeginsAtLast Gives view ticket handle (Err (Failed failure)) =
-    (ends : Ends) × GivesAtLast Gives handle ends × BeginsFetch view ticket (Err failure) (opened_line ends)
+    (ends : Ends) × GivesAtLast Gives handle ends
+    × BeginsFetch view ticket (Err failure) (opened_line ends)
 BeginsAtLast Gives view ticket handle (Err (Unconnected error)) = RefusesTwice Gives handle
 
--- behind these streams the stream of an endpoint is begun over a connection of a handle, or not, and what is written breaks off
-abbrev pub TakesOver : {N V : Type 0} → Giving N → (V → PassingAt) → EndpointSaid → N → List StreamAt → Said → Result V Lost → Said → Type 0
+-- after these streams the stream of an endpoint is begun over a connection of a handle, or not, and
+-- what is written breaks off
+abbrev pub TakesOver : {N V : Type 0} → Giving N → (V → PassingAt) → EndpointSaid → N →
+    List StreamAt → Said → Result V Lost → Said → Type 0
 TakesOver Gives view endpoint handle streams begun (Ok passing) out =
-    (ends : Ends) × GivesAtLast Gives handle ends × Opens view (Ok passing) streams endpoint (opened_line ends) begun out
+    (ends : Ends) × GivesAtLast Gives handle ends
+    × Opens view (Ok passing) streams endpoint (opened_line ends) begun out
 TakesOver Gives view endpoint handle streams begun (Err (Failed failure)) out =
-    (ends : Ends) × GivesAtLast Gives handle ends × Opens view (Err failure) streams endpoint (opened_line ends) begun out
+    (ends : Ends) × GivesAtLast Gives handle ends
+    × Opens view (Err failure) streams endpoint (opened_line ends) begun out
 TakesOver Gives view endpoint handle streams begun (Err (Unconnected error)) out =
     RefusesTwice Gives handle × WritesBroken streams begun out
 
 -- ---- a run, and the next one
 
--- a run came whole over a connection behind these streams, and the next one was taken over, or not
-pub record PassesThen {N V : Type 0} (Gives : Giving N) (view : V → PassingAt) (next : EndpointSaid) (handle : N) (before : List StreamAt)
-    (run : List EndpointSaid) (line : Line) (begun : Said) (result : Result V Lost) (out : Said) : Type 0 where
+-- a run came whole over a connection after these streams, and the next one was taken over, or not
+pub record PassesThen {N V : Type 0} (Gives : Giving N) (view : V → PassingAt) (next : EndpointSaid)
+    (handle : N) (before : List StreamAt) (run : List EndpointSaid) (line : Line) (begun : Said)
+    (result : Result V Lost) (out : Said) : Type 0 where
   pub streams : List StreamAt
   pub last : Line
   pub fetched : FetchesEach run streams line last
   pub takes : TakesOver Gives view next handle (before ++ streams) begun result out
 
 -- it did, or it stopped within the run
-abbrev pub Relays : {N V : Type 0} → Giving N → (V → PassingAt) → EndpointSaid → N → List StreamAt → List EndpointSaid → Line → Said → Result V Lost → Said → Type 0
+abbrev pub Relays : {N V : Type 0} → Giving N → (V → PassingAt) → EndpointSaid → N → List StreamAt →
+    List EndpointSaid → Line → Said → Result V Lost → Said → Type 0
 Relays Gives view next handle before run line begun result out =
-    ((failure : Failure) × (result ≡ Err (Failed failure)) × StopsInRun before run failure line begun out)
+    ((failure : Failure) × (result ≡ Err (Failed failure))
+    × StopsInRun before run failure line begun out)
     ⊎ PassesThen Gives view next handle before run line begun result out
 
--- the runs of all but the last of these connections came whole. Over the last one the first stream of its run is open; these are the
--- run's other endpoints, and those of the runs behind it
-pub record IsTurn (many : ℕ) (lines : List Line) (endpoints others behind : List EndpointSaid) (begun : Said) (now : PassingAt) (out : Said) : Type 0 where
+-- the runs of all but the last of these connections came whole. Over the last one the first stream
+-- of its run is open; these are the run's other endpoints, and those of the runs after it
+pub record IsTurn (many : ℕ) (lines : List Line) (endpoints others behind : List EndpointSaid)
+    (begun : Said) (now : PassingAt) (out : Said) : Type 0 where
   pub before : List Line
   pub line : Line
   pub over : before ++ line ∷ [] ≡ lines
@@ -75,32 +92,40 @@ pub record IsTurn (many : ℕ) (lines : List Line) (endpoints others behind : Li
   pub even : IsEvenPart (length endpoints) many (length (endpoint ∷ others))
   pub opened : IsOpen streams endpoint.ticket line begun now out
 
--- of a whole of so many parts so much is left for the others: their even parts are even parts of the whole, and there is one for each
+-- of a whole of so many parts so much is left for the others: their even parts are even parts of
+-- the whole, and there is one for each
 pub record IsLeft (whole many rest others : ℕ) : Type 0 where
   pub even : (part : ℕ) → IsEvenPart rest others part → IsEvenPart whole many part
   pub enough : others ≤ rest
   pub none : others ≡ 0 → rest ≡ 0
 
 -- the same over the first connection and those of handles, of which these are left
-pub record IsTurnBy {N : Type 0} (Gives : Giving N) (first : Line) (handles left : List N) (endpoints others behind : List EndpointSaid)
+pub record IsTurnBy {N : Type 0} (Gives : Giving N) (first : Line) (handles left : List N)
+    (endpoints others behind : List EndpointSaid)
     (begun : Said) (now : PassingAt) (out : Said) : Type 0 where
   pub done : List N
   pub all : done ++ left ≡ handles
   pub made : List Ends
   pub given : EachGives Gives done made
-  pub turn : IsTurn (length handles + 1) (first ∷ map opened_line made) endpoints others behind begun now out
+  pub turn : IsTurn (length handles + 1)
+      (first ∷ map opened_line made) endpoints others behind begun now out
   pub remains : IsLeft (length endpoints) (length handles + 1) (length behind) (length left)
 
 -- ---- all
 
 -- all runs were passed on, and the stream was ended; or not, and why
-abbrev pub PassesRuns : {N : Type 0} → Giving N → Line → List N → List EndpointSaid → Result (Unit {0}) Lost → Said → Said → Type 0
-PassesRuns Gives first handles endpoints (Ok done) out out' = IsWrittenWhole Gives first handles endpoints out out'
-PassesRuns Gives first handles endpoints (Err (Failed failure)) out out' = StopsInTurn Gives first handles endpoints failure out out'
-PassesRuns Gives first handles endpoints (Err (Unconnected error)) out out' = BreaksUnconnected Gives first handles endpoints out out'
+abbrev pub PassesRuns : {N : Type 0} → Giving N → Line → List N → List EndpointSaid →
+    Result (Unit {0}) Lost → Said → Said → Type 0
+PassesRuns Gives first handles endpoints (Ok done) out out' =
+    IsWrittenWhole Gives first handles endpoints out out'
+PassesRuns Gives first handles endpoints (Err (Failed failure)) out out' =
+    StopsInTurn Gives first handles endpoints failure out out'
+PassesRuns Gives first handles endpoints (Err (Unconnected error)) out out' =
+    BreaksUnconnected Gives first handles endpoints out out'
 
 -- the rows of a query are written as they come, or not, and why
-abbrev pub StreamsOrNot : {N : Type 0} → Giving N → (N → N → N → Type 0) → ℕ → Wanted → N → N → Result (Unit {0}) Lost → Line → Line → Said → Said → Type 0
+abbrev pub StreamsOrNot : {N : Type 0} → Giving N → (N → N → N → Type 0) → ℕ → Wanted → N → N →
+    Result (Unit {0}) Lost → Line → Line → Said → Said → Type 0
 StreamsOrNot Gives Shares streams wanted old new (Ok done) first last out out' =
     Streams Gives Shares streams wanted old new (Ok done) first last out out'
 StreamsOrNot Gives Shares streams wanted old new (Err (Failed failure)) first last out out' =

@@ -9,7 +9,8 @@ use Rattle.client_calls.specs.Outcome.{Line}
 use Rattle.client_calls.specs.Sending.{IsPutting, PutAt}
 
 -- messages that say the rows of these records of a text were sent
-pub record HaveSent (target : Target) (text : TextAt) (done : List (List (List ℕ))) (begun : Line) (now : PutAt) : Type 0 where
+pub record HaveSent (target : Target) (text : TextAt) (done : List (List (List ℕ))) (begun : Line)
+    (now : PutAt) : Type 0 where
   pub first : IpcMessage
   pub others : List IpcMessage
   pub says : SaysRecords text.schema done (first ∷ others)

@@ -11,7 +11,8 @@ use array_select::{column_of_bools, column_of_decimals, column_of_int64s, column
 use arrays::Column;
 use std::alloc::{AllocError, Global};
 
-/// The column of a type, a number of slots, and a number n: every n-th slot is null, and none where n is 0.
+/// The column of a type, a number of slots, and a number n: every n-th slot is null, and none where
+/// n is 0.
 pub fn column_by_rule(alloc: Global, words: &str) -> Result<Column> {
     let (kind, numbers) = first_word(words)?;
     let (count, nulls) = first_word(numbers)?;

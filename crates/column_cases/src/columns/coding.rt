@@ -3,7 +3,9 @@
 ghost use Rattle.std.specs.Prelude.{◌≡◌, ◌≤◌, [], ◌∷◌, All, IfOk, map};
 ghost use Rattle.scan_base.specs.Limits.{most_values};
 ghost use Rattle.scan_base.specs.Value.{IsTextOrNull};
-ghost use Rattle.arrow_schema.specs.declared.data_type.DataType.TheVariants.{Dictionary as DictionaryColumn};
+ghost use Rattle.arrow_schema.specs.declared.data_type.DataType.TheVariants.{
+  Dictionary as DictionaryColumn,
+};
 ghost use Rattle.arrow_schema.specs.declared.data_type.IntegerType.TheVariants.{Int32 as Four};
 ghost use Rattle.arrays.specs.Column.{values_of};
 
@@ -22,7 +24,8 @@ const ROOM: usize = 1_048_576;
 // Columns of so many slots are coded.
 const MOST_VALUES: usize = 16_777_216;
 
-/// A column of texts as it is coded in a batch, and the texts over which it lies; then the same column coded alone.
+/// A column of texts as it is coded in a batch, and the texts over which it lies; then the same
+/// column coded alone.
 pub fn codings(alloc: Global, seed: HashSeed, column: &Column) -> Result<Vec<Column>> {
     let rows = column.len();
     values_are_of_their_type();

@@ -21,8 +21,9 @@ struct Turns {
     step: u32,
 }
 
-/// Two slots for each turn, of as many turns as the words say: one of a case's whole column and one of the part that is
-/// kept. In each the slot of a turn is so many after that of the turn before, and the first one comes after the last.
+/// Two slots for each turn, of as many turns as the words say: one of a case's whole column and one
+/// of the part that is kept. In each the slot of a turn is so many after that of the turn before,
+/// and the first one comes after the last.
 pub fn column_of_turns(alloc: Global, words: &str) -> Result<Column> {
     let (step, words) = first_word(words)?;
     let (count, row) = first_word(words)?;

@@ -75,7 +75,8 @@ fn text_digest(text: &[u8]) -> u64 {
     digest
 }
 
-/// Writes of a column how many slots it has, how many of them are null, and a digest of the values in order.
+/// Writes of a column how many slots it has, how many of them are null, and a digest of the values
+/// in order.
 pub fn push_count(told: &mut String, column: &Column) -> Result<(), AllocError> {
     let (mut nulls, mut digest) = (0u64, 0u64);
     for place in 0..column.len() {

@@ -103,8 +103,8 @@ impl Hearing {
         }
     }
 
-    // What is said of the schema or the batch, once our own writer wrote it. Before the batch come the dictionaries among
-    // messages.
+    // What is said of the schema or the batch, once our own writer wrote it. Before the batch come
+    // the dictionaries among messages.
     fn again(&self, alloc: Global, messages: &Messages, names: &str) -> Result<Hearing> {
         let schema = self.reader.schema().context("no schema")?;
         let mut hearing = schema_again(alloc, schema)?;
@@ -166,7 +166,8 @@ pub fn case(alloc: Global, messages: &Messages, names: &str) -> Result<String> {
     Ok(line(alloc, last_name(names).1, "", &text)?)
 }
 
-/// `again NAMES`: what the last message says, a schema or a batch, written by our own writer and read once more.
+/// `again NAMES`: what the last message says, a schema or a batch, written by our own writer and
+/// read once more.
 pub fn again(alloc: Global, messages: &Messages, names: &str) -> Result<String> {
     let (before, name) = last_name(names);
     let again = hear_last(alloc, messages, names)?.again(alloc, messages, before)?;
@@ -174,8 +175,8 @@ pub fn again(alloc: Global, messages: &Messages, names: &str) -> Result<String> 
     Ok(line(alloc, name, ", written again", &text)?)
 }
 
-/// `count NAMES`: of each column of the last message's batch how many slots and nulls it has, and a digest, and the
-/// same of what our own writer makes of it.
+/// `count NAMES`: of each column of the last message's batch how many slots and nulls it has, and a
+/// digest, and the same of what our own writer makes of it.
 pub fn count(alloc: Global, messages: &Messages, names: &str) -> Result<String> {
     let (before, name) = last_name(names);
     let hearing = hear_last(alloc, messages, names)?;

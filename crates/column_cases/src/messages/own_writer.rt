@@ -33,8 +33,8 @@ fn texts(alloc: Global, words: &str) -> Result<Texts> {
     Ok(Texts::new(validity, offsets, bytes, rows.parse::<usize>()?)?)
 }
 
-/// `write NAME ID DELTA ROWS VALIDITY OFFSETS BYTES`: the bytes of the dictionary message of these texts, which is then kept
-/// under the name.
+/// `write NAME ID DELTA ROWS VALIDITY OFFSETS BYTES`: the bytes of the dictionary message of these
+/// texts, which is then kept under the name.
 pub fn dictionary_bytes(alloc: Global, messages: &mut Messages, words: &str) -> Result<String> {
     let (name, words) = first_word(words)?;
     let (id, words) = first_word(words)?;

@@ -124,8 +124,8 @@ fn of_values(alloc: Global, change: &Change<'_>, place: usize) -> Result<Runs> {
     Ok(runs)
 }
 
-/// `sweep PART NAMES`: the answers to the last message with each byte of its part set to each value. A line for each
-/// byte: the first value of each run of answers, and the answer.
+/// `sweep PART NAMES`: the answers to the last message with each byte of its part set to each
+/// value. A line for each byte: the first value of each run of answers, and the answer.
 pub fn sweep(alloc: Global, messages: &Messages, words: &str) -> Result<String> {
     let (part, names) = first_word(words)?;
     let change = Change::new(messages, part, names)?;

@@ -1,8 +1,10 @@
 -- Inside: which types take the fields of columns so far.
-use Rattle.std.specs.Prelude.{◌≡◌, ◌<◌, ℕ, Bool as Truth, true, false, List, [], length, drop, get_or}
+use Rattle.std.specs.Prelude.{◌≡◌, ◌<◌, ℕ, Bool as Truth, true, false, List, [], length, drop}
+use Rattle.std.specs.Prelude.{get_or}
 use Rattle.std.specs.List.{list_any}
 use Rattle.arrow_schema.specs.declared.data_type.IntegerType.TheVariants.{Int64}
-use Rattle.arrow_schema.specs.declared.data_type.DataType.TheVariants.{Integer, Bool, Decimal128, Date}
+use Rattle.arrow_schema.specs.declared.data_type.DataType.TheVariants.{Integer, Bool, Decimal128}
+use Rattle.arrow_schema.specs.declared.data_type.DataType.TheVariants.{Date}
 use Rattle.csv_columns.specs.declared.seen.Seen.{Seen}
 use Rattle.csv_columns.specs.Found.{column_of, is_empty, takes_all}
 
@@ -16,7 +18,8 @@ pub record HasSeen (seen : Seen) (fields : List (List ℕ)) : Type 0 where
 
 -- of each column those of these records
 abbrev pub HaveSeen : List Seen → List (List (List ℕ)) → Type 0
-HaveSeen all records = (k : ℕ) (d : Seen) → k < length all → HasSeen (get_or all k d) (column_of k records)
+HaveSeen all records =
+    (k : ℕ) (d : Seen) → k < length all → HasSeen (get_or all k d) (column_of k records)
 
 -- a record was passed over, and the others are left; or there was none
 abbrev pub PassesOne : Truth → List (List (List ℕ)) → List (List (List ℕ)) → Type 0

@@ -8,7 +8,8 @@ use Rattle.csv_input.specs.inside.Chunks.{ChunkAt, Holds}
 use Rattle.csv_input.specs.inside.Cells.{AreColumnsIn}
 
 -- the chunk is the next records, and has none only where none is left
-pub record HasTaken (columns : List Field) (chunk : ChunkAt) (old new : List (List (List ℕ))) : Type 0 where
+pub record HasTaken (columns : List Field) (chunk : ChunkAt)
+    (old new : List (List (List ℕ))) : Type 0 where
   pub taken : List (List (List ℕ))
   pub splits : old ≡ taken ++ new
   pub holds : Holds chunk taken
@@ -21,7 +22,8 @@ pub record IsBatchOf (chunk : ChunkAt) (columns : List Field) (batch : BatchAt) 
   pub made : AreColumnsIn chunk columns batch.columns (length columns)
 
 -- a batch has the rows of the next records
-pub record IsNextBatch (columns : List Field) (batch : BatchAt) (old new : List (List (List ℕ))) : Type 0 where
+pub record IsNextBatch (columns : List Field) (batch : BatchAt)
+    (old new : List (List (List ℕ))) : Type 0 where
   pub taken : List (List (List ℕ))
   pub some : taken ≢ []
   pub splits : old ≡ taken ++ new
@@ -30,6 +32,7 @@ pub record IsNextBatch (columns : List Field) (batch : BatchAt) (old new : List 
   pub typed : AreOfTypes columns batch.columns
 
 -- the batch of the next records, or nothing where none is left
-abbrev pub TakesBatch : List Field → Option BatchAt → List (List (List ℕ)) → List (List (List ℕ)) → Type 0
+abbrev pub TakesBatch : List Field → Option BatchAt → List (List (List ℕ)) →
+    List (List (List ℕ)) → Type 0
 TakesBatch columns None old new = old ≡ []
 TakesBatch columns (Some batch) old new = IsNextBatch columns batch old new

@@ -1,5 +1,6 @@
 -- Inside: the values of a column, and the columns of a batch.
-use Rattle.std.specs.Prelude.{◌≡◌, ◌⊎◌, ◌≤◌, ◌<◌, ◌^◌, ℕ, List, All, length, map, get_or, Some, None, IsSome}
+use Rattle.std.specs.Prelude.{◌≡◌, ◌⊎◌, ◌≤◌, ◌<◌, ◌^◌, ℕ, List, All, length, map, get_or, Some}
+use Rattle.std.specs.Prelude.{None, IsSome}
 use Rattle.scan_base.specs.Value.{value_of}
 use Rattle.scan_base.specs.declared.fault.Fault.{Fault}
 use Rattle.scan_base.specs.declared.fault.Fault.TheVariants.{LimitReached, OutOfMemory}
@@ -19,9 +20,11 @@ pub record HasWrongCell (chunk : ChunkAt) (column : Field) (number : ℕ) : Type
   pub none : cell_in column (field_in chunk row number) ≡ None
 
 -- the values of the column's first fields
-pub record AreCells (chunk : ChunkAt) (column : Field) (number : ℕ) (cells : List ValueRef) (count : ℕ) : Type 0 where
+pub record AreCells (chunk : ChunkAt) (column : Field) (number : ℕ) (cells : List ValueRef)
+    (count : ℕ) : Type 0 where
   pub many : length cells ≡ count
-  pub each : (k : ℕ) → k < count → cell_in column (field_in chunk k number) ≡ Some (get_or (map value_of cells) k Null)
+  pub each : (k : ℕ) → k < count →
+      cell_in column (field_in chunk k number) ≡ Some (get_or (map value_of cells) k Null)
   pub typed : All (λ value. IsValueOf column.data_type (value_of value)) cells
 
 -- the texts of the column's fields are too long for its offsets
@@ -32,18 +35,23 @@ pub record HasLongCells (chunk : ChunkAt) (column : Field) (number : ℕ) : Type
 
 -- why no column is made of its fields
 abbrev pub WhyNoColumn : ChunkAt → Field → ℕ → Fault → Type 0
-WhyNoColumn chunk column number fault = (fault ≡ OutOfMemory) ⊎ ((fault ≡ LimitReached) × HasLongCells chunk column number)
+WhyNoColumn chunk column number fault =
+    (fault ≡ OutOfMemory) ⊎ ((fault ≡ LimitReached) × HasLongCells chunk column number)
 
 -- a column that holds the values of its fields
-pub record IsColumnIn (chunk : ChunkAt) (column : Field) (number : ℕ) (made : ColumnAt) : Type 0 where
+pub record IsColumnIn (chunk : ChunkAt) (column : Field) (number : ℕ)
+    (made : ColumnAt) : Type 0 where
   pub typed : IsOfType column.data_type made.layout
   pub long : made.len ≡ chunk.rows
-  pub each : (k : ℕ) → k < chunk.rows → cell_in column (field_in chunk k number) ≡ Some (get_or (values_of made) k Null)
+  pub each : (k : ℕ) → k < chunk.rows →
+      cell_in column (field_in chunk k number) ≡ Some (get_or (values_of made) k Null)
 
 -- the first columns do
-pub record AreColumnsIn (chunk : ChunkAt) (columns : List Field) (made : List ColumnAt) (count : ℕ) : Type 0 where
+pub record AreColumnsIn (chunk : ChunkAt) (columns : List Field) (made : List ColumnAt)
+    (count : ℕ) : Type 0 where
   pub many : length made ≡ count
-  pub each : (k : ℕ) (d : Field) (e : ColumnAt) → k < count → IsColumnIn chunk (get_or columns k d) k (get_or made k e)
+  pub each : (k : ℕ) (d : Field) (e : ColumnAt) → k < count →
+      IsColumnIn chunk (get_or columns k d) k (get_or made k e)
 
 -- a column has a field that says no value of it
 pub record HasWrongColumn (chunk : ChunkAt) (columns : List Field) : Type 0 where
@@ -59,8 +67,10 @@ pub record HasLongColumn (chunk : ChunkAt) (columns : List Field) : Type 0 where
 
 -- why no columns are made
 abbrev pub WhyNoColumns : ChunkAt → List Field → Fault → Type 0
-WhyNoColumns chunk columns fault = (fault ≡ OutOfMemory) ⊎ ((fault ≡ LimitReached) × HasLongColumn chunk columns)
+WhyNoColumns chunk columns fault =
+    (fault ≡ OutOfMemory) ⊎ ((fault ≡ LimitReached) × HasLongColumn chunk columns)
 
 -- a record says a value in each of the first columns
 abbrev pub SaysCells : ChunkAt → List Field → ℕ → ℕ → Type 0
-SaysCells chunk columns row count = (k : ℕ) (d : Field) → k < count → IsSome (cell_in (get_or columns k d) (field_in chunk row k))
+SaysCells chunk columns row count =
+    (k : ℕ) (d : Field) → k < count → IsSome (cell_in (get_or columns k d) (field_in chunk row k))

@@ -1,4 +1,4 @@
--- Inside: records of one length, whose fields stand one behind another.
+-- Inside: records of one length, whose fields stand one after another.
 use Rattle.std.specs.Prelude.{◌≡◌, ◌<◌, ℕ, ◌+◌, ◌*◌, List, [], length, get_or}
 
 -- how many fields each record has, how many records there are, and all their fields
@@ -16,4 +16,5 @@ pub record Holds (chunk : ChunkAt) (records : List (List (List ℕ))) : Type 0 w
   pub full : length chunk.fields ≡ chunk.width * chunk.rows
   pub count : length records ≡ chunk.rows
   pub long : (k : ℕ) → k < chunk.rows → length (get_or records k []) ≡ chunk.width
-  pub each : (k j : ℕ) → k < chunk.rows → j < chunk.width → get_or (get_or records k []) j [] ≡ field_in chunk k j
+  pub each : (k j : ℕ) → k < chunk.rows → j < chunk.width →
+      get_or (get_or records k []) j [] ≡ field_in chunk k j

@@ -13,7 +13,8 @@ use Rattle.dictionary_answers.specs.inside.Packed.{numbers_in}
 -- the first slots of a column are coded
 abbrev pub AreCodedTo : ColumnAt → ℕ → FoundAt → List ℕ → Type 0
 AreCodedTo column count found packed =
-    AreCoded (map (slot_of column) (range_with_len 0 count)) (room_of found) (coded_at found (take count (numbers_in packed)))
+    AreCoded (map (slot_of column) (range_with_len 0 count)) (room_of found)
+    (coded_at found (take count (numbers_in packed)))
 
 -- slots of a column of indices of a width, none of which is null
 pub record IsBlock (width : ℕ) (block : Block) : Type 0 where

@@ -1,5 +1,6 @@
 -- Inside: places, as the indices of slots are kept.
-use Rattle.std.specs.Prelude.{◌≡◌, ◌<◌, ◌/◌, ℕ, Bool, List, length, map, get_or, Option, None, is_some, unwrap_or, nat_eq, if◌then◌else◌}
+use Rattle.std.specs.Prelude.{◌≡◌, ◌<◌, ◌/◌, ℕ, Bool, List, length, map, get_or, Option, None}
+use Rattle.std.specs.Prelude.{is_some, unwrap_or, nat_eq, if◌then◌else◌}
 use Rattle.std.specs.List.{range_with_len}
 use Rattle.dictionary_answers.specs.Coded.{no_place}
 use Rattle.arrays.specs.Number.{element_at}
@@ -19,6 +20,7 @@ abbrev pub shown : ℕ → ℕ
 shown number = if nat_eq number no_place then 0 else number
 
 -- a slot is valid where it has a place
-pub record AreValidWhereSome (validity : Option (List Bool)) (places : List (Option ℕ)) : Type 0 where
+pub record AreValidWhereSome (validity : Option (List Bool))
+    (places : List (Option ℕ)) : Type 0 where
   pub long : IsLong validity (length places)
   pub each : (k : ℕ) → k < length places → is_valid validity k ≡ is_some (get_or places k None)

@@ -13,4 +13,5 @@ pub record IsTable (dictionary : List Value) (texts : List (List ℕ)) (table : 
 
 -- what was kept of the indices that were met leads to their values
 abbrev pub AreMet : List Value → List (List ℕ) → (ℕ → Option ℕ) → Type 0
-AreMet dictionary texts kept = (index place : ℕ) → kept index ≡ Some place → Leads texts (held place) (get_or dictionary index Null)
+AreMet dictionary texts kept = (index place : ℕ) → kept index ≡ Some place →
+    Leads texts (held place) (get_or dictionary index Null)

@@ -52,7 +52,7 @@ abbrev pub refused_behind : Source → Option Fault
 refused_behind (Scanned scan) = scan.refused
 refused_behind (Listed schema) = None
 
--- the columns that it gives lie behind its schema
+-- the columns that it gives lie after its schema
 abbrev pub TypedBehind : Source → Type 0
 TypedBehind (Scanned scan) = LieBehind scan.schema.fields scan.types
 TypedBehind (Listed schema) = Unit {0}
@@ -64,7 +64,8 @@ pub record IsSource (source : Source) : Type 0 where
   pub short : list_any (list_any is_long_text) (left_behind source) ≡ false
   pub begins : refused_behind source ≡ None
 
--- how many rows a source has given, where the last batch is this one; the list of tables is one batch
+-- how many rows a source has given, where the last batch is this one; the list of tables is one
+-- batch
 abbrev pub rows_taken : BatchAt → Source → ℕ
 rows_taken batch (Scanned scan) = scan.given
 rows_taken batch (Listed schema) = batch.rows
@@ -73,10 +74,11 @@ rows_taken batch (Listed schema) = batch.rows
 abbrev pub rows_cut : Cutter → Source → ℕ
 rows_cut cutter source = rows_taken cutter.batch source - (cutter.batch.rows - cutter.at)
 
--- a batch that is being cut, and the source of those behind it
+-- a batch that is being cut, and the source of those after it
 pub record IsGoing (cutter : Cutter) (source : Source) : Type 0 where
   pub placed : IsCutter cutter
   pub counted : cutter.batch.rows ≤ rows_taken cutter.batch source
   pub within : rows_taken cutter.batch source ≤ most_answer_rows
   pub behind : IsSource source
-  pub columns : cutter.at < cutter.batch.rows → AnsweredAs (schema_behind source) cutter.batch.columns
+  pub columns : cutter.at < cutter.batch.rows →
+      AnsweredAs (schema_behind source) cutter.batch.columns

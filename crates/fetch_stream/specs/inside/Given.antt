@@ -1,5 +1,6 @@
 -- Inside: what a source gives.
-use Rattle.std.specs.Prelude.{◌≡◌, ◌≤◌, ◌<◌, ◌⊎◌, ◌+◌, false, length, [], ◌++◌, Option, Some, None, Result, Ok, Err}
+use Rattle.std.specs.Prelude.{◌≡◌, ◌≤◌, ◌<◌, ◌⊎◌, ◌+◌, false, length, [], ◌++◌, Option, Some, None}
+use Rattle.std.specs.Prelude.{Result, Ok, Err}
 use Rattle.std.specs.List.{list_any}
 use Rattle.arrays.specs.Batch.{BatchAt, rows_of}
 use Rattle.scan_base.specs.declared.fault.Fault.{Fault}
@@ -11,7 +12,8 @@ use Rattle.row_sources.specs.declared.turn.Turn.{Turn}
 use Rattle.row_sources.specs.declared.turn.Turn.TheVariants.{Given, Working, End}
 use Rattle.table_versions.specs.Table.{is_long_text}
 use Rattle.fetch_stream.specs.declared.source.Source.{Source}
-use Rattle.fetch_stream.specs.inside.Ahead.{IsSource, AnsweredAs, schema_behind, left_behind, rows_taken, unseen_behind}
+use Rattle.fetch_stream.specs.inside.Ahead.{IsSource, AnsweredAs, schema_behind, left_behind}
+use Rattle.fetch_stream.specs.inside.Ahead.{rows_taken, unseen_behind}
 
 -- a source goes on, with its schema
 pub record GoesOn (before after : Source) : Type 0 where
@@ -21,7 +23,8 @@ pub record GoesOn (before after : Source) : Type 0 where
 -- why a source may be refused: memory, or more rows than an answer has
 abbrev pub MayRefuseSource : Source → Fault → Type 0
 MayRefuseSource before fault = (fault ≡ OutOfMemory)
-    ⊎ ((fault ≡ ResultTooLarge) × ((last : BatchAt) → most_answer_rows < rows_taken last before + length (left_behind before)))
+    ⊎ ((fault ≡ ResultTooLarge)
+    × ((last : BatchAt) → most_answer_rows < rows_taken last before + length (left_behind before)))
 
 -- a batch has the next rows, one or more
 pub record GivesNext (before : Source) (batch : BatchAt) (after : Source) : Type 0 where
@@ -36,8 +39,8 @@ pub record GivesNext (before : Source) (batch : BatchAt) (after : Source) : Type
 -- what a source gives
 abbrev pub GivesBatch : Source → Result (Option BatchAt) Fault → Source → Type 0
 GivesBatch before (Ok (Some batch)) after = GivesNext before batch after
-GivesBatch before (Ok None) after = GoesOn before after × (left_behind before ≡ []) × (left_behind after ≡ [])
-    × ((last : BatchAt) → rows_taken last after ≡ rows_taken last before)
+GivesBatch before (Ok None) after = GoesOn before after × (left_behind before ≡ [])
+    × (left_behind after ≡ []) × ((last : BatchAt) → rows_taken last after ≡ rows_taken last before)
 GivesBatch before (Err fault) after = MayRefuseSource before fault
 
 -- none is given of the rows that were looked at
@@ -49,6 +52,7 @@ pub record GivesNoneYet (before after : Source) : Type 0 where
 -- what a turn of a source gives
 abbrev pub TurnsBatch : Patience → Source → Result (Turn BatchAt) Fault → Source → Type 0
 TurnsBatch patience before (Ok (Given batch)) after = GivesBatch before (Ok (Some batch)) after
-TurnsBatch patience before (Ok Working) after = GivesNoneYet before after × LooksOn patience (unseen_behind before) (unseen_behind after)
+TurnsBatch patience before (Ok Working) after =
+    GivesNoneYet before after × LooksOn patience (unseen_behind before) (unseen_behind after)
 TurnsBatch patience before (Ok End) after = GivesBatch before (Ok None) after
 TurnsBatch patience before (Err fault) after = GivesBatch before (Err fault) after

@@ -21,4 +21,5 @@ stream_meant (Listed stream) = stream.stream
 -- a plan has a schema, and nothing was given of the list of tables
 abbrev pub IsMeaning : Meaning → Type 0
 IsMeaning (Planned scan) = IsSchema scan.plan.schema
-IsMeaning (Listed stream) = (stream.stream.begun ≡ false) × (stream.stream.given ≡ 0) × (stream.stream.refused ≡ None)
+IsMeaning (Listed stream) =
+    (stream.stream.begun ≡ false) × (stream.stream.given ≡ 0) × (stream.stream.refused ≡ None)

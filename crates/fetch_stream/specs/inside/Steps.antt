@@ -13,7 +13,8 @@ use Rattle.flight_info.specs.Payloads.{Payload, FitMessages}
 use Rattle.fetch_stream.specs.Streams.{Parcel, most_message_rows}
 use Rattle.fetch_stream.specs.declared.cutter.Cutter.{Cutter}
 use Rattle.fetch_stream.specs.declared.source.Source.{Source}
-use Rattle.fetch_stream.specs.inside.Ahead.{IsGoing, uncut, schema_behind, left_behind, rows_cut, unseen_behind}
+use Rattle.fetch_stream.specs.inside.Ahead.{IsGoing, uncut, schema_behind, left_behind, rows_cut}
+use Rattle.fetch_stream.specs.inside.Ahead.{unseen_behind}
 use Rattle.fetch_stream.specs.inside.Written.{SaysRows, SaysSchema}
 
 -- a parcel is the payload of the schema alone
@@ -30,7 +31,7 @@ GivesFirst schema (Ok Working) = ⊥
 GivesFirst schema (Ok End) = ⊥
 GivesFirst schema (Err fault) = fault ≡ OutOfMemory
 
--- the rows that are still to be given: of the batch that is being cut, and behind it
+-- the rows that are still to be given: of the batch that is being cut, and after it
 abbrev pub rows_left : Cutter → Source → List Row
 rows_left cutter source = uncut cutter ++ left_behind source
 
@@ -48,30 +49,37 @@ Ends cutter source new_cutter new =
 -- why the next rows may be refused: memory, or more rows than an answer has
 abbrev pub Fails : Cutter → Source → Fault → Type 0
 Fails cutter source fault = (fault ≡ OutOfMemory)
-    ⊎ ((fault ≡ ResultTooLarge) × (most_answer_rows < rows_cut cutter source + length (rows_left cutter source)))
+    ⊎ ((fault ≡ ResultTooLarge)
+    × (most_answer_rows < rows_cut cutter source + length (rows_left cutter source)))
 
 -- the next row stands in the batch that is being cut
-pub record HasNext (cutter : Cutter) (source : Source) (new_cutter : Cutter) (new : Source) : Type 0 where
+pub record HasNext (cutter : Cutter) (source : Source) (new_cutter : Cutter)
+    (new : Source) : Type 0 where
   pub keeps : Keeps source new_cutter new
   pub rows : rows_left new_cutter new ≡ rows_left cutter source
   pub same : rows_cut new_cutter new ≡ rows_cut cutter source
   pub more : new_cutter.at < new_cutter.batch.rows
 
 -- none is given of the rows that were looked at
-pub record Waits (cutter : Cutter) (source : Source) (new_cutter : Cutter) (new : Source) : Type 0 where
+pub record Waits (cutter : Cutter) (source : Source) (new_cutter : Cutter)
+    (new : Source) : Type 0 where
   pub keeps : Keeps source new_cutter new
   pub rows : rows_left new_cutter new ≡ rows_left cutter source
   pub same : rows_cut new_cutter new ≡ rows_cut cutter source
 
--- a turn to the next batch where the last one was given whole: it is there, or not yet, or none is left
-abbrev pub Refills : Patience → Cutter → Source → Result (Turn (Unit {0})) Fault → Cutter → Source → Type 0
+-- a turn to the next batch where the last one was given whole: it is there, or not yet, or none is
+-- left
+abbrev pub Refills : Patience → Cutter → Source → Result (Turn (Unit {0})) Fault → Cutter →
+    Source → Type 0
 Refills patience cutter source (Ok (Given _)) new_cutter new = HasNext cutter source new_cutter new
-Refills patience cutter source (Ok Working) new_cutter new = Waits cutter source new_cutter new × LooksOn patience (unseen_behind source) (unseen_behind new)
+Refills patience cutter source (Ok Working) new_cutter new =
+    Waits cutter source new_cutter new × LooksOn patience (unseen_behind source) (unseen_behind new)
 Refills patience cutter source (Ok End) new_cutter new = Ends cutter source new_cutter new
 Refills patience cutter source (Err fault) new_cutter new = Fails cutter source fault
 
 -- a parcel says the next rows, one or more, and no more than a message has
-pub record SaysNext (cutter : Cutter) (source : Source) (parcel : Parcel) (new_cutter : Cutter) (new : Source) : Type 0 where
+pub record SaysNext (cutter : Cutter) (source : Source) (parcel : Parcel) (new_cutter : Cutter)
+    (new : Source) : Type 0 where
   pub given : List Row
   pub said : SaysRows parcel (schema_behind source) given
   pub rows : given ++ rows_left new_cutter new ≡ rows_left cutter source
@@ -82,8 +90,11 @@ pub record SaysNext (cutter : Cutter) (source : Source) (parcel : Parcel) (new_c
   pub keeps : Keeps source new_cutter new
 
 -- a turn to the parcel of the next rows
-abbrev pub GivesRows : Patience → Cutter → Source → Result (Turn Parcel) Fault → Cutter → Source → Type 0
-GivesRows patience cutter source (Ok (Given parcel)) new_cutter new = SaysNext cutter source parcel new_cutter new
-GivesRows patience cutter source (Ok Working) new_cutter new = Waits cutter source new_cutter new × LooksOn patience (unseen_behind source) (unseen_behind new)
+abbrev pub GivesRows : Patience → Cutter → Source → Result (Turn Parcel) Fault → Cutter →
+    Source → Type 0
+GivesRows patience cutter source (Ok (Given parcel)) new_cutter new =
+    SaysNext cutter source parcel new_cutter new
+GivesRows patience cutter source (Ok Working) new_cutter new =
+    Waits cutter source new_cutter new × LooksOn patience (unseen_behind source) (unseen_behind new)
 GivesRows patience cutter source (Ok End) new_cutter new = Ends cutter source new_cutter new
 GivesRows patience cutter source (Err fault) new_cutter new = Fails cutter source fault

@@ -41,17 +41,21 @@ pub record IsShort (message : Sent) : Type 0 where
   pub header : length message.header ≤ most_header_bytes
   pub body : length message.body ≤ most_body_bytes
 
--- payloads carry the messages of dictionaries, and behind them one that says a batch, in bodies that together are not too long
-pub record CarryDressed (parcel : Parcel) (dictionaries : List Sent) (batch : BatchAt) : Type 0 where
+-- payloads carry the messages of dictionaries, and after them one that says a batch, in bodies that
+-- together are not too long
+pub record CarryDressed (parcel : Parcel) (dictionaries : List Sent)
+    (batch : BatchAt) : Type 0 where
   pub message : Sent
   pub carry : AllZip Carries parcel (dictionaries ++ message ∷ [])
   pub said : SaysBatch message batch
   pub short : bodies_length (dictionaries ++ message ∷ []) ≤ most_body_bytes
 
--- behind a schema payloads say rows, in one batch that is right behind its dictionaries, in bodies that together are not too long
+-- after a schema payloads say rows, in one batch that is right after its dictionaries, in bodies
+-- that together are not too long
 pub record SaysRows (parcel : Parcel) (schema : Schema) (rows : Rows) : Type 0 where
   pub dictionaries : List Sent
   pub batch : Sent
   pub carry : AllZip Carries parcel (dictionaries ++ batch ∷ [])
-  pub dressed : IsDressed schema (record { dictionaries = dictionaries; batch = batch; rows = rows })
+  pub dressed : IsDressed schema
+      (record { dictionaries = dictionaries; batch = batch; rows = rows })
   pub short : bodies_length (dictionaries ++ batch ∷ []) ≤ most_body_bytes

@@ -1,7 +1,16 @@
 -- Inside: faults by their numbers.
 use Rattle.std.specs.Prelude.{ℕ, ◌==◌, if◌then◌else◌}
 use Rattle.scan_base.specs.declared.fault.Fault.{Fault}
-use Rattle.scan_base.specs.declared.fault.Fault.TheVariants.{BadFrame, MessageTooLarge, UnknownMethod, BadProto, UnknownCommand, BadFlatbuffer, UnsupportedArrow, BadBatch, TableMissing, TableExists, SchemaMismatch, LimitReached, BadSql, UnknownName, TypeClash, NotInSubset, BadTicket, VersionUnknown, VersionExpired, ResultTooLarge, OutOfMemory, Transport}
+use Rattle.scan_base.specs.declared.fault.Fault.TheVariants.{BadFrame, MessageTooLarge}
+use Rattle.scan_base.specs.declared.fault.Fault.TheVariants.{UnknownMethod, BadProto}
+use Rattle.scan_base.specs.declared.fault.Fault.TheVariants.{UnknownCommand, BadFlatbuffer}
+use Rattle.scan_base.specs.declared.fault.Fault.TheVariants.{UnsupportedArrow, BadBatch}
+use Rattle.scan_base.specs.declared.fault.Fault.TheVariants.{TableMissing, TableExists}
+use Rattle.scan_base.specs.declared.fault.Fault.TheVariants.{SchemaMismatch, LimitReached, BadSql}
+use Rattle.scan_base.specs.declared.fault.Fault.TheVariants.{UnknownName, TypeClash, NotInSubset}
+use Rattle.scan_base.specs.declared.fault.Fault.TheVariants.{BadTicket, VersionUnknown}
+use Rattle.scan_base.specs.declared.fault.Fault.TheVariants.{VersionExpired, ResultTooLarge}
+use Rattle.scan_base.specs.declared.fault.Fault.TheVariants.{OutOfMemory, Transport}
 
 -- the fault of a number, at this position where it has one
 abbrev pub fault_numbered : ℕ → ℕ → Fault

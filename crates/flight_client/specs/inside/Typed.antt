@@ -14,12 +14,14 @@ AreTyped state batches = All (λ batch. HasColumns (Some batch) state) batches
 
 -- each batch has a column for each field of this schema, of its type
 abbrev pub HaveColumns : Schema → List BatchAt → Type 0
-HaveColumns schema batches = All (λ (batch : BatchAt). AreOfTypes schema.fields batch.columns) batches
+HaveColumns schema batches =
+    All (λ (batch : BatchAt). AreOfTypes schema.fields batch.columns) batches
 
 -- the schema of a stream came, and has the columns of this one
 abbrev pub HasSchema : Schema → StreamAt → Type 0
 HasSchema schema stream =
-    (known : Known) × (stream.state ≡ Some known) × (same_fields schema.fields known.schema.fields ≡ true)
+    (known : Known) × (stream.state ≡ Some known)
+    × (same_fields schema.fields known.schema.fields ≡ true)
 
 -- where there are rows already, a stream has their columns
 abbrev pub FitsRows : Option Table → StreamAt → Type 0

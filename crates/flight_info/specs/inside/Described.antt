@@ -45,9 +45,10 @@ pub record HasForm (database : Database) (wanted : Wanted) (form : List ℕ) : T
   pub schema : IsSchemaForm form answer.schema
   pub small : length form ≤ most_form_bytes
 
--- A schema in IPC form and Tickets, of what is wanted at version n, in so many parts. They are short enough for an info
--- to fit a message.
-pub record Describes (database : Database) (n parts : ℕ) (wanted : Wanted) (form : List ℕ) (tickets : List (List ℕ)) : Type 0 where
+-- A schema in IPC form and Tickets, of what is wanted at version n, in so many parts. They are
+-- short enough for an info to fit a message.
+pub record Describes (database : Database) (n parts : ℕ) (wanted : Wanted) (form : List ℕ)
+    (tickets : List (List ℕ)) : Type 0 where
   pub answer : Table
   pub answers : Answers database wanted answer
   pub schema : IsSchemaForm form answer.schema

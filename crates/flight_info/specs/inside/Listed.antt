@@ -14,7 +14,7 @@ use Rattle.table_versions.specs.Stored.{CatalogAt}
 abbrev pub text_values : List (List ℕ) → List Value
 text_values texts = map Text texts
 
--- these bytes are texts one behind another, and these offsets cut them
+-- these bytes are texts one after another, and these offsets cut them
 pub record HoldTexts (offsets bytes : List ℕ) (texts : List (List ℕ)) : Type 0 where
   pub cut : offsets ≡ offsets_from 0 (text_values texts)
   pub joined : bytes ≡ texts_joined (text_values texts)

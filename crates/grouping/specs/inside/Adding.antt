@@ -10,7 +10,8 @@ use Rattle.grouping.specs.Found.{found_then}
 use Rattle.grouping.specs.inside.Placing.{ArePlaced}
 
 -- the keys of the rows are found, and the rows are added to the tallies of their groups
-pub record IsGrown (items : List Aggregate) (columns : List ColumnAt) (keys rows : List ℕ) (found_before found : List (List Value))
+pub record IsGrown (items : List Aggregate) (columns : List ColumnAt) (keys rows : List ℕ)
+    (found_before found : List (List Value))
     (fed : ℕ) (before after : List (List Tally)) : Type 0 where
   pub found_is : found ≡ found_then keys found_before (map (row_of columns) rows)
   pub groups : List ℕ

@@ -25,9 +25,10 @@ abbrev pub group_count : List ℕ → ℕ → ℕ
 group_count [] firsts = 1
 group_count (key ∷ keys) firsts = firsts
 
--- keys and items name columns that are there, there is a small tally of each item for each group, and no more groups were
--- answered than there are
-pub record IsAnswers (types : List DataType) (keys : List ℕ) (items : List Aggregate) (firsts : ℕ) (tallies : List (List Tally)) (given : ℕ) : Type 0 where
+-- keys and items name columns that are there, there is a small tally of each item for each group,
+-- and no more groups were answered than there are
+pub record IsAnswers (types : List DataType) (keys : List ℕ) (items : List Aggregate) (firsts : ℕ)
+    (tallies : List (List Tally)) (given : ℕ) : Type 0 where
   pub has : HasItems types keys items
   pub count : ℕ
   pub few : count ≤ most_rows
@@ -45,22 +46,26 @@ groups_in answer = groups_at answer.batches.now (record {
   given = 0;
 })
 
--- keys and items name columns that are there, there is a small tally of each item for each group, and first rows are there
+-- keys and items name columns that are there, there is a small tally of each item for each group,
+-- and first rows are there
 pub record CanAnswer (answer : Answer) : Type 0 where
   pub has : HasItems answer.types.now answer.keys.now answer.items.now
   pub count : ℕ
   pub few : count ≤ most_rows
-  pub kept : IsKept answer.items.now (length (groups_in answer).found) count (lists_of answer.tallies.now)
+  pub kept : IsKept answer.items.now (length (groups_in answer).found) count
+      (lists_of answer.tallies.now)
   pub typed : AreTyped answer.types.now answer.batches.now
   pub there : All (IsThere answer.batches.now) answer.firsts.now
 
 -- what the item at a place gives of so many groups from one on
 abbrev pub item_cells : GroupsAt → ℕ → ℕ → ℕ → List Value
-item_cells groups item from many = map (λ group. cell_at groups group item) (range_with_len from many)
+item_cells groups item from many =
+    map (λ group. cell_at groups group item) (range_with_len from many)
 
 -- the texts of an item have no more bytes than its share, of so many groups from one on
 abbrev pub AreLightIn : GroupsAt → ℕ → ℕ → ℕ → Type 0
-AreLightIn groups from count item = AreLight (share_among (length groups.items)) (item_cells groups item from count)
+AreLightIn groups from count item =
+    AreLight (share_among (length groups.items)) (item_cells groups item from count)
 
 -- the texts of the first items are light of so many groups from one on
 pub record AllFit (groups : GroupsAt) (from most items count : ℕ) : Type 0 where
@@ -71,16 +76,20 @@ pub record AllFit (groups : GroupsAt) (from most items count : ℕ) : Type 0 whe
 -- the column of the item at a place, over so many groups from one on
 pub record IsItemColumn (groups : GroupsAt) (item from many : ℕ) (column : ColumnAt) : Type 0 where
   pub values : values_of column ≡ item_cells groups item from many
-  pub typed : IsOfType (copied_type (item_type groups.keys groups.types (get_or groups.items item (Key 0)))) column.layout
+  pub typed :
+      IsOfType (copied_type (item_type groups.keys groups.types (get_or groups.items item (Key 0))))
+      column.layout
   pub long : column.len ≡ many
 
 -- the batch of so many groups from one on
 pub record IsBatchOf (groups : GroupsAt) (from many : ℕ) (batch : BatchAt) : Type 0 where
   pub rows : rows_of batch ≡ map (row_at groups) (range_with_len from many)
   pub many_rows : batch.rows ≡ many
-  pub typed : AreOf (map copied_type (map (item_type groups.keys groups.types) groups.items)) batch.columns
+  pub typed : AreOf (map copied_type (map (item_type groups.keys groups.types) groups.items))
+      batch.columns
   pub many_columns : length batch.columns ≡ length groups.items
-  pub cells : (item : ℕ) (d : ColumnAt) → item < length groups.items → values_of (get_or batch.columns item d) ≡ item_cells groups item from many
+  pub cells : (item : ℕ) (d : ColumnAt) → item < length groups.items →
+      values_of (get_or batch.columns item d) ≡ item_cells groups item from many
 
 -- the batch of groups from one on, one or more, with few cells and texts
 pub record IsNextOf (groups : GroupsAt) (from most : ℕ) (batch : BatchAt) : Type 0 where

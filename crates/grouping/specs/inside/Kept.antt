@@ -17,12 +17,16 @@ pub record IsShape (shape : Grouping) : Type 0 where
   pub typed : AreTyped shape.types.now shape.batches.now
   pub has : HasItems shape.types.now shape.keys.now shape.items.now
 
--- What was not refused has a tally of each item for each group. What is known of keys is so, and what was seen of long texts in the
--- batch of a number.
+-- What was not refused has a tally of each item for each group. What is known of keys is so, and
+-- what was seen of long texts in the batch of a number.
 pub record IsGroups (shape : Grouping) (groups : Kept) (refused : Option Fault) : Type 0 where
   pub shaped : IsShape shape
-  pub kept : refused ≡ None → IsKept shape.items.now (length (found_by shape.keys.now groups.firsts.keys)) groups.count (lists_of groups.tallies.items)
+  pub kept : refused ≡ None →
+      IsKept shape.items.now (length (found_by shape.keys.now groups.firsts.keys)) groups.count
+      (lists_of groups.tallies.items)
   pub few : refused ≡ None → groups.count ≤ most_rows
   pub first : refused ≡ None → All (IsFirst shape.batches.now shape.keys.now) groups.firsts.keys
-  pub known_are : refused ≡ None → AreKnown value_tagged (map key_of groups.firsts.keys) groups.known.items
-  pub seen_are : refused ≡ None → AreSeenIn groups.firsts.texts shape.batches.now shape.keys.now groups.seen
+  pub known_are : refused ≡ None →
+      AreKnown value_tagged (map key_of groups.firsts.keys) groups.known.items
+  pub seen_are : refused ≡ None →
+      AreSeenIn groups.firsts.texts shape.batches.now shape.keys.now groups.seen

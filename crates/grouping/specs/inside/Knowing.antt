@@ -15,9 +15,11 @@ use Rattle.first_rows.specs.RowKeys.{key_of, same_first}
 use Rattle.grouping.specs.inside.Placing.{IsFinding}
 
 -- the key of each row of the batch is one value
-pub record AreTagged (count : ℕ) (value : ℕ → Value) (keys : List ℕ) (batch : BatchAt) : Type 0 where
+pub record AreTagged (count : ℕ) (value : ℕ → Value) (keys : List ℕ)
+    (batch : BatchAt) : Type 0 where
   pub many : batch.rows ≤ count
-  pub values : (row : ℕ) → row < batch.rows → key_in keys (row_of batch.columns row) ≡ value row ∷ []
+  pub values : (row : ℕ) → row < batch.rows →
+      key_in keys (row_of batch.columns row) ≡ value row ∷ []
 
 -- of no key
 abbrev pub nothing : Known
@@ -29,7 +31,8 @@ pub record AreNothing (count : ℕ) (entries : List Known) : Type 0 where
   pub each : (k : ℕ) → k < count → get_or entries k nothing ≡ nothing
 
 -- an entry says nothing, or names the place of its key
-pub record IsKnown (meaning : ℕ → ℕ → Value) (found : List (List Value)) (entry : Known) : Type 0 where
+pub record IsKnown (meaning : ℕ → ℕ → Value) (found : List (List Value))
+    (entry : Known) : Type 0 where
   pub place : entry.kind ≢ 0 → entry.group ≡ place_in found (meaning entry.kind entry.key ∷ [])
   pub there : entry.kind ≢ 0 → entry.group < length found
 
@@ -39,17 +42,20 @@ AreKnown meaning found entries = All (IsKnown meaning found) entries
 
 -- whatever entries say of some keys, they say of later keys
 abbrev pub StayKnown : List (List Value) → List (List Value) → Type 0
-StayKnown before after = (entries : List Known) → AreKnown value_tagged before entries → AreKnown value_tagged after entries
+StayKnown before after = (entries : List Known) → AreKnown value_tagged before entries →
+    AreKnown value_tagged after entries
 
 -- a row opens no group, and has this one, wherever what the entries say is true
 abbrev pub IsTold : (ℕ → ℕ → Value) → List Known → RowKey → ℕ → Type 0
-IsTold meaning entries first group = (firsts : List RowKey) → AreKnown meaning (map key_of firsts) entries →
-    (firsts ≡ insert_key same_first firsts first) × (group ≡ place_in (map key_of firsts) (key_of first))
+IsTold meaning entries first group = (firsts : List RowKey) →
+    AreKnown meaning (map key_of firsts) entries → (firsts ≡ insert_key same_first firsts first)
+    × (group ≡ place_in (map key_of firsts) (key_of first))
 
 -- the groups of more rows are found with no further key, wherever what the entries say is true
 abbrev pub GoOn : (ℕ → ℕ → Value) → List Known → Chosen → List ℕ → List ℕ → Type 0
-GoOn meaning entries chosen groups after = (before firsts : List RowKey) → AreKnown meaning (map key_of firsts) entries →
-    IsFinding chosen before (length groups) firsts groups → IsFinding chosen before (length after) firsts after
+GoOn meaning entries chosen groups after =
+    (before firsts : List RowKey) → AreKnown meaning (map key_of firsts) entries → IsFinding chosen
+    before (length groups) firsts groups → IsFinding chosen before (length after) firsts after
 
 -- the key of each row of the batch is one of these numbers
 pub record AreKeys (slots : Slots) (keys : List ℕ) (batch : BatchAt) : Type 0 where

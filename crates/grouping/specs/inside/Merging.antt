@@ -20,30 +20,36 @@ pub record AreJoined (found others : List (List Value)) (groups : List ℕ) (cou
 -- first rows, and others, stay first rows
 abbrev pub FirstsJoin : List RowKey → List RowKey → List RowKey → Type 0
 FirstsJoin before others after = (batches : List BatchAt) (keys : List ℕ) →
-    All (IsFirst batches keys) before → All (IsFirst batches keys) others → All (IsFirst batches keys) after
+    All (IsFirst batches keys) before → All (IsFirst batches keys) others →
+    All (IsFirst batches keys) after
 
 -- tallies of groups after the first `count` of others, each of which adds to its group's
 abbrev pub joined : List ℕ → List Tally → List Tally → ℕ → List Tally
 joined groups others tallies zero = tallies
 joined groups others tallies (suc count) =
     slice_set (joined groups others tallies count) (get_or groups count 0)
-    (both (get_or (joined groups others tallies count) (get_or groups count 0) no_rows) (get_or others count no_rows))
+    (both (get_or (joined groups others tallies count) (get_or groups count 0) no_rows)
+    (get_or others count no_rows))
 
 -- the tallies are those of before, and of no rows for each new group, with the others added
-pub record IsJoined (groups : List ℕ) (others : List Tally) (found : ℕ) (before after : List Tally) : Type 0 where
+pub record IsJoined (groups : List ℕ) (others : List Tally) (found : ℕ)
+    (before after : List Tally) : Type 0 where
   pub padded : List Tally
   pub long : length padded ≡ found
   pub same : (group : ℕ) → group < found → get_or padded group no_rows ≡ get_or before group no_rows
   pub is : after ≡ joined groups others padded (length groups)
 
 -- the others are added to the tallies of each item before a place, and the rest are as they were
-pub record AllJoined (groups : List ℕ) (others : List (List Tally)) (found most : ℕ) (before after : List (List Tally)) (place : ℕ) : Type 0 where
-  pub joined : (item : ℕ) → item < place → IsJoined groups (get_or others item []) found (get_or before item []) (get_or after item [])
+pub record AllJoined (groups : List ℕ) (others : List (List Tally)) (found most : ℕ)
+    (before after : List (List Tally)) (place : ℕ) : Type 0 where
+  pub joined : (item : ℕ) → item < place →
+      IsJoined groups (get_or others item []) found (get_or before item []) (get_or after item [])
   pub small : (item : ℕ) → item < place → AreWithin most (get_or after item [])
   pub left : (item : ℕ) → place ≤ item → get_or after item [] ≡ get_or before item []
 
 -- the keys of the other groups are found, and their tallies are added to those of the same keys
-pub record IsMerged (found_before found_others found : List (List Value)) (items most : ℕ) (others before after : List (List Tally)) : Type 0 where
+pub record IsMerged (found_before found_others found : List (List Value)) (items most : ℕ)
+    (others before after : List (List Tally)) : Type 0 where
   pub found_is : found ≡ insert_all same_key found_before found_others
   pub groups : List ℕ
   pub placed : AreJoined found found_others groups (length found_others)

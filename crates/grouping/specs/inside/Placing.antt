@@ -16,9 +16,11 @@ found_by [] firsts = [] ∷ []
 found_by (key ∷ keys) firsts = map key_of firsts
 
 -- the group of each of the first `count` rows is the place of its key
-pub record ArePlaced (keys : List ℕ) (columns : List ColumnAt) (found : List (List Value)) (rows groups : List ℕ) (count : ℕ) : Type 0 where
+pub record ArePlaced (keys : List ℕ) (columns : List ColumnAt) (found : List (List Value))
+    (rows groups : List ℕ) (count : ℕ) : Type 0 where
   pub long : length groups ≡ count
-  pub each : (k : ℕ) → k < count → get_or groups k 0 ≡ place_in found (key_in keys (row_of columns (get_or rows k 0)))
+  pub each : (k : ℕ) → k < count →
+      get_or groups k 0 ≡ place_in found (key_in keys (row_of columns (get_or rows k 0)))
   pub there : (k : ℕ) → k < count → get_or groups k 0 < length found
 
 -- the batch is that of the number
@@ -33,15 +35,20 @@ pub record IsFirst (batches : List BatchAt) (keys : List ℕ) (first : RowKey) :
 
 -- first rows stay first rows, wherever the chosen rows are in the batch of their number
 abbrev pub FirstsStay : Chosen → List RowKey → List RowKey → Type 0
-FirstsStay chosen before after = (batches : List BatchAt) → IsBatchAt batches chosen.number chosen.batch.now →
+FirstsStay chosen before after =
+    (batches : List BatchAt) → IsBatchAt batches chosen.number chosen.batch.now →
     All (IsFirst batches chosen.columns.now) before → All (IsFirst batches chosen.columns.now) after
 
 -- where a first row stands
 abbrev pub place_of : RowKey → Place
 place_of first = record { batch = first.number; row = first.row }
 
--- the keys of the first so many of these rows were found behind earlier ones, and each of these rows has the place of its key
-pub record IsFinding (chosen : Chosen) (before : List RowKey) (count : ℕ) (firsts : List RowKey) (groups : List ℕ) : Type 0 where
-  pub found : map key_of firsts ≡ found_then chosen.columns.now (map key_of before) (map (row_of chosen.batch.now.columns) (take count chosen.rows.now))
-  pub placed : ArePlaced chosen.columns.now chosen.batch.now.columns (map key_of firsts) chosen.rows.now groups count
+-- the keys of the first so many of these rows were found after earlier ones, and each of these rows
+-- has the place of its key
+pub record IsFinding (chosen : Chosen) (before : List RowKey) (count : ℕ) (firsts : List RowKey)
+    (groups : List ℕ) : Type 0 where
+  pub found : map key_of firsts ≡ found_then chosen.columns.now (map key_of before)
+      (map (row_of chosen.batch.now.columns) (take count chosen.rows.now))
+  pub placed : ArePlaced chosen.columns.now chosen.batch.now.columns
+      (map key_of firsts) chosen.rows.now groups count
   pub kept : FirstsStay chosen before firsts

@@ -7,12 +7,17 @@ use Rattle.ipc_batch.specs.Columns.{FrontAt}
 
 -- the parts of a batch, of packed nodes and places
 abbrev pub parts_seen : Parts → PartsAt
-parts_seen parts = record { rows = parts.rows; nodes = nodes_in parts.nodes.now; places = places_in parts.places.now }
+parts_seen parts = record {
+  rows = parts.rows;
+  nodes = nodes_in parts.nodes.now;
+  places = places_in parts.places.now;
+}
 
 -- a dictionary message
 abbrev pub dictionary_seen : DictionaryMessage → DictionaryParts
-dictionary_seen sent = record { id = sent.id; parts = parts_seen sent.parts; is_delta = sent.is_delta }
+dictionary_seen sent =
+    record { id = sent.id; parts = parts_seen sent.parts; is_delta = sent.is_delta }
 
--- the layout at the front, and the places behind it
+-- the layout at the front, and the places after it
 abbrev pub front_seen : Front → FrontAt
 front_seen front = record { layout = front.layout; behind = front.behind.now }

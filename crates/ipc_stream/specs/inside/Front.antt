@@ -1,5 +1,6 @@
 -- What stands in front of the rest of a stream.
-use Rattle.std.specs.Prelude.{◌≡◌, ◌<◌, ◌≤◌, ◌+◌, ◌^◌, ℕ, List, ◌++◌, length, drop, slice_range, Option, Some, None, Result, Ok, Err}
+use Rattle.std.specs.Prelude.{◌≡◌, ◌<◌, ◌≤◌, ◌+◌, ◌^◌, ℕ, List, ◌++◌, length, drop, slice_range}
+use Rattle.std.specs.Prelude.{Option, Some, None, Result, Ok, Err}
 use Rattle.scan_base.specs.declared.fault.Fault.{Fault}
 use Rattle.scan_base.specs.declared.fault.Fault.TheVariants.{BadFlatbuffer}
 use Rattle.ipc_stream.specs.declared.message.IpcMessage.{IpcMessage}
@@ -32,7 +33,8 @@ FindsBody header (Err fault) = (fault ≡ BadFlatbuffer) × ((size : ℕ) → ¬
 -- neither a message stands in front, nor an end
 pub record IsStuck (bytes : List ℕ) : Type 0 where
   pub no_end : ¬ IsEnd bytes
-  pub no_message : (message : IpcMessage) (rest : List ℕ) → IsMessage message → ¬ (bytes ≡ frame message ++ rest)
+  pub no_message : (message : IpcMessage) (rest : List ℕ) → IsMessage message →
+      ¬ (bytes ≡ frame message ++ rest)
 
 -- a frame from a place on lies within the stream
 pub record IsIn (stream : List ℕ) (at : ℕ) (found : Frame) : Type 0 where

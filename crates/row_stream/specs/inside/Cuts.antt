@@ -12,21 +12,29 @@ use Rattle.ipc_stream.specs.Stream.{IsMessage}
 use Rattle.row_stream.specs.Stream.{sent_in, HasShortBody, HasShortRows}
 use Rattle.row_stream.specs.declared.cutting.Cut.{Cut}
 
--- messages of dictionaries, and one that says a batch behind them, in bodies that together have no more bytes than there is room for
-pub record AreBehind (dictionaries : List IpcMessage) (batch : BatchAt) (room : ℕ) (messages : List IpcMessage) : Type 0 where
+-- messages of dictionaries, and one that says a batch after them, in bodies that together have no
+-- more bytes than there is room for
+pub record AreBehind (dictionaries : List IpcMessage) (batch : BatchAt) (room : ℕ)
+    (messages : List IpcMessage) : Type 0 where
   pub last : IpcMessage
   pub are : messages ≡ dictionaries ++ last ∷ []
   pub fits : IsMessage last
   pub says : SaysBatch (sent_in last) batch
   pub short : bodies_length (map sent_in dictionaries) + length last.body ≤ room
 
--- messages of the dictionaries of a batch's texts, and behind them one that says its rows; each of them is short
-pub record SayBatch (IsShort : IpcMessage → Type 0) (schema : Schema) (batch : BatchAt) (messages : List IpcMessage) : Type 0 where
+-- messages of the dictionaries of a batch's texts, and after them one that says its rows; each of
+-- them is short
+pub record SayBatch (IsShort : IpcMessage → Type 0) (schema : Schema) (batch : BatchAt)
+    (messages : List IpcMessage) : Type 0 where
   pub dictionaries : List IpcMessage
   pub last : IpcMessage
   pub are : messages ≡ dictionaries ++ last ∷ []
   pub each : All IsMessage messages
-  pub dressed : IsDressed schema (record { dictionaries = map sent_in dictionaries; batch = sent_in last; rows = rows_of batch })
+  pub dressed : IsDressed schema (record {
+    dictionaries = map sent_in dictionaries;
+    batch = sent_in last;
+    rows = rows_of batch;
+  })
   pub short : All IsShort messages
 
 -- no body is longer than there is room for
@@ -40,7 +48,8 @@ pub record IsCut (schema : Schema) (batch : BatchAt) (at most : ℕ) (cut : Cut)
   pub within : cut.end ≤ batch.rows
   pub says : SayBatch (HasShortBody schema) schema (cut_batch batch at cut.end) cut.parcel
 
--- why no more rows of a batch were cut: memory was refused, or one row and its dictionaries have bodies of 2 to the 31 bytes or more
+-- why no more rows of a batch were cut: memory was refused, or one row and its dictionaries have
+-- bodies of 2 to the 31 bytes or more
 abbrev pub IsUncut : Schema → BatchAt → Fault → Type 0
 IsUncut schema batch OutOfMemory = Unit {0}
 IsUncut schema batch LimitReached = ¬ HasShortRows schema batch

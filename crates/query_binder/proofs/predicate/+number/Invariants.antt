@@ -19,7 +19,7 @@ decreases-number_chain l = 2 * (operators (pred_of l.left.now) + operators (pred
 abbrev pub decreases-number_truth_test : goal.decreases-number_truth_test
 decreases-number_truth_test l = 2 * operators (pred_of l.predicate.now) + 1
 
--- what is bound so far is without a fault, and the sides that are left stand behind it
+-- what is bound so far is without a fault, and the sides that are left stand after it
 abbrev pub invariant-number_chain-loop-side : goal.invariant-number_chain-loop-side
 invariant-number_chain-loop-side l =
     (done : Pred ColumnName)

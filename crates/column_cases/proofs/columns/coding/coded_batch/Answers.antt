@@ -13,7 +13,7 @@ use Rattle.column_cases.proofs.columns.coding.coded_batch.Goals as goal
 whole_cut : (column : ColumnAt) (first len : ℕ) → first ≡ column.first → len ≡ column.len → record column { first = first; len = len } ≡ column
 whole_cut column first len f l = rw (f, l) refl
 
--- a column of texts behind one field, which is a dictionary, may be coded
+-- a column of texts after one field, which is a dictionary, may be coded
 codable : (encoding : DictionaryEncoding) (fields : List Field) (columns : List ColumnAt) (column : ColumnAt) →
     map (λ (field : Field). field.data_type) fields ≡ Dictionary encoding ∷ [] → columns ≡ column ∷ [] → All IsTextOrNull (values_of column) →
     AreCodable fields columns

@@ -20,7 +20,7 @@ with cursor last number start opened =
 abbrev opening : Cursor → ℕ → Cursor
 opening cursor opened = record { from = cursor.from; to = cursor.to; at = cursor.at; batch = cursor.batch; start = cursor.start; opened = opened; most = cursor.most }
 
--- what holds of a cursor behind the part, in the same batch or at the next one, holds of this one
+-- what holds of a cursor after the part, in the same batch or at the next one, holds of this one
 module _ (c : Joined-self-max) (P : Cursor → Type 0)
     (each : (number start opened : ℕ) →
     ((number ≡ c.args.self.now.batch) × (start ≡ c.args.self.now.start) × (c.peek-part.result.to < c.peek-part.result.batch.now.rows))

@@ -14,7 +14,7 @@ share_from-requires g c =
     let long = full_at (map arc_value handles) (arc_value c.index.result.now) (c.args.first / 256) c.self.invariant.complete page in
     rw (c.deref.ensures) (omega (arith, long))
 
--- the pages behind the one that is cut
+-- the pages after the one that is cut
 pub invariant_of-result : goal.invariant_of-result
 invariant_of-result g c =
     let pages = map arc_value c.self.inside.full.items in

@@ -5,7 +5,7 @@ use Rattle.version_cell.proofs.Entries.{is_log_behind, read_is_log}
 use Rattle.version_cell.proofs.Logs.{log_of-more}
 use Rattle.version_cell.proofs.publisher.Publisher.commit.Goals as goal
 
--- what is shown then is the log with the entry behind it
+-- what is shown then is the log with the entry after it
 pub invariant_of-self : goal.invariant_of-self
 invariant_of-self g c =
     let log = c.args.self.now in
