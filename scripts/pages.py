@@ -310,7 +310,7 @@ def look_at_lengths(page, text, amiss):
 
 def pages():
     yield from sorted(TOP.glob("*.md"))
-    for folder in ("docs", "bench", "plants", "scripts", "vectors", "crates"):
+    for folder in ("docs", "bench", "gateway", "plants", "scripts", "vectors", "crates"):
         yield from sorted(path for path in (TOP / folder).rglob("*.md") if "/out/" not in str(path))
 
 
