@@ -142,23 +142,24 @@ def public_base(files):
 
 
 def list_of_files(amiss):
-    """The files of each crate's specs: those to believe, those of other public calls and laws, and those inside."""
+    """The files of each crate's specs: those to believe, and those of other public calls and laws; not those inside."""
     files = trusted_base.read_specs()
     believed, types = trusted_base.base_of_promise(files)
     public = {item.path for item in public_base(files).values()}
     among = {item.path for item in believed.values()}
     rows = ["| What there is to read | How much | Goal |", "|---|---:|---|"]
     rows += [f"| {name} | {count:,} | {goal} |" for name, count, goal in trusted_base.counts(files, believed, types)]
-    rows += ["", "| Crate | To believe | For other public calls, and laws | Inside |", "|---|---|---|---|"]
+    rows += ["", "| Crate | To believe | For other public calls, and laws |", "|---|---|---|"]
     for crate in stands_on():
         specs = CRATES / crate / "specs"
-        kinds = {"believe": [], "stated": [], "inside": []}
+        kinds = {"believe": [], "stated": []}
         for path in sorted(specs.rglob("*.antt")):
             if not any(file["path"] == path and file["found"] for file in files.values()):
                 continue
             is_marked = path.relative_to(specs).parts[0] == "inside" or path.read_text().startswith("-- Inside")
             kind = "believe" if path in among else "stated" if path in public else "inside"
-            kinds[kind].append(path.stem)
+            if kind != "inside":
+                kinds[kind].append(path.stem)
             if is_marked and kind != "inside":
                 rests = "the promise rests" if kind == "believe" else "a public contract rests"
                 amiss.append(f"{path.relative_to(TOP)}: marked as inside, but {rests} on it")
@@ -263,7 +264,7 @@ def look_at_definitions(page, text, amiss):
         found |= {(path.relative_to(CRATES).parts[0], path.stem) for path in files if CRATES in path.parents}
         amiss.extend(f"{where}: {name} does not stand in {row}" for name in re.findall(r"`([A-Za-z_]\w*)[^`]*`", says)
                      if not re.search(rf"(?<!\w){name}(?!\w)", source))
-    for crate, believed in re.findall(r"(?m)^\| \[(\w+)\]\([^|]*\) \| (\w[^|]*) \|[^|]*\|[^|]*\|$", text):
+    for crate, believed in re.findall(r"(?m)^\| \[(\w+)\]\([^|]*\) \| (\w[^|]*) \|[^|]*\|$", text):
         amiss.extend(f"{where}: the definitions leave out {crate}/{name}" for name in believed.split(", ")
                      if (crate, name) not in found)
 
