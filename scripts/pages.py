@@ -239,13 +239,14 @@ def look_at_wrong_bodies(amiss):
 
 
 def look_at_plants(amiss):
-    """Tells which crates with plants have no line in plants/README.md, and which lines no plants."""
+    """Tells which crates with plants are not in plants/README.md, and which are there without plants."""
     page = (TOP / "plants/README.md").read_text()
-    lines = set(re.findall(r"(?m)^\| (\w+) \| (?:not tried|\d{4}-)", page))
+    named = set(re.findall(r"(?m)^\| (\w+) \| \d{4}-", page))
+    for untried in re.findall(r"(?ms)^Not tried yet: (.*?)\.$", page):
+        named |= set(re.findall(r"\w+", untried))
     crates = {path.parent.name for path in TOP.glob("plants/*/*.edit")}
-    amiss.extend(f"plants/README.md: no line '| {crate} | not tried | | | | | | |'"
-                 for crate in sorted(crates - lines))
-    amiss.extend(f"plants/README.md: no plants of {crate}" for crate in sorted(lines - crates))
+    amiss.extend(f"plants/README.md: {crate} is not there, not even as not tried" for crate in sorted(crates - named))
+    amiss.extend(f"plants/README.md: no plants of {crate}" for crate in sorted(named - crates))
 
 
 def look_at_edits(amiss):
