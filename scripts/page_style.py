@@ -13,6 +13,7 @@ MOST_WORDS_OF = {
     "vectors/arrow/README.md": 1_200, "vectors/flight/README.md": 350, "vectors/puts/README.md": 320,
 }
 MOST_WORDS_OF_A_CRATE = 1_000
+MOST_WORDS_OF_CRATES, MOST_WORDS_OF_OTHERS = 32_000, 50_000  # of all crates' READMEs, and of all other pages
 MOST_WORDS_OF_A_PARAGRAPH = 80
 MOST_COLUMNS = 100
 AVOIDED = re.compile(r"\b(behind|beside|anew|whoever|house)\b", re.I)
@@ -64,3 +65,12 @@ def look_at_style(name, text, amiss):
             amiss.append(f"{name}:{number}: {len(line)} columns")
         for word in AVOIDED.findall(re.sub(r"`[^`]*`|\([^)\s]*\)", "", line)):
             amiss.append(f"{name}:{number}: the word {word!r}")
+
+
+def look_at_totals(texts, amiss):
+    """Tells where the crates' READMEs, or the other pages, have too many words together."""
+    totals = {"the crates' READMEs have": [0, MOST_WORDS_OF_CRATES], "the other pages have": [0, MOST_WORDS_OF_OTHERS]}
+    crates, others = totals.values()
+    for name, text in texts.items():
+        (crates if name.startswith("crates/") else others)[0] += len(text.split())
+    amiss.extend(f"{what} {words} words, more than {most}" for what, (words, most) in totals.items() if words > most)

@@ -22,7 +22,7 @@ import sys
 sys.dont_write_bytecode = True
 
 import trusted_base  # noqa: E402
-from page_style import look_at_style  # noqa: E402
+from page_style import look_at_style, look_at_totals  # noqa: E402
 from wrong_bodies import misfits, wrong_bodies  # noqa: E402
 
 TOP = pathlib.Path(__file__).resolve().parent.parent
@@ -328,8 +328,9 @@ def main(words):
                 path.write_text(new)
     sources = {kind: [" ".join(path.read_text().split()) for path in CRATES.glob(pattern)]
                for kind, pattern in (("rust", "*/src/**/*.rt"), ("antt", "*/specs/**/*.antt"))}
+    texts = {}
     for page in pages():
-        text = page.read_text()
+        texts[str(page.relative_to(TOP))] = text = page.read_text()
         look_at_code(page, text, sources, amiss)
         if page.name == "PROMISE.md":
             look_at_definitions(page, text, amiss)
@@ -337,6 +338,7 @@ def main(words):
         look_at_names(page, text, amiss)
         look_at_lengths(page, text, amiss)
         look_at_style(str(page.relative_to(TOP)), text, amiss)
+    look_at_totals(texts, amiss)
     look_at_sections(amiss)
     look_at_wrong_bodies(amiss)
     look_at_edits(amiss)
