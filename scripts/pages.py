@@ -9,7 +9,7 @@ docs/PROMISE.md, from what scripts/trusted_base.py counts and what public contra
 crates.txt has its row in its section, and stands on none of a later one. And in each page: that the files and headings that
 links lead to are there; that a name in a link to a source file stands in that file; that files and wrong bodies
 named in backticks are there; that each wrong body has its row in the README of its crate, with a link to where it
-stands, and fits the code; that each crate with plants has its line in plants/README.md; that code which is shown stands
+stands, and fits the code; that plants/README.md names each crate with plants; that code which is shown stands
 so in a source file; that the definitions of docs/PROMISE.md leave out no file to believe, and that what a row says of its
 files stands in them; that no sentence and no cell of a table has more than 35 words, where a code span is one word and
 quotations are left out; that README.md has at most 9,216 bytes; and what `page_style.py` says of the words of a page.
