@@ -17,14 +17,12 @@ use scan_exec::Scan;
 use std::alloc::{AllocError, Global};
 use std::collections::VecDeque;
 use std::marker::Model;
+use work_watch::pace::MOST_PIECE_ROWS;
 
 // How many parcels are made ahead, and how many bytes they have, before no more are.
 const MOST_MADE: usize = 16;
 
 const MOST_MADE_BYTES: usize = 8_388_608;
-
-// For how many rows a turn of the stream has patience, of those that make parcels ahead.
-const ROWS_AHEAD: usize = 65_536;
 
 // So many turns of a stream, and the patience of each.
 #[derive(Drop)]
@@ -153,7 +151,7 @@ impl<'s> Ahead<'s> {
     {
         let turns = Turns {
             alloc,
-            patience: Patience::Rows(ROWS_AHEAD),
+            patience: Patience::Rows(MOST_PIECE_ROWS),
             most: turns,
         };
         make_more(&turns, &mut self.made, &mut self.bytes, &mut self.rest)

@@ -13,16 +13,11 @@ use crate::part::Part;
 use fetch_stream::{Morsels, Parcel, Payloads};
 use row_sources::{Looking, Patience, Turn};
 use scan_base::Fault;
+use scan_exec::MAX_ANSWER_ROWS;
 use scan_workers::{Answers, NextAnswer};
 use std::alloc::Global;
 use std::marker::Model;
-
-// How many rows an answer has at most.
-const MAX_ANSWER_ROWS: usize = 67_108_864;
-
-// How many morsels may end without a row in one turn. A turn of each of them has patience for as
-// many parts of the rows.
-const MOST_ENDED: usize = 16;
+use work_watch::pace::TURN_MORSELS;
 
 // The stream that its morsels make up: the payload of the schema, unless one has told it before,
 // and those of the morsels as they are answered, in their order. It counts the rows of all.
@@ -92,7 +87,7 @@ fn of_morsel(patience: Patience) -> Patience
 {
     match patience {
         Patience::Endless => Patience::Endless,
-        Patience::Rows(rows) => Patience::Rows(rows / MOST_ENDED),
+        Patience::Rows(rows) => Patience::Rows(rows / TURN_MORSELS),
         Patience::Choice => Patience::Choice,
     }
 }
@@ -103,7 +98,7 @@ fn is_over(patience: Patience, ended: usize) -> bool
 {
     match patience {
         Patience::Endless => false,
-        Patience::Rows(_) | Patience::Choice => ended >= MOST_ENDED,
+        Patience::Rows(_) | Patience::Choice => ended >= TURN_MORSELS,
     }
 }
 

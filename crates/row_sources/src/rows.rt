@@ -17,11 +17,12 @@ use crate::picker::Picker;
 use crate::piece::Piece;
 use crate::place::PlaceRows;
 use crate::turn::{Looking, Patience, Turn};
-use array_select::{MOST_BATCH_ROWS, Selection};
+use array_select::Selection;
 use join_batches::Joiner;
 use std::alloc::{AllocError, Global};
 use std::marker::Model;
 use std::sync::Arc;
+use work_watch::pace::MOST_PIECE_ROWS;
 
 /// Rows that are still to be given, piece by piece: those of a place, or joined ones. A contract
 /// sees the types of their columns, the rows, each with the number of the batch of the first place
@@ -276,7 +277,7 @@ impl Joining {
         if self.joiner.find(alloc)? {
             return Ok(Turn::Working);
         }
-        let patience = Patience::Rows(MOST_BATCH_ROWS);
+        let patience = Patience::Rows(MOST_PIECE_ROWS);
         let mut further = Looking { alloc, patience };
         if let Turn::End = self.feed_next(left, &mut further)? {
             return Ok(Turn::End);
