@@ -173,23 +173,9 @@ impl Scan {
         ensures ready { OnOk result (W.ready watch.new) }
         ensures watched { W.watched watch.old watch.new }
     {
-        let Scan {
-            schema,
-            mut answer,
-            batches,
-            further,
-            given,
-            refused,
-        } = self;
-        answer.make_groups(alloc, by, watch)?;
-        Ok(Scan {
-            schema,
-            answer,
-            batches,
-            further,
-            given,
-            refused,
-        })
+        let mut scan = self;
+        scan.answer.make_groups(alloc, by, watch)?;
+        Ok(scan)
     }
 
     /// The next rows, 65,536 or fewer, as a batch. Rows of one place come batch by batch of its
