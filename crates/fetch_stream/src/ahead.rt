@@ -11,7 +11,7 @@ ghost use Rattle.fetch_stream.specs.inside.MadeAhead.{AreAhead, GivesMade, Makes
 use crate::made::Made;
 use crate::parcel::Parcel;
 use crate::stream::FetchStream;
-use row_sources::{Patience, Turn};
+use row_sources::{Patience, Turn, given};
 use scan_base::Fault;
 use scan_exec::Scan;
 use std::alloc::{AllocError, Global};
@@ -186,11 +186,7 @@ fn make_next(
 ) -> Result<Turn<Made>, Fault>
     ensures { MakesNext patience stream.old.stream result stream.new.stream }
 {
-    let parcel = match stream.turn(alloc, patience)? {
-        Turn::Given(parcel) => parcel,
-        Turn::Working => return Ok(Turn::Working),
-        Turn::End => return Ok(Turn::End),
-    };
+    let parcel = given!(stream.turn(alloc, patience)?);
     let (given, taken) = (stream.given(), stream.taken());
     Ok(Turn::Given(Made {
         parcel,

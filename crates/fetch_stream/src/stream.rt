@@ -23,7 +23,7 @@ use arrays::Batch;
 use arrays::laws::batch_slices_keep_rows;
 use arrow_schema::Schema;
 use hash_seed::HashSeed;
-use row_sources::{Patience, Turn};
+use row_sources::{Patience, Turn, given};
 use scan_base::Fault;
 use scan_exec::GroupsBatches;
 use std::alloc::{AllocError, Global};
@@ -290,14 +290,9 @@ fn refill(
     if cutter.at < cutter.batch.rows() {
         return Ok(Turn::Given(()));
     }
-    match source.turn(alloc, patience)? {
-        Turn::Given(batch) => {
-            *cutter = Cutter::new(batch);
-            Ok(Turn::Given(()))
-        }
-        Turn::Working => Ok(Turn::Working),
-        Turn::End => Ok(Turn::End),
-    }
+    let batch = given!(source.turn(alloc, patience)?);
+    *cutter = Cutter::new(batch);
+    Ok(Turn::Given(()))
 }
 
 // A turn to the parcel of the next rows.
@@ -311,9 +306,6 @@ fn turn_of_rows(
     ensures { GivesRows patience cutter.old source.old result cutter.new source.new }
 {
     batch_slices_keep_rows();
-    match refill(writing.alloc, patience, cutter, source)? {
-        Turn::Given(_) => Ok(Turn::Given(cutter.next(writing, source.schema())?)),
-        Turn::Working => Ok(Turn::Working),
-        Turn::End => Ok(Turn::End),
-    }
+    given!(refill(writing.alloc, patience, cutter, source)?);
+    Ok(Turn::Given(cutter.next(writing, source.schema())?))
 }

@@ -12,6 +12,7 @@ ghost use Rattle.row_sources.specs.Running.{EndsAtChoice, FindsTurn, picked_of};
 ghost use Rattle.row_sources.specs.declared.turn.Patience.TheVariants.{Endless};
 
 use crate::choice::Choice;
+use crate::given;
 use crate::part::Part;
 use crate::picker::Picker;
 use crate::piece::Piece;
@@ -215,11 +216,7 @@ impl Joining {
                     return Ok(Turn::Working);
                 }
             } else {
-                match self.feed_next(left, looking)? {
-                    Turn::Given(_) => {}
-                    Turn::Working => return Ok(Turn::Working),
-                    Turn::End => return Ok(Turn::End),
-                }
+                given!(self.feed_next(left, looking)?);
             }
         }
     }
@@ -252,11 +249,7 @@ impl Joining {
                 looking.spend(batch.rows(), picker);
                 return Ok(Turn::Given(Piece { batch, number }));
             }
-            match self.feed_next(left, looking)? {
-                Turn::Given(_) => {}
-                Turn::Working => return Ok(Turn::Working),
-                Turn::End => return Ok(Turn::End),
-            }
+            given!(self.feed_next(left, looking)?);
         }
     }
 
@@ -301,18 +294,13 @@ impl Joining {
             (joined_at left.new self.new.joiner self.new.number) }
         ensures fewer { TakesLeft result (length left.old.ahead) (length left.new.ahead) }
     {
-        match left.turn(looking)? {
-            Turn::Given(piece) => {
-                self.number = piece.number;
-                self.joiner.feed(piece.batch);
-                if looking.is_over() {
-                    Ok(Turn::Working)
-                } else {
-                    Ok(Turn::Given(()))
-                }
-            }
-            Turn::Working => Ok(Turn::Working),
-            Turn::End => Ok(Turn::End),
+        let piece = given!(left.turn(looking)?);
+        self.number = piece.number;
+        self.joiner.feed(piece.batch);
+        if looking.is_over() {
+            Ok(Turn::Working)
+        } else {
+            Ok(Turn::Given(()))
         }
     }
 }

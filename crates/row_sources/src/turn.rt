@@ -18,6 +18,19 @@ pub enum Turn<T> {
     End,
 }
 
+/// What a turn gives. One that gives nothing is what the function gives that calls it: nothing yet,
+/// or the end.
+#[macro_export]
+macro_rules! given {
+    ($turn:expr) => {
+        match $turn {
+            $crate::Turn::Given(given) => given,
+            $crate::Turn::Working => return Ok($crate::Turn::Working),
+            $crate::Turn::End => return Ok($crate::Turn::End),
+        }
+    };
+}
+
 /// How many rows a turn looks at.
 #[derive(Clone, Copy, Drop)]
 pub enum Patience {

@@ -20,7 +20,7 @@ use arrow_schema::Schema;
 use batch_skipping::opened_lists;
 use hash_seed::HashSeed;
 use rewrite::laws::skipping_keeps_rows;
-use row_sources::{Patience, Reading, RowSource, Turn, WholePlan, opened_tables};
+use row_sources::{Patience, Reading, RowSource, Turn, WholePlan, given, opened_tables};
 use scan_base::Fault;
 use std::alloc::{AllocError, Global};
 use std::marker::Model;
@@ -296,15 +296,10 @@ fn turn_counted(
     ensures counts { CountsTurn patience (giving_at answer.old) given.old result
         (giving_at answer.new) given.new }
 {
-    match answer.turn(alloc, patience)? {
-        Turn::Given(batch) => {
-            if batch.rows() > MAX_ANSWER_ROWS - *given {
-                return Err(Fault::ResultTooLarge);
-            }
-            *given += batch.rows();
-            Ok(Turn::Given(batch))
-        }
-        Turn::Working => Ok(Turn::Working),
-        Turn::End => Ok(Turn::End),
+    let batch = given!(answer.turn(alloc, patience)?);
+    if batch.rows() > MAX_ANSWER_ROWS - *given {
+        return Err(Fault::ResultTooLarge);
     }
+    *given += batch.rows();
+    Ok(Turn::Given(batch))
 }
