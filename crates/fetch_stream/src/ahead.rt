@@ -11,20 +11,18 @@ ghost use Rattle.fetch_stream.specs.inside.MadeAhead.{AreAhead, GivesMade, Makes
 use crate::made::Made;
 use crate::parcel::Parcel;
 use crate::stream::FetchStream;
-use row_sources::{Patience, Turn};
+use row_sources::{Patience, Turn, given};
 use scan_base::Fault;
 use scan_exec::Scan;
 use std::alloc::{AllocError, Global};
 use std::collections::VecDeque;
 use std::marker::Model;
+use work_watch::pace::MOST_PIECE_ROWS;
 
 // How many parcels are made ahead, and how many bytes they have, before no more are.
 const MOST_MADE: usize = 16;
 
 const MOST_MADE_BYTES: usize = 8_388_608;
-
-// For how many rows a turn of the stream has patience, of those that make parcels ahead.
-const ROWS_AHEAD: usize = 65_536;
 
 // So many turns of a stream, and the patience of each.
 #[derive(Drop)]
@@ -153,7 +151,7 @@ impl<'s> Ahead<'s> {
     {
         let turns = Turns {
             alloc,
-            patience: Patience::Rows(ROWS_AHEAD),
+            patience: Patience::Rows(MOST_PIECE_ROWS),
             most: turns,
         };
         make_more(&turns, &mut self.made, &mut self.bytes, &mut self.rest)
@@ -188,11 +186,7 @@ fn make_next(
 ) -> Result<Turn<Made>, Fault>
     ensures { MakesNext patience stream.old.stream result stream.new.stream }
 {
-    let parcel = match stream.turn(alloc, patience)? {
-        Turn::Given(parcel) => parcel,
-        Turn::Working => return Ok(Turn::Working),
-        Turn::End => return Ok(Turn::End),
-    };
+    let parcel = given!(stream.turn(alloc, patience)?);
     let (given, taken) = (stream.given(), stream.taken());
     Ok(Turn::Given(Made {
         parcel,

@@ -10,13 +10,11 @@ ghost use Rattle.fetch_stream.specs.inside.Cut.{Cuts};
 
 use crate::message::{Writing, batch_parcel};
 use crate::parcel::Parcel;
+use array_select::MOST_BATCH_ROWS;
 use arrays::Batch;
 use arrays::laws::batch_slices_keep_rows;
 use arrow_schema::Schema;
 use std::alloc::AllocError;
-
-// The most rows of a message.
-const MOST_ROWS: usize = 65_536;
 
 // A batch that is cut into messages.
 pub(crate) struct Cutter {
@@ -46,7 +44,7 @@ impl Cutter {
         Cutter {
             batch,
             at: 0,
-            most: MOST_ROWS,
+            most: MOST_BATCH_ROWS,
         }
     }
 
@@ -71,7 +69,7 @@ impl Cutter {
             let slice = self.batch.slice(writing.alloc, self.at, end)?;
             if let Some(parcel) = batch_parcel(writing, schema, &slice)? {
                 self.at = end;
-                self.most = (rows * 2).min(MOST_ROWS);
+                self.most = (rows * 2).min(MOST_BATCH_ROWS);
                 return Ok(parcel);
             }
             rows /= 2;

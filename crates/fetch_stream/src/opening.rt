@@ -35,13 +35,8 @@ use std::alloc::{AllocError, Global};
 use std::marker::Model;
 use table_versions::{CatalogVersion, Snapshot};
 use typed_plan::{Output, Plan, TypedPlan};
+use work_watch::pace::{FEW_ROWS, TURN_ROWS};
 use work_watch::{Watches, comparisons_in};
-
-// How many rows of a place are joined or grouped in no time that shows.
-const FEW_ROWS: usize = 64;
-
-// After how many rows who watches long work looks at the client.
-const LOOKED_ROWS: usize = 1_048_576;
 
 // A query that is planned, the range of its first place that is scanned, and what the hashes of its
 // keys begin with.
@@ -251,7 +246,7 @@ impl PlannedScan {
     // Whether its batches are judged for long, or it joins or makes groups, and a place has more
     // than a few rows.
     fn takes_long(&self) -> bool {
-        judging_rows(&self.plan) > LOOKED_ROWS || self.makes_much()
+        judging_rows(&self.plan) > TURN_ROWS || self.makes_much()
     }
 
     // Whether it joins or makes groups, and a place has more than a few rows.

@@ -10,11 +10,8 @@ use scan_base::Fault;
 use scan_exec::{FedPart, GroupWork};
 use scan_workers::{Answers, NextAnswer, Reads, Work};
 use std::alloc::Global;
+use work_watch::pace::TURN_ROWS;
 use work_watch::{Watches, tell};
-
-// How many rows a turn of a worker looks at, where a row counts as often as filters compare in it.
-// Where a part ends or has no more to do, a turn is over too, so no more rows are told than count.
-const TURN_ROWS: usize = 1_048_576;
 
 // Parts of the batches as morsels, each answered by its groups. A worker feeds some of its rows
 // ahead, turn by turn.
@@ -118,7 +115,8 @@ fn merge_parts<'t, P: Answers<Result<FedPart<'t>, Fault>>, L: Watches>(
 }
 
 // The part that is answered next, or none after the last one. After each turn of its worker, who
-// watches may end it. So many rows of turns are untold.
+// watches may end it. So many rows of turns are untold: where a part ends or has no more to do, a
+// turn is over too, and no more rows are told than count.
 fn next_part<'t, P: Answers<Result<FedPart<'t>, Fault>>, L: Watches>(
     answers: &mut P,
     untold: &mut usize,

@@ -32,9 +32,7 @@ use row_sources::{Patience, Turn};
 use scan_base::Fault;
 use std::alloc::{AllocError, Global};
 use work_watch::Watches;
-
-// How many rows are looked at before it is looked whether the client is still there.
-const LOOKED_ROWS: usize = 1_048_576;
+use work_watch::pace::TURN_ROWS;
 
 /// Writes an answer: each payload in a Message, of which a large part is not copied, and then the
 /// Status. Where it is small it is one write. The payloads of a parcel of a stream are sent before
@@ -289,7 +287,7 @@ impl<'w, 'o, W: Output> Watches for Watching<'w, 'o, W> {
 
     fn goes_on(&mut self, rows: usize) -> bool {
         self.rows = self.rows.saturating_add(rows);
-        if self.rows < LOOKED_ROWS {
+        if self.rows < TURN_ROWS {
             return true;
         }
         self.rows = 0;
@@ -454,7 +452,7 @@ fn patience_of(looks: u64) -> Patience
     if looks == 0 {
         return Patience::Endless;
     }
-    Patience::Rows(LOOKED_ROWS)
+    Patience::Rows(TURN_ROWS)
 }
 
 /// Writes the Status of a fault that ends the connection.

@@ -17,10 +17,8 @@ use first_rows::FirstRows;
 use group_slots::{ItemTallies, Tally, widened};
 use std::alloc::{AllocError, Global};
 use typed_plan::Aggregate;
+use work_watch::pace::MOST_PIECE_ROWS;
 use work_watch::{Watches, tell};
-
-// After so many groups that joined, who watches is told of them.
-const PIECE_GROUPS: usize = 65_536;
 
 /// The tallies of other groups, and the group that each joins. How many groups were found in all,
 /// and how many rows were fed here and there.
@@ -108,8 +106,8 @@ fn tell_piece<W: Watches>(watch: &mut W, place: usize, weight: usize) -> Result<
     ensures ready { OnOk result (W.ready watch.new) }
     ensures watched { W.watched watch.old watch.new }
 {
-    if place % PIECE_GROUPS == PIECE_GROUPS - 1 {
-        return tell(watch, weight.saturating_mul(PIECE_GROUPS));
+    if place % MOST_PIECE_ROWS == MOST_PIECE_ROWS - 1 {
+        return tell(watch, weight.saturating_mul(MOST_PIECE_ROWS));
     }
     Ok(())
 }

@@ -11,10 +11,8 @@ use crate::right_rows::RightRows;
 use crate::rights::Rights;
 use crate::seen::SeenRows;
 use std::alloc::{AllocError, Global};
+use work_watch::pace::MOST_PIECE_ROWS;
 use work_watch::{Watches, tell};
-
-// After so many rows who watches may end the work.
-const WATCHED_ROWS: usize = 65_536;
 
 // For each bucket the first row of its chain, and for each row the next of its chain, in rising
 // order; the number of rows where there is none. A row with a null in its key stands in no chain.
@@ -145,7 +143,7 @@ impl OpenChains {
         let mut from = rights.places.len();
         while from > 0 {
             let to = from;
-            from = to.saturating_sub(WATCHED_ROWS);
+            from = to.saturating_sub(MOST_PIECE_ROWS);
             self.link_rows(rights, from, to);
             tell(watch, rights.weighted_rows(to - from))?;
         }
@@ -209,7 +207,7 @@ impl OpenRepeats {
         let mut to = 0;
         while to < rows {
             let from = to;
-            to = rows.min(from + WATCHED_ROWS);
+            to = rows.min(from + MOST_PIECE_ROWS);
             self.look_at_rows(rights, links, from, to);
             tell(watch, rights.weighted_rows(to - from))?;
         }

@@ -7,18 +7,13 @@ ghost use Rattle.row_sources.specs.Picked.{Picks};
 
 use crate::columns::{gather_of, slice_of};
 use crate::part::Part;
-use array_select::{MOST_BATCH_ROWS, Selection};
+use array_select::Selection;
 use arrays::Batch;
 use kernels::Columns;
 use scan_base::Predicate;
 use std::alloc::{AllocError, Global};
 use work_watch::comparisons_in;
-
-// How many comparisons filters make at once: some tenths of a second where each takes long.
-const MOST_COMPARISONS: usize = 4_194_304;
-
-// How many rows filters look at at once, at least.
-const LEAST_ROWS: usize = 64;
+use work_watch::pace::{LEAST_PIECE_ROWS, MOST_PIECE_ROWS, PIECE_COMPARISONS};
 
 /// Which rows of a source are given, and which of their columns.
 pub struct Picker {
@@ -87,9 +82,9 @@ impl Picker {
         ensures some { 1 ≤ result }
         ensures few { result ≤ most_batch_rows }
     {
-        (MOST_COMPARISONS / self.weight())
-            .max(LEAST_ROWS)
-            .min(MOST_BATCH_ROWS)
+        (PIECE_COMPARISONS / self.weight())
+            .max(LEAST_PIECE_ROWS)
+            .min(MOST_PIECE_ROWS)
     }
 
     /// The numbers in their batch of those rows of a part that the filters let through, in order,

@@ -12,16 +12,18 @@ ghost use Rattle.row_sources.specs.Running.{EndsAtChoice, FindsTurn, picked_of};
 ghost use Rattle.row_sources.specs.declared.turn.Patience.TheVariants.{Endless};
 
 use crate::choice::Choice;
+use crate::given;
 use crate::part::Part;
 use crate::picker::Picker;
 use crate::piece::Piece;
 use crate::place::PlaceRows;
 use crate::turn::{Looking, Patience, Turn};
-use array_select::{MOST_BATCH_ROWS, Selection};
+use array_select::Selection;
 use join_batches::Joiner;
 use std::alloc::{AllocError, Global};
 use std::marker::Model;
 use std::sync::Arc;
+use work_watch::pace::MOST_PIECE_ROWS;
 
 /// Rows that are still to be given, piece by piece: those of a place, or joined ones. A contract
 /// sees the types of their columns, the rows, each with the number of the batch of the first place
@@ -214,11 +216,7 @@ impl Joining {
                     return Ok(Turn::Working);
                 }
             } else {
-                match self.feed_next(left, looking)? {
-                    Turn::Given(_) => {}
-                    Turn::Working => return Ok(Turn::Working),
-                    Turn::End => return Ok(Turn::End),
-                }
+                given!(self.feed_next(left, looking)?);
             }
         }
     }
@@ -251,11 +249,7 @@ impl Joining {
                 looking.spend(batch.rows(), picker);
                 return Ok(Turn::Given(Piece { batch, number }));
             }
-            match self.feed_next(left, looking)? {
-                Turn::Given(_) => {}
-                Turn::Working => return Ok(Turn::Working),
-                Turn::End => return Ok(Turn::End),
-            }
+            given!(self.feed_next(left, looking)?);
         }
     }
 
@@ -276,7 +270,7 @@ impl Joining {
         if self.joiner.find(alloc)? {
             return Ok(Turn::Working);
         }
-        let patience = Patience::Rows(MOST_BATCH_ROWS);
+        let patience = Patience::Rows(MOST_PIECE_ROWS);
         let mut further = Looking { alloc, patience };
         if let Turn::End = self.feed_next(left, &mut further)? {
             return Ok(Turn::End);
@@ -300,18 +294,13 @@ impl Joining {
             (joined_at left.new self.new.joiner self.new.number) }
         ensures fewer { TakesLeft result (length left.old.ahead) (length left.new.ahead) }
     {
-        match left.turn(looking)? {
-            Turn::Given(piece) => {
-                self.number = piece.number;
-                self.joiner.feed(piece.batch);
-                if looking.is_over() {
-                    Ok(Turn::Working)
-                } else {
-                    Ok(Turn::Given(()))
-                }
-            }
-            Turn::Working => Ok(Turn::Working),
-            Turn::End => Ok(Turn::End),
+        let piece = given!(left.turn(looking)?);
+        self.number = piece.number;
+        self.joiner.feed(piece.batch);
+        if looking.is_over() {
+            Ok(Turn::Working)
+        } else {
+            Ok(Turn::Given(()))
         }
     }
 }

@@ -15,14 +15,12 @@ ghost use Rattle.row_stream.specs.inside.Frames.{written_frame};
 use crate::cutting::some_cut;
 use crate::dresser::Dresser;
 use crate::message::{Parcel, Ready};
+use array_select::MOST_BATCH_ROWS;
 use arrays::Batch;
 use bytes::Bytes;
 use grpc_frame::{Outbox, Output};
 use ipc_batch::WrittenMessage;
 use scan_base::Fault;
-
-// The most rows of a cut. After one of few rows, the next one may have twice as many.
-const MOST_ROWS: usize = 65_536;
 
 // A header of eight bytes is announced, and four of them come.
 const UNFINISHED: [u8; 12] = [0xff, 0xff, 0xff, 0xff, 8, 0, 0, 0, 0, 0, 0, 0];
@@ -205,7 +203,7 @@ pub(crate) fn send_batch<W: Output>(
 {
     let rows = batch.rows();
     let mut at = 0;
-    let mut most = MOST_ROWS;
+    let mut most = MOST_BATCH_ROWS;
     while at < rows {
         let cut = match some_cut(dresser, batch, at, most) {
             Ok(cut) => cut,
@@ -215,7 +213,7 @@ pub(crate) fn send_batch<W: Output>(
             }
         };
         send_parcel(writer, outbox, &cut.parcel)?;
-        most = ((cut.end - at) * 2).min(MOST_ROWS);
+        most = ((cut.end - at) * 2).min(MOST_BATCH_ROWS);
         at = cut.end;
     }
     Ok(())

@@ -1,5 +1,5 @@
 -- A scan as contracts see it.
-use Rattle.std.proofs.Common.{◌≡◌, ◌≤◌, ◌<◌, ◌⊎◌, inl, inr, ℕ, zero, suc, ◌+◌, ◌-◌, ◌==◌, true, List, [], ◌∷◌, ◌++◌, length, map, take, drop, get_or, Option, Some, None, option_map, Ok, Err, refl, sym, ap, ◌∙◌, subst, arith, length-append, length-drop, length-take}
+use Rattle.std.proofs.Common.{◌≡◌, ◌≤◌, ◌<◌, ◌⊎◌, inl, inr, ℕ, zero, suc, ◌+◌, ◌-◌, ◌==◌, true, List, [], ◌∷◌, ◌++◌, length, map, take, drop, get_or, Option, Some, None, option_map, Result, Ok, Err, refl, sym, ap, ◌∙◌, subst, arith, length-append, length-drop, length-take}
 use Rattle.std.specs.List.{last_or, list_all, range_with_len}
 use Rattle.std.proofs.lemmas.Bool.{and_parts, eqb-true}
 use Rattle.std.proofs.lemmas.List.{map-append, length-map, take_all}
@@ -14,7 +14,8 @@ use Rattle.scan_base.specs.declared.fault.Fault.TheVariants.{OutOfMemory, Result
 use Rattle.table_versions.specs.Table.{Row}
 use Rattle.table_versions.proofs.Rowing.{length-rows_of}
 use Rattle.row_sources.specs.declared.piece.Piece.{Piece}
-use Rattle.scan_exec.specs.Giving.{GivingAt, GivingOn, IsOfLast, GivesBatch, GivesNone, GivesNoneYet, of_rows}
+use Rattle.std.specs.declared.alloc.AllocError.{AllocError}
+use Rattle.scan_exec.specs.Giving.{GivingAt, GivingOn, IsOfLast, GivesBatch, GivesNone, GivesNoneYet, MakesReady, of_rows}
 use Rattle.scan_exec.specs.Answering.{CountsNext, CountsTurn, IsScan, number_in, renumbered, scan_at}
 use Rattle.row_sources.specs.Running.{RowsAt, FindsPiece, FindsNone, Ends, LooksOn}
 use Rattle.row_sources.specs.declared.turn.Patience.{Patience}
@@ -250,6 +251,11 @@ module _ (schema : Schema) (batches : List (ℕ × ℕ)) (further : ℕ) (before
     front = on.opened;
     few = few;
   }
+
+-- what is made before the first row goes on over the same batches
+pub ready_on : (before after : GivingAt) (result : Result (Unit {0}) AllocError) → MakesReady before result after → GivingOn before after
+ready_on before after (Ok _) ready = ready.on
+ready_on before after (Err refused) on = on
 
 -- a batch has no more rows than there are to be given
 pub batch_few : (before : GivingAt) (batch : BatchAt) (after : GivingAt) → GivesBatch before batch after → batch.rows ≤ length before.ahead

@@ -13,7 +13,7 @@ use crate::grouped::{GroupedRows, Stage, Wanted};
 use crate::shown_groups::ShownGroups;
 use arrays::Batch;
 use hash_seed::HashSeed;
-use row_sources::{Looking, Patience, RowSource, Rows, Turn, UnfilteredRows};
+use row_sources::{Looking, Patience, RowSource, Rows, Turn, UnfilteredRows, given};
 use std::alloc::{AllocError, Global};
 use typed_plan::Output;
 use work_watch::Watches;
@@ -94,11 +94,8 @@ fn turn_of_rows(
     ensures { GivesTurn patience (of_rows rows.old) result (of_rows rows.new) }
 {
     let mut looking = Looking { alloc, patience };
-    match rows.turn(&mut looking)? {
-        Turn::Given(piece) => Ok(Turn::Given(piece.batch)),
-        Turn::Working => Ok(Turn::Working),
-        Turn::End => Ok(Turn::End),
-    }
+    let piece = given!(rows.turn(&mut looking)?);
+    Ok(Turn::Given(piece.batch))
 }
 
 // What a result takes of the rows of a source. Rows that are grouped are read without their

@@ -17,14 +17,8 @@ use row_sources::{Part, Picker};
 use scan_base::Fault;
 use std::alloc::Global;
 use std::marker::Model;
+use work_watch::pace::{GROUPED_ROWS, TURN_ROWS};
 use work_watch::{Watches, tell};
-
-// How many rows a turn of feeding looks at, and after them those of the slice in hand.
-const TURN_ROWS: usize = 1_048_576;
-
-// How many rows of a batch are looked at at once, at most: those that are chosen, and their groups,
-// lie in a near cache.
-const FED_ROWS: usize = 16_384;
 
 /// What is grouped: those rows of batches that filters let through.
 #[derive(Clone, Copy, Drop)]
@@ -153,7 +147,7 @@ impl<'t> GroupWork<'t> {
             to,
             pace: Pace {
                 weight: self.picker.weight(),
-                rows: self.picker.most_rows().min(FED_ROWS),
+                rows: self.picker.most_rows().min(GROUPED_ROWS),
             },
             selection: Selection::new(alloc),
         })

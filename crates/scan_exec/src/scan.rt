@@ -20,7 +20,7 @@ use arrow_schema::Schema;
 use batch_skipping::opened_lists;
 use hash_seed::HashSeed;
 use rewrite::laws::skipping_keeps_rows;
-use row_sources::{Patience, Reading, RowSource, Turn, WholePlan, opened_tables};
+use row_sources::{Patience, Reading, RowSource, Turn, WholePlan, given, opened_tables};
 use scan_base::Fault;
 use std::alloc::{AllocError, Global};
 use std::marker::Model;
@@ -29,8 +29,8 @@ use std::sync::Arc;
 use typed_plan::TypedPlan;
 use work_watch::{Unwatched, Watches};
 
-// How many rows an answer has at most.
-const MAX_ANSWER_ROWS: usize = 67_108_864;
+/// How many rows an answer has at most.
+pub const MAX_ANSWER_ROWS: usize = 67_108_864;
 
 /// What a plan gives of a range of its first place's rows, still to be given, batch by batch. A
 /// contract sees these rows, each with the batch of the first place of which it comes; which
@@ -173,23 +173,9 @@ impl Scan {
         ensures ready { OnOk result (W.ready watch.new) }
         ensures watched { W.watched watch.old watch.new }
     {
-        let Scan {
-            schema,
-            mut answer,
-            batches,
-            further,
-            given,
-            refused,
-        } = self;
-        answer.make_groups(alloc, by, watch)?;
-        Ok(Scan {
-            schema,
-            answer,
-            batches,
-            further,
-            given,
-            refused,
-        })
+        let mut scan = self;
+        scan.answer.make_groups(alloc, by, watch)?;
+        Ok(scan)
     }
 
     /// The next rows, 65,536 or fewer, as a batch. Rows of one place come batch by batch of its
@@ -310,15 +296,10 @@ fn turn_counted(
     ensures counts { CountsTurn patience (giving_at answer.old) given.old result
         (giving_at answer.new) given.new }
 {
-    match answer.turn(alloc, patience)? {
-        Turn::Given(batch) => {
-            if batch.rows() > MAX_ANSWER_ROWS - *given {
-                return Err(Fault::ResultTooLarge);
-            }
-            *given += batch.rows();
-            Ok(Turn::Given(batch))
-        }
-        Turn::Working => Ok(Turn::Working),
-        Turn::End => Ok(Turn::End),
+    let batch = given!(answer.turn(alloc, patience)?);
+    if batch.rows() > MAX_ANSWER_ROWS - *given {
+        return Err(Fault::ResultTooLarge);
     }
+    *given += batch.rows();
+    Ok(Turn::Given(batch))
 }

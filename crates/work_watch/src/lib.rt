@@ -1,6 +1,7 @@
-//! Who watches long work, and what a row of it costs.
+//! Who watches long work, how often, and what a row of it costs.
 #![tactic(auto)]
 
+pub mod pace;
 pub mod watch;
 mod weight;
 

@@ -91,8 +91,8 @@ Joining::turn-loop-batch-smaller t c =
     let first = joined_at c.args.left.now c.args.self.now.joiner c.args.self.now.number in
     let before = joined_at c.loop-batch.left joiner c.loop-batch.self.number in
     let after = joined_at c.feed_next.new.left c.feed_next.new.self.joiner c.feed_next.new.self.number in
-    let found = rw (none.1, c.in_ok-feed_next.was, c.in-Given.is) at c.feed_next.ensures.feeds in
-    let fewer : length c.feed_next.new.left.ahead < length c.loop-batch.left.ahead = rw (c.in_ok-feed_next.was, c.in-Given.is) at c.feed_next.ensures.fewer in
+    let found = rw (none.1, c.in_ok-given.was, c.in-Given.is) at c.feed_next.ensures.feeds in
+    let fewer : length c.feed_next.new.left.ahead < length c.loop-batch.left.ahead = rw (c.in_ok-given.was, c.in-Given.is) at c.feed_next.ensures.fewer in
     let same : length before.ahead ≡ length after.ahead = ap length found.same in
     omega (arith, fewer, same)
 
@@ -104,7 +104,7 @@ Joining::turn-loop-batch-preserved t c =
     let first = joined_at c.args.left.now c.args.self.now.joiner c.args.self.now.number in
     let before = joined_at c.loop-batch.left joiner c.loop-batch.self.number in
     let after = joined_at c.feed_next.new.left c.feed_next.new.self.joiner c.feed_next.new.self.number in
-    let found = rw (none.1, c.in_ok-feed_next.was, c.in-Given.is) at c.feed_next.ensures.feeds in
+    let found = rw (none.1, c.in_ok-given.was, c.in-Given.is) at c.feed_next.ensures.feeds in
     record {
       is = c.feed_next.ensures.joined;
       goes = on_and_on first before after is.goes found.on;
@@ -122,7 +122,7 @@ Joining::turn-returns-in-Working-clause-found t c =
     let first = joined_at c.args.left.now c.args.self.now.joiner c.args.self.now.number in
     let before = joined_at c.loop-batch.left joiner c.loop-batch.self.number in
     let after = joined_at c.feed_next.new.left c.feed_next.new.self.joiner c.feed_next.new.self.number in
-    let found = rw (none.1, c.in_ok-feed_next.was, c.in-Working.is) at c.feed_next.ensures.feeds in (
+    let found = rw (none.1, c.in_ok-given.was, c.in-Working.is) at c.feed_next.ensures.feeds in (
       picks_none (pick_of c.args.picker.now) first before after is.goes is.rows is.seen found.0,
       ((λ e. found.1.0 (is.endless e)), λ no. let fewer = found.1.1 (λ e. no (is.choice e)) in omega (arith, is.seen, fewer)),
     )
@@ -135,7 +135,7 @@ Joining::turn-returns-in-End-clause-found t c =
     let first = joined_at c.args.left.now c.args.self.now.joiner c.args.self.now.number in
     let before = joined_at c.loop-batch.left joiner c.loop-batch.self.number in
     let after = joined_at c.feed_next.new.left c.feed_next.new.self.joiner c.feed_next.new.self.number in
-    let found = rw (none.1, c.in_ok-feed_next.was, c.in-End.is) at c.feed_next.ensures.feeds in
+    let found = rw (none.1, c.in_ok-given.was, c.in-End.is) at c.feed_next.ensures.feeds in
     picks_end (pick_of c.args.picker.now) first before after is.goes is.rows found
 
 -- ---- without filters
@@ -170,8 +170,8 @@ Joining::turn_shown-loop-batch-smaller t c =
     let first = joined_at c.args.left.now c.args.self.now.joiner c.args.self.now.number in
     let before = joined_at c.loop-batch.left joiner c.loop-batch.self.number in
     let after = joined_at c.feed_next.new.left c.feed_next.new.self.joiner c.feed_next.new.self.number in
-    let found = rw (none.1, c.in_ok-feed_next.was, c.in-Given.is) at c.feed_next.ensures.feeds in
-    let fewer : length c.feed_next.new.left.ahead < length c.loop-batch.left.ahead = rw (c.in_ok-feed_next.was, c.in-Given.is) at c.feed_next.ensures.fewer in
+    let found = rw (none.1, c.in_ok-given.was, c.in-Given.is) at c.feed_next.ensures.feeds in
+    let fewer : length c.feed_next.new.left.ahead < length c.loop-batch.left.ahead = rw (c.in_ok-given.was, c.in-Given.is) at c.feed_next.ensures.fewer in
     let same : length before.ahead ≡ length after.ahead = ap length found.same in
     omega (arith, fewer, same)
 
@@ -183,7 +183,7 @@ Joining::turn_shown-loop-batch-preserved t c =
     let first = joined_at c.args.left.now c.args.self.now.joiner c.args.self.now.number in
     let before = joined_at c.loop-batch.left joiner c.loop-batch.self.number in
     let after = joined_at c.feed_next.new.left c.feed_next.new.self.joiner c.feed_next.new.self.number in
-    let found = rw (none.1, c.in_ok-feed_next.was, c.in-Given.is) at c.feed_next.ensures.feeds in
+    let found = rw (none.1, c.in_ok-given.was, c.in-Given.is) at c.feed_next.ensures.feeds in
     record {
       is = c.feed_next.ensures.joined;
       goes = on_and_on first before after is.goes found.on;
@@ -201,7 +201,7 @@ Joining::turn_shown-returns-in-Working-clause-found t c =
     let first = joined_at c.args.left.now c.args.self.now.joiner c.args.self.now.number in
     let before = joined_at c.loop-batch.left joiner c.loop-batch.self.number in
     let after = joined_at c.feed_next.new.left c.feed_next.new.self.joiner c.feed_next.new.self.number in
-    let found = rw (none.1, c.in_ok-feed_next.was, c.in-Working.is) at c.feed_next.ensures.feeds in (
+    let found = rw (none.1, c.in_ok-given.was, c.in-Working.is) at c.feed_next.ensures.feeds in (
       picks_none (pick_of c.args.picker.now) first before after is.goes is.rows is.seen found.0,
       ((λ e. found.1.0 (is.endless e)), λ no. let fewer = found.1.1 (λ e. no (is.choice e)) in omega (arith, is.seen, fewer)),
     )
@@ -214,7 +214,7 @@ Joining::turn_shown-returns-in-End-clause-found t c =
     let first = joined_at c.args.left.now c.args.self.now.joiner c.args.self.now.number in
     let before = joined_at c.loop-batch.left joiner c.loop-batch.self.number in
     let after = joined_at c.feed_next.new.left c.feed_next.new.self.joiner c.feed_next.new.self.number in
-    let found = rw (none.1, c.in_ok-feed_next.was, c.in-End.is) at c.feed_next.ensures.feeds in
+    let found = rw (none.1, c.in_ok-given.was, c.in-End.is) at c.feed_next.ensures.feeds in
     picks_end (pick_of c.args.picker.now) first before after is.goes is.rows found
 
 -- ---- a left batch
@@ -223,11 +223,11 @@ pub Joining::feed_next-returns-then-is_over-clause-feeds : goal.Joining::feed_ne
 Joining::feed_next-returns-then-is_over-clause-feeds t c =
     let left = c.args.left.now in
     let self = c.args.self.now in
-    let finds : FindsPiece left c.in-Given.piece c.turn.new.self = rw (c.in_ok-piece.was, c.in-Given.is) at c.turn.ensures.found in (
-      rw c.feed.ensures (fed_none left self.joiner self.number c.in-Given.piece c.turn.new.self c.requires.none finds),
+    let finds : FindsPiece left c.in-Given.given c.turn.new.self = rw (c.in_ok-given.was, c.in-Given.is) at c.turn.ensures.found in (
+      rw c.feed.ensures (fed_none left self.joiner self.number c.in-Given.given c.turn.new.self c.requires.none finds),
       (
         has_end c.args.looking.now.patience c.turn.new.looking.patience c.is_over.result c.turn.ensures.endless c.is_over.ensures.endless c.if-is_over.true,
-        λ _. rw c.feed.ensures (fed_looked left self.joiner self.number c.in-Given.piece c.turn.new.self c.requires.none finds),
+        λ _. rw c.feed.ensures (fed_looked left self.joiner self.number c.in-Given.given c.turn.new.self c.requires.none finds),
       ),
     )
 
@@ -235,19 +235,19 @@ pub Joining::feed_next-returns-else-is_over-clause-feeds : goal.Joining::feed_ne
 Joining::feed_next-returns-else-is_over-clause-feeds t c =
     let left = c.args.left.now in
     let self = c.args.self.now in
-    let finds : FindsPiece left c.in-Given.piece c.turn.new.self = rw (c.in_ok-piece.was, c.in-Given.is) at c.turn.ensures.found in
-    rw c.feed.ensures (fed_none left self.joiner self.number c.in-Given.piece c.turn.new.self c.requires.none finds)
+    let finds : FindsPiece left c.in-Given.given c.turn.new.self = rw (c.in_ok-given.was, c.in-Given.is) at c.turn.ensures.found in
+    rw c.feed.ensures (fed_none left self.joiner self.number c.in-Given.given c.turn.new.self c.requires.none finds)
 
 pub Joining::feed_next-returns-else-is_over-clause-fewer : goal.Joining::feed_next-returns-else-is_over-clause-fewer
 Joining::feed_next-returns-else-is_over-clause-fewer t c =
     let left = c.args.left.now in
     let self = c.args.self.now in
-    let finds : FindsPiece left c.in-Given.piece c.turn.new.self = rw (c.in_ok-piece.was, c.in-Given.is) at c.turn.ensures.found in
-    fed_fewer left self.joiner self.number c.in-Given.piece c.turn.new.self c.requires.none finds
+    let finds : FindsPiece left c.in-Given.given c.turn.new.self = rw (c.in_ok-given.was, c.in-Given.is) at c.turn.ensures.found in
+    fed_fewer left self.joiner self.number c.in-Given.given c.turn.new.self c.requires.none finds
 
 pub Joining::feed_next-returns-in-Working-clause-feeds : goal.Joining::feed_next-returns-in-Working-clause-feeds
 Joining::feed_next-returns-in-Working-clause-feeds t c =
-    let finds = rw (c.in_ok-piece.was, c.in-Working.is) at c.turn.ensures.found in
+    let finds = rw (c.in_ok-given.was, c.in-Working.is) at c.turn.ensures.found in
     let left = c.args.left.now in
     let self = c.args.self.now in (
       left_none left self.joiner self.number c.turn.new.self c.requires.none finds.0,
