@@ -21,7 +21,7 @@ pub mod slots;
 mod text_checks;
 mod text_parts;
 pub mod texts;
-mod validity;
+pub mod validity;
 
 pub use crate::batch::Batch;
 pub use crate::bools::Bools;
@@ -37,3 +37,4 @@ pub use crate::nulls::{Nulls, is_null};
 pub use crate::numbers::{are_bytes, byte_width};
 pub use crate::slots::{Slots, Values};
 pub use crate::texts::{Texts, TextsRef};
+pub use crate::validity::Validity;

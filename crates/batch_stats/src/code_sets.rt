@@ -5,7 +5,6 @@ ghost use Rattle.arrays.specs.Number.{byte_width};
 ghost use Rattle.batch_stats.specs.inside.CodeSets.{HasLast, HasMark, HasSorted};
 
 use crate::codes::Code;
-use crate::validity::is_valid;
 use arrays::Indices;
 use std::alloc::{AllocError, Global};
 
@@ -150,7 +149,7 @@ fn codes_of<C: Code>(
     let _count = cells.len();
     let mut codes = Vec::with_capacity(alloc, to - from)?;
     for place in from..to {
-        if is_valid(cells.validity(), place) {
+        if cells.validity().is_valid(place) {
             codes.push(C::code(cells.values(), place))?;
         }
     }

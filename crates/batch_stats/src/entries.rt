@@ -9,7 +9,7 @@ ghost use Rattle.batch_stats.specs.inside.Slots.{IsFirstValid};
 use crate::code_sets::{CodeSet, LastCodes, MOST_LAST, MarkedCodes, SortedCodes};
 use crate::codes::Code;
 use crate::stats::Stats;
-use crate::validity::{first_valid, is_valid};
+use crate::validity::first_valid;
 use arrays::{Cells, Column, Indices};
 use arrow_schema::IntegerType;
 use std::alloc::Global;
@@ -36,7 +36,7 @@ fn stats_with<C: Code, S: CodeSet>(
     let mut stats = Stats::Nulls.with_slot(column, start - first);
     known.insert(C::code(cells.values(), start));
     for place in start + 1..to {
-        if is_valid(cells.validity(), place) && known.insert(C::code(cells.values(), place)) {
+        if cells.validity().is_valid(place) && known.insert(C::code(cells.values(), place)) {
             stats = stats.with_slot(column, place - first);
         }
     }

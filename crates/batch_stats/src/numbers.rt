@@ -4,28 +4,27 @@ ghost use Rattle.std.specs.Prelude.{◌≡◌, ◌≤◌, ◌<◌, ◌+◌, ◌*
 ghost use Rattle.scan_base.specs.declared.value.Value.TheVariants.{Int};
 ghost use Rattle.arrays.specs.Column.{ColumnAt};
 ghost use Rattle.arrays.specs.Number.{element_at};
-ghost use Rattle.arrays.specs.Validity.{where_valid};
+ghost use Rattle.arrays.specs.Validity.{where_valid, HasBits};
 ghost use Rattle.arrays.specs.declared.layout.Layout.TheVariants.{Integers as IntegersLayout};
 ghost use Rattle.arrays.specs.declared.layout.Layout.TheVariants.{Decimals as DecimalsLayout};
 ghost use Rattle.batch_stats.specs.Held.{ends_held, AreSlots, IsStatsOf};
 ghost use Rattle.batch_stats.specs.Stats.{with_value};
-ghost use Rattle.batch_stats.specs.inside.Slots.{ends_with, HasBits};
+ghost use Rattle.batch_stats.specs.inside.Slots.{ends_with};
 
 use crate::stats::Stats;
-use crate::validity::{first_valid, is_valid};
+use crate::validity::first_valid;
 use crate::wide::Wide;
-use arrays::{Decimals, Integers};
+use arrays::{Decimals, Integers, Validity};
 use arrow_schema::IntegerType;
-use bitmap::Bits;
 
 // How many slots are looked at together, where there are bits.
 const BLOCK_LEN: usize = 64;
 
-/// Packed numbers in slots, and where there may be nulls the bits that say which slots are valid.
+/// Packed numbers in slots, and which of the slots are valid.
 #[derive(Clone, Copy, Drop)]
 pub(crate) struct Packed<'a> {
     pub(crate) values: &'a [u8],
-    pub(crate) validity: &'a Option<Bits>,
+    pub(crate) validity: &'a Validity,
 }
 
 /// The least and the greatest of some numbers.
@@ -107,7 +106,7 @@ impl<E: Wide> NumberRange<E> {
         let mut range = self;
         for place in from..to {
             let number = E::read(packed.values, place);
-            if !range.has(number) && is_valid(packed.validity, place) {
+            if !range.has(number) && packed.validity.is_valid(place) {
                 range = range.with(number);
             }
         }
@@ -157,7 +156,7 @@ impl<E: Wide> NumberRange<E> {
             (where_valid packed.now.validity.now (λ place.
             Int (E.value (E.of_bits (element_at E.WIDTH packed.now.values.now place))))) from to }
     {
-        match packed.validity {
+        match packed.validity.bits() {
             None => self.with_all(packed.values, from, to),
             Some(_) => self.with_valid(packed, from, to),
         }

@@ -19,7 +19,7 @@ ghost use Rattle.dictionary_answers.specs.inside.Table.{AreMet, IsTable};
 
 use crate::coding::{Coded, NO_PLACE, Stop};
 use crate::found::Found;
-use crate::indices::{Block, IndexColumn, IndexElement, is_valid, valid_index};
+use crate::indices::{Block, IndexColumn, IndexElement, valid_index};
 use crate::packed::{put_number, unpack_numbers, zeros};
 use arrays::{Cells, Column, Indices, Layout};
 use arrow_schema::IntegerType;
@@ -364,7 +364,7 @@ fn near_place<'t, E: IndexElement>(
         (layout_slot (layout.Indices cells.now) slot ∷ []))) }
 {
     let _slots = cells.len();
-    if !is_valid(cells, slot) {
+    if !cells.validity().is_valid(slot) {
         return Ok(NO_PLACE);
     }
     let index = E::index_at(cells.values(), slot);

@@ -3,14 +3,12 @@
 ghost use Rattle.std.specs.Prelude.{◌≡◌, ◌≤◌, ◌<◌, ◌+◌, ◌*◌, ℕ, None, MatchOption, get_or, length};
 ghost use Rattle.std.specs.Prelude.{slice_get};
 ghost use Rattle.scan_base.specs.declared.value.Value.TheVariants.{Null};
-ghost use Rattle.arrays.specs.Number.{element_at, integer_at};
-ghost use Rattle.arrays.specs.Validity.{is_valid};
+ghost use Rattle.arrays.specs.Number.{element_at};
 ghost use Rattle.arrays.specs.Indices.{entry_of};
 ghost use Rattle.arrays.specs.Layout.{layout_slot};
 ghost use Rattle.arrays.specs.declared.layout.Layout.TheVariants as layout;
 
 use arrays::{Column, Element, Indices};
-use arrow_schema::IntegerType;
 
 /// A column whose slots are indices, and these slots.
 #[derive(Drop)]
@@ -79,24 +77,14 @@ pub(crate) fn valid_index(cells: &Indices<'_>, slot: usize) -> Option<usize>
         × (layout_slot (layout.Indices cells.now) slot
         ≡ get_or (cells.now).dictionary index Null)) }
 {
-    if is_valid(cells, slot) {
+    let _count = cells.len();
+    if cells.validity().is_valid(slot) {
         index_at(cells, slot)
     } else {
         None
     }
 }
 
-/// Whether the validity bit of a slot says that it is valid.
-pub(crate) fn is_valid(cells: &Indices<'_>, slot: usize) -> bool
-    requires { slot < (cells.now).len }
-    ensures { result ≡ is_valid (cells.now).validity slot }
-{
-    let _count = cells.len();
-    match cells.validity() {
-        Some(bits) => bits.get(slot),
-        None => true,
-    }
-}
 // The index of a slot, where it is that of a value of the dictionary; as may not be where the slot
 // is null.
 fn index_at(cells: &Indices<'_>, slot: usize) -> Option<usize>
@@ -106,27 +94,8 @@ fn index_at(cells: &Indices<'_>, slot: usize) -> Option<usize>
         × (entry_of cells.now slot ≡ slice_get (cells.now).dictionary index)) }
 {
     let count = cells.dictionary().len();
-    match usize::try_from(integer_at(cells, slot)) {
+    match usize::try_from(cells.index_at(slot)) {
         Ok(index) if index < count => Some(index),
         _ => None,
-    }
-}
-
-// The number that is the index of a slot.
-fn integer_at(cells: &Indices<'_>, slot: usize) -> i128
-    requires { slot < (cells.now).len }
-    ensures { result ≡ integer_at (cells.now).index (cells.now).values slot }
-{
-    let _count = cells.len();
-    let values = cells.values();
-    match cells.index_type() {
-        IntegerType::Int8 => i128::from(i8::read(values, slot)),
-        IntegerType::Int16 => i128::from(i16::read(values, slot)),
-        IntegerType::Int32 => i128::from(i32::read(values, slot)),
-        IntegerType::Int64 => i128::from(i64::read(values, slot)),
-        IntegerType::UInt8 => i128::from(u8::read(values, slot)),
-        IntegerType::UInt16 => i128::from(u16::read(values, slot)),
-        IntegerType::UInt32 => i128::from(u32::read(values, slot)),
-        IntegerType::UInt64 => i128::from(u64::read(values, slot)),
     }
 }

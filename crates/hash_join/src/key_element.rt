@@ -1,15 +1,13 @@
 //! Packed numbers that are keys, read by their type.
 
-ghost use Rattle.std.specs.Prelude.{◌≡◌, ◌≤◌, ◌<◌, ◌+◌, ◌*◌, ℕ, false, get_or, length};
+ghost use Rattle.std.specs.Prelude.{◌≡◌, ◌≤◌, ◌+◌, ◌*◌, false, get_or, length};
 ghost use Rattle.arrow_schema.specs.declared.data_type.IntegerType.{IntegerType};
 ghost use Rattle.arrow_schema.specs.declared.data_type.IntegerType.TheVariants as integer;
 ghost use Rattle.arrays.specs.Number.{byte_width, integer_at};
-ghost use Rattle.arrays.specs.Validity.{is_valid, IsLong};
 ghost use Rattle.hash_join.specs.Words.{passing_word};
 
 use crate::look::Look;
 use arrays::Element;
-use arrow_schema::IntegerType;
 use bitmap::Bits;
 
 /// A type of integers that packed keys may be of.
@@ -86,17 +84,6 @@ impl KeyElement for u64 {
     }
 }
 
-/// Whether the slot at a place is valid: each is, where there are no bits.
-pub(crate) fn is_known(validity: &Option<Bits>, place: usize) -> bool
-    requires { (len : ℕ) × (place < len) × IsLong validity.now len }
-    ensures { result ≡ is_valid validity.now place }
-{
-    match validity {
-        None => true,
-        Some(bits) => bits.get(place),
-    }
-}
-
 /// A bit for each of up to 64 slots from one on, the first lowest: 1 where the slot is valid.
 pub(crate) fn known_word(validity: &Bits, from: usize, count: usize) -> u64
     requires within { from + count ≤ length validity.now }
@@ -129,21 +116,4 @@ pub(crate) fn number_word<E: KeyElement, L: Look>(
         word = 2 * word + look.passes(E::number_at(values, place)) as u64;
     }
     word
-}
-
-/// Number `place` of packed ones of a type, counted from 0.
-pub(crate) fn packed_number(kind: IntegerType, values: &[u8], place: usize) -> i128
-    requires { byte_width kind * (place + 1) ≤ length values.now }
-    ensures { result ≡ integer_at kind values.now place }
-{
-    match kind {
-        IntegerType::Int8 => i8::number_at(values, place),
-        IntegerType::Int16 => i16::number_at(values, place),
-        IntegerType::Int32 => i32::number_at(values, place),
-        IntegerType::Int64 => i64::number_at(values, place),
-        IntegerType::UInt8 => u8::number_at(values, place),
-        IntegerType::UInt16 => u16::number_at(values, place),
-        IntegerType::UInt32 => u32::number_at(values, place),
-        IntegerType::UInt64 => u64::number_at(values, place),
-    }
 }

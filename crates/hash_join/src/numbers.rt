@@ -4,7 +4,7 @@ ghost use Rattle.std.specs.Prelude.{◌≡◌, ◌≤◌, ◌<◌, ◌^◌, All,
 ghost use Rattle.std.specs.List.{list_all};
 ghost use Rattle.arrays.specs.Batch.{BatchAt};
 
-use crate::key_element::{KeyElement, is_known};
+use crate::key_element::KeyElement;
 use arrays::{Batch, Cells, Column, Integers, Layout};
 use arrow_schema::IntegerType;
 
@@ -94,7 +94,7 @@ impl<'a> Slots<'a> {
         let values = self.cells.values();
         let validity = self.cells.validity();
         for place in self.from..self.to {
-            if is_known(validity, place) {
+            if validity.is_valid(place) {
                 taker.take(E::number_at(values, place));
             }
         }

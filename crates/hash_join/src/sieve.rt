@@ -11,7 +11,7 @@ ghost use Rattle.hash_join.specs.Seen.{AreKept};
 ghost use Rattle.hash_join.specs.Words.{passing_word};
 
 use crate::compared::Compared;
-use crate::key_element::{KeyElement, is_known, known_word, number_word};
+use crate::key_element::{KeyElement, known_word, number_word};
 use crate::look::{Look, Told};
 use crate::seen::SeenRows;
 use arrays::Integers;
@@ -114,7 +114,7 @@ impl<'a, E: KeyElement, L: Look> Sieve for NumberRows<'a, E, L> {
     fn passes(&self, row: usize) -> bool {
         let _count = self.cells.len();
         let place = self.first + row;
-        if !is_known(self.cells.validity(), place) {
+        if !self.cells.validity().is_valid(place) {
             return false;
         }
         self.look.passes(E::number_at(self.cells.values(), place))
@@ -124,7 +124,7 @@ impl<'a, E: KeyElement, L: Look> Sieve for NumberRows<'a, E, L> {
         let _count = self.cells.len();
         let place = self.first + from;
         let word = number_word::<E, L>(self.look, self.cells.values(), place, rows);
-        match self.cells.validity() {
+        match self.cells.validity().bits() {
             None => word,
             Some(bits) => known_word(bits, place, rows) & word,
         }
@@ -133,7 +133,7 @@ impl<'a, E: KeyElement, L: Look> Sieve for NumberRows<'a, E, L> {
     fn tell(&self, row: usize) -> Told {
         let _count = self.cells.len();
         let place = self.first + row;
-        if !is_known(self.cells.validity(), place) {
+        if !self.cells.validity().is_valid(place) {
             return Told::Nothing;
         }
         self.look.tell(E::number_at(self.cells.values(), place))

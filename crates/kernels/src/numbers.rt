@@ -14,8 +14,8 @@ ghost use Rattle.arrays.specs.Decimals.{AreDecimals};
 ghost use Rattle.arrays.specs.Integers.{AreIntegers};
 ghost use Rattle.arrays.specs.Layout.{layout_slot};
 ghost use Rattle.arrays.specs.Number.{AreBytes, byte_width};
+ghost use Rattle.arrays.specs.Validity.{HasBits};
 ghost use Rattle.kernels.specs.Parts.{IsPart, said_of};
-ghost use Rattle.kernels.specs.Ranges.{validity_count};
 ghost use Rattle.kernels.specs.Ranging.{TestsBy};
 
 use crate::longs::longs_in;
@@ -131,7 +131,7 @@ fn packed_integers<'a>(cells: &Integers<'a>) -> Packed<'a>
     ensures validity { result.validity.now ≡ (cells.now).validity }
     ensures count { result.count ≡ (cells.now).len }
     ensures room { byte_width (cells.now).integer * result.count ≤ length result.values.now }
-    ensures long { validity_count result.validity.now result.count ≡ result.count }
+    ensures long { HasBits result.validity.now result.count }
     ensures bytes { AreBytes result.values.now }
 {
     let count = cells.len();
@@ -150,7 +150,7 @@ fn packed_decimals<'a>(cells: &Decimals<'a>, count: usize) -> Packed<'a>
     ensures validity { result.validity.now ≡ (cells.now).validity }
     ensures count { result.count ≡ (cells.now).len }
     ensures room { 16 * result.count ≤ length result.values.now }
-    ensures long { validity_count result.validity.now result.count ≡ result.count }
+    ensures long { HasBits result.validity.now result.count }
 {
     Packed {
         values: cells.values(),

@@ -14,7 +14,6 @@ ghost use Rattle.kernels.specs.Words.{bit, HasTruths};
 
 use crate::flag_pairs::{compared_bits, flag_word};
 use crate::kernel::{Kernel, Slots, slot_by_slot};
-use crate::longs::valid_word;
 use crate::pack::pack;
 use crate::part::ColumnPart;
 use crate::word::Word;
@@ -127,12 +126,12 @@ fn fill_numbers(column: &Column, from: usize, block: &mut [i128; 64]) -> Option<
         Layout::Integers(cells) => {
             let _count = cells.len();
             fill_integers(&cells, first, block);
-            Some(valid_word(cells.validity(), first))
+            Some(cells.validity().valid_word(first))
         }
         Layout::Decimals(cells) => {
             let _count = column.slots().len();
             fill_cells::<i128>(cells.values(), first, block);
-            Some(valid_word(cells.validity(), first))
+            Some(cells.validity().valid_word(first))
         }
         _ => None,
     }
