@@ -4,8 +4,7 @@ ghost use Rattle.std.specs.Prelude.{◌≡◌, ◌≤◌, ◌⊎◌, ℕ, false,
 ghost use Rattle.arrays.specs.Number.{byte_width};
 ghost use Rattle.batch_stats.specs.inside.CodeSets.{HasLast, HasMark, HasSorted};
 
-use crate::codes::Code;
-use arrays::Indices;
+use arrays::{Code, Indices};
 use std::alloc::{AllocError, Global};
 
 /// How many codes a set of the last ones has.
@@ -111,7 +110,7 @@ impl SortedCodes {
         from: usize,
         to: usize,
     ) -> Result<SortedCodes, AllocError>
-        requires width { C.BYTES ≡ byte_width (cells.now).index }
+        requires width { C.WIDTH ≡ byte_width (cells.now).index }
         requires ordered { from ≤ to }
         requires within { to ≤ (cells.now).len }
         ensures { IfOk result
@@ -142,7 +141,7 @@ fn codes_of<C: Code>(
     from: usize,
     to: usize,
 ) -> Result<Vec<u64>, AllocError>
-    requires width { C.BYTES ≡ byte_width (cells.now).index }
+    requires width { C.WIDTH ≡ byte_width (cells.now).index }
     requires ordered { from ≤ to }
     requires within { to ≤ (cells.now).len }
 {

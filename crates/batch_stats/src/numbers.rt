@@ -13,8 +13,7 @@ ghost use Rattle.batch_stats.specs.inside.Slots.{ends_with};
 
 use crate::stats::Stats;
 use crate::validity::first_valid;
-use crate::wide::Wide;
-use arrays::{Decimals, Integers, Validity};
+use arrays::{Decimals, Element, Integer, Integers, Validity};
 use arrow_schema::IntegerType;
 
 // How many slots are looked at together, where there are bits.
@@ -34,7 +33,7 @@ pub(crate) struct NumberRange<E> {
     pub(crate) greatest: E,
 }
 
-impl<E: Wide> NumberRange<E> {
+impl<E: Element> NumberRange<E> {
     // The same with one number more.
     fn with(self, number: E) -> NumberRange<E>
         ensures { Some (Int (E.value result.least), Int (E.value result.greatest))
@@ -164,7 +163,7 @@ impl<E: Wide> NumberRange<E> {
 }
 
 // The statistics of the slots `from` up to, not with, `to`.
-fn numbers_stats<E: Wide>(packed: &Packed<'_>, from: usize, to: usize) -> Stats
+fn numbers_stats<E: Element>(packed: &Packed<'_>, from: usize, to: usize) -> Stats
     requires ordered { from ≤ to }
     requires room { E.WIDTH * to ≤ length packed.now.values.now }
     requires bits { HasBits packed.now.validity.now to }
@@ -189,9 +188,10 @@ fn numbers_stats<E: Wide>(packed: &Packed<'_>, from: usize, to: usize) -> Stats
     }
 }
 
-/// The statistics of `len` slots of integers from `first` on.
-pub(crate) fn integers_stats(cells: &Integers<'_>, first: usize, len: usize) -> Stats
-    requires { first + len ≤ (cells.now).len }
+// The statistics of `len` slots of integers of a type from `first` on.
+fn typed_stats<E: Integer>(cells: &Integers<'_>, first: usize, len: usize) -> Stats
+    requires kind { E.KIND ≡ (cells.now).integer }
+    requires within { first + len ≤ (cells.now).len }
     ensures { IsStatsOf (record { layout = IntegersLayout cells.now; first = first; len = len })
         result }
 {
@@ -200,16 +200,24 @@ pub(crate) fn integers_stats(cells: &Integers<'_>, first: usize, len: usize) -> 
         values: cells.values(),
         validity: cells.validity(),
     };
-    let to = first + len;
+    numbers_stats::<E>(&packed, first, first + len)
+}
+
+/// The statistics of `len` slots of integers from `first` on.
+pub(crate) fn integers_stats(cells: &Integers<'_>, first: usize, len: usize) -> Stats
+    requires { first + len ≤ (cells.now).len }
+    ensures { IsStatsOf (record { layout = IntegersLayout cells.now; first = first; len = len })
+        result }
+{
     match cells.integer_type() {
-        IntegerType::Int8 => numbers_stats::<i8>(&packed, first, to),
-        IntegerType::Int16 => numbers_stats::<i16>(&packed, first, to),
-        IntegerType::Int32 => numbers_stats::<i32>(&packed, first, to),
-        IntegerType::Int64 => numbers_stats::<i64>(&packed, first, to),
-        IntegerType::UInt8 => numbers_stats::<u8>(&packed, first, to),
-        IntegerType::UInt16 => numbers_stats::<u16>(&packed, first, to),
-        IntegerType::UInt32 => numbers_stats::<u32>(&packed, first, to),
-        IntegerType::UInt64 => numbers_stats::<u64>(&packed, first, to),
+        IntegerType::Int8 => typed_stats::<i8>(cells, first, len),
+        IntegerType::Int16 => typed_stats::<i16>(cells, first, len),
+        IntegerType::Int32 => typed_stats::<i32>(cells, first, len),
+        IntegerType::Int64 => typed_stats::<i64>(cells, first, len),
+        IntegerType::UInt8 => typed_stats::<u8>(cells, first, len),
+        IntegerType::UInt16 => typed_stats::<u16>(cells, first, len),
+        IntegerType::UInt32 => typed_stats::<u32>(cells, first, len),
+        IntegerType::UInt64 => typed_stats::<u64>(cells, first, len),
     }
 }
 

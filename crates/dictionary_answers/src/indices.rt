@@ -1,14 +1,13 @@
 //! The indices of slots.
 
-ghost use Rattle.std.specs.Prelude.{◌≡◌, ◌≤◌, ◌<◌, ◌+◌, ◌*◌, ℕ, None, MatchOption, get_or, length};
+ghost use Rattle.std.specs.Prelude.{◌≡◌, ◌<◌, None, MatchOption, get_or, length};
 ghost use Rattle.std.specs.Prelude.{slice_get};
 ghost use Rattle.scan_base.specs.declared.value.Value.TheVariants.{Null};
-ghost use Rattle.arrays.specs.Number.{element_at};
 ghost use Rattle.arrays.specs.Indices.{entry_of};
 ghost use Rattle.arrays.specs.Layout.{layout_slot};
 ghost use Rattle.arrays.specs.declared.layout.Layout.TheVariants as layout;
 
-use arrays::{Column, Element, Indices};
+use arrays::{Column, Indices};
 
 /// A column whose slots are indices, and these slots.
 #[derive(Drop)]
@@ -23,49 +22,6 @@ pub(crate) struct Block<'b, 't> {
     pub(crate) of: &'b IndexColumn<'t>,
     pub(crate) from: usize,
     pub(crate) to: usize,
-}
-
-/// A type of numbers without a sign as which indices are read. A number that is not negative has
-/// the same bits in the type of its width that has a sign.
-pub(crate) trait IndexElement {
-    ghost WIDTH: { ℕ };
-
-    /// Number `slot` of packed ones, counted from 0.
-    fn index_at(values: &[u8], slot: usize) -> usize
-        requires { WIDTH * (slot + 1) ≤ length values.now }
-        ensures { result ≡ element_at WIDTH values.now slot };
-}
-
-impl IndexElement for u8 {
-    ghost WIDTH = { 1 };
-
-    fn index_at(values: &[u8], slot: usize) -> usize {
-        u8::read(values, slot) as usize
-    }
-}
-
-impl IndexElement for u16 {
-    ghost WIDTH = { 2 };
-
-    fn index_at(values: &[u8], slot: usize) -> usize {
-        u16::read(values, slot) as usize
-    }
-}
-
-impl IndexElement for u32 {
-    ghost WIDTH = { 4 };
-
-    fn index_at(values: &[u8], slot: usize) -> usize {
-        u32::read(values, slot) as usize
-    }
-}
-
-impl IndexElement for u64 {
-    ghost WIDTH = { 8 };
-
-    fn index_at(values: &[u8], slot: usize) -> usize {
-        u64::read(values, slot) as usize
-    }
 }
 
 /// The index of a slot that is not null by its validity bit: it is that of a value of the

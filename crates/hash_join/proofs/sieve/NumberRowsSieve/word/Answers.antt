@@ -10,7 +10,7 @@ returns-in-None g c =
     let rows = c.args.self.now in
     let from : ℕ = c.args.from in
     let count : ℕ = c.args.rows in
-    let test : List ℕ → ℕ → Bool = λ (values : List ℕ) (place : ℕ). g.L.Look.passes rows.look.now (integer_at g.E.KeyElement.kind values place) in
+    let test : List ℕ → ℕ → Bool = λ (values : List ℕ) (place : ℕ). g.L.Look.passes rows.look.now (integer_at g.E.Integer.KIND values place) in
     let passes : ℕ → Bool = test rows.cells.values in
     let found : c.number_word-word.result ≡ passing_word passes (rows.first + from) count =
     c.number_word-word.ensures ∙ ap (λ (values : List ℕ). passing_word (test values) (rows.first + from) count) c.values.ensures in
@@ -24,7 +24,7 @@ returns-in-Some g c =
     let from : ℕ = c.args.from in
     let count : ℕ = c.args.rows in
     let bits : List Bool = c.in-Some.bits in
-    let test : List ℕ → ℕ → Bool = λ (values : List ℕ) (place : ℕ). g.L.Look.passes rows.look.now (integer_at g.E.KeyElement.kind values place) in
+    let test : List ℕ → ℕ → Bool = λ (values : List ℕ) (place : ℕ). g.L.Look.passes rows.look.now (integer_at g.E.Integer.KIND values place) in
     let passes : ℕ → Bool = test rows.cells.values in
     let found : c.number_word-word.result ≡ passing_word passes (rows.first + from) count =
     c.number_word-word.ensures ∙ ap (λ (values : List ℕ). passing_word (test values) (rows.first + from) count) c.values.ensures in
