@@ -13,8 +13,9 @@ ghost use Rattle.array_select.specs.inside.Gathered.{AreValuesAt, AreGathered};
 
 use crate::gather_texts::gather_texts;
 use crate::selection::Selection;
-use arrays::{Bools, Cells, Column, Decimals, Indices, Integers, Layout, Slots, Validity, Values};
-use arrays::are_bytes;
+use arrays::{
+    Bools, Cells, Column, Decimals, Indices, Integers, Layout, Slots, Validity, Values, are_bytes,
+};
 use arrow_schema::IntegerType;
 use bytes::Bytes;
 use std::alloc::{AllocError, Global};
