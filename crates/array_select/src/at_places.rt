@@ -13,9 +13,10 @@ ghost use Rattle.array_select.specs.inside.Gathered.{AreValuesAt, AreGathered};
 
 use crate::gather_texts::gather_texts;
 use crate::selection::Selection;
-use arrays::{Bools, Cells, Column, Decimals, Indices, Integers, Layout, Slots, Values, are_bytes};
+use arrays::{
+    Bools, Cells, Column, Decimals, Indices, Integers, Layout, Slots, Validity, Values, are_bytes,
+};
 use arrow_schema::IntegerType;
-use bitmap::Bits;
 use bytes::Bytes;
 use std::alloc::{AllocError, Global};
 
@@ -138,16 +139,16 @@ fn gather_indices(
 // Which of the slots at places are valid. Where each slot is, no bits are made.
 fn gather_validity(
     alloc: Global,
-    validity: &Option<Bits>,
+    validity: &Validity,
     first: usize,
     places: &[u32],
-) -> Result<Option<Bits>, AllocError>
+) -> Result<Validity, AllocError>
     requires { (len : ℕ) × IsLong validity.now len × AreAmong first places.now len }
     ensures { IfOk result (λ gathered. AreValidAt gathered validity.now first places.now) }
 {
-    match validity {
-        None => Ok(None),
-        Some(bits) => Ok(Some(bits.gather(alloc, first, places)?)),
+    match validity.bits() {
+        None => Ok(Validity::new(None)),
+        Some(bits) => Ok(Validity::new(Some(bits.gather(alloc, first, places)?))),
     }
 }
 

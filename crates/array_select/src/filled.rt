@@ -13,7 +13,7 @@ ghost use Rattle.array_select.specs.inside.Filled.{AreValidUnlessNull, AreNumber
 
 use crate::filled_texts::fill_texts;
 use crate::source::Source;
-use arrays::{Column, Slots, Values, are_bytes, byte_width, is_null};
+use arrays::{Column, Slots, Validity, Values, are_bytes, byte_width, is_null};
 use arrow_schema::{DataType, IntegerType};
 use bitmap::{Bits, BitsBuilder};
 use bytes::Bytes;
@@ -39,9 +39,9 @@ pub(crate) fn fill_column<S: Source>(
     Ok(Column::new(Slots::from_parts(validity, slots.len(), kept)))
 }
 
-// The validity bits of slots that are valid where they are not null, and none where no slot is
+// The validity of slots that are valid where they are not null: without bits, where no slot is
 // null. Each value is one of its slot's type.
-fn fill_validity<S: Source>(alloc: Global, slots: &[S]) -> Result<Option<Bits>, AllocError>
+fn fill_validity<S: Source>(alloc: Global, slots: &[S]) -> Result<Validity, AllocError>
     requires { All S.IsThere slots.now }
     ensures valid { IfOk result (λ validity. AreValidUnlessNull validity (map S.held slots.now)) }
     ensures typed { IfOk result
@@ -56,9 +56,9 @@ fn fill_validity<S: Source>(alloc: Global, slots: &[S]) -> Result<Option<Bits>, 
         bits.push(!null)?;
     }
     if !nulls {
-        return Ok(None);
+        return Ok(Validity::new(None));
     }
-    Ok(Some(bits.into_bits()?))
+    Ok(Validity::new(Some(bits.into_bits()?)))
 }
 
 // The values of slots, as a column of their type keeps them.

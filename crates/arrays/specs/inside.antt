@@ -4,4 +4,5 @@ pub mod Nulls
 pub mod Placed
 pub mod Runs
 pub mod TextCuts
+pub mod Signed
 pub mod Slots

@@ -4,7 +4,6 @@
 
 pub mod beginnings;
 mod code_sets;
-mod codes;
 mod entries;
 mod flags;
 mod keys;
@@ -15,7 +14,6 @@ pub mod side;
 pub mod stats;
 mod texts;
 mod validity;
-mod wide;
 
 pub use crate::beginnings::{Beginning, Beginnings};
 pub use crate::measured::MeasuredBatch;

@@ -8,9 +8,9 @@ ghost use Rattle.arrays.specs.Typed.{IsOfType, IsValueOf};
 ghost use Rattle.array_select.specs.inside.Filled.{number_of, AreNumbersOf, AreValidUnlessNull};
 ghost use Rattle.array_select.specs.inside.Filled.{FillSlots};
 
-use arrays::{Column, Slots, Values, are_bytes, byte_width, is_null};
+use arrays::{Column, Slots, Validity, Values, are_bytes, byte_width, is_null};
 use arrow_schema::IntegerType;
-use bitmap::{Bits, BitsBuilder};
+use bitmap::BitsBuilder;
 use bytes::Bytes;
 use scan_base::ValueRef;
 use std::alloc::{AllocError, Global};
@@ -41,9 +41,9 @@ pub(crate) fn column_of_dates(alloc: Global, values: &[ValueRef<'_>]) -> Result<
     column_of_integers(alloc, IntegerType::Int32, values)
 }
 
-// The validity bits of slots that are valid where they are not null, and none where no slot is
+// The validity of slots that are valid where they are not null: without bits, where no slot is
 // null.
-fn validity_of(alloc: Global, values: &[ValueRef<'_>]) -> Result<Option<Bits>, AllocError>
+fn validity_of(alloc: Global, values: &[ValueRef<'_>]) -> Result<Validity, AllocError>
     ensures { IfOk result (λ validity. AreValidUnlessNull validity (map value_of values.now)) }
 {
     let mut bits = BitsBuilder::with_capacity(alloc, values.len())?;
@@ -54,9 +54,9 @@ fn validity_of(alloc: Global, values: &[ValueRef<'_>]) -> Result<Option<Bits>, A
         bits.push(!null)?;
     }
     if !nulls {
-        return Ok(None);
+        return Ok(Validity::new(None));
     }
-    Ok(Some(bits.into_bits()?))
+    Ok(Validity::new(Some(bits.into_bits()?)))
 }
 
 // The integers, as a column of their type keeps them.

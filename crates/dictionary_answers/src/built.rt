@@ -15,9 +15,9 @@ ghost use Rattle.dictionary_answers.specs.inside.Packed.{numbers_in, AreValidWhe
 
 use crate::coding::NO_PLACE;
 use crate::packed::{clear_marks, pack_numbers, unpack_numbers};
-use arrays::{Cells, Column, Dictionary, Nulls, Slots, Texts, Values};
+use arrays::{Cells, Column, Dictionary, Nulls, Slots, Texts, Validity, Values};
 use arrow_schema::IntegerType;
-use bitmap::{Bits, BitsBuilder};
+use bitmap::BitsBuilder;
 use bytes::Bytes;
 use std::alloc::{AllocError, Global};
 use std::sync::Arc;
@@ -50,10 +50,10 @@ pub fn column_of_indices(
     column_over(alloc, validity, packed, texts)
 }
 
-/// The same, where the validity bits are made already, and the places stand in four bytes each.
+/// The same, where the validity is made already, and the places stand in four bytes each.
 pub(crate) fn column_over(
     alloc: Global,
-    validity: Option<Bits>,
+    validity: Validity,
     mut packed: Vec<u8>,
     texts: &[&str],
 ) -> Result<(Column, Texts), AllocError>
@@ -80,7 +80,7 @@ pub(crate) fn column_over(
     Ok((column, part))
 }
 
-/// The validity bits of slots that lie at places of a column's values: the column's own, where
+/// The validity of slots that lie at places of a column's values: by the column's own bits, where
 /// these tell each null.
 ///
 /// # Errors
@@ -90,34 +90,34 @@ pub(crate) fn column_validity(
     alloc: Global,
     column: &Column,
     packed: &[u8],
-) -> Result<Option<Bits>, AllocError>
+) -> Result<Validity, AllocError>
     requires led { (texts : List (List ℕ))
         × AreLed texts (map held (numbers_in packed.now)) (values_of column.now) }
     ensures { IfOk result
         (λ validity. AreValidWhereSome validity (map held (numbers_in packed.now))) }
 {
     if column.null_count() == 0 {
-        return Ok(None);
+        return Ok(Validity::new(None));
     }
     let (first, len) = (column.first(), column.len());
     match column.slots().nulls() {
-        Nulls::AtZeros(bits) => Ok(Some(bits.slice(first, first + len)?)),
+        Nulls::AtZeros(bits) => Ok(Validity::new(Some(bits.slice(first, first + len)?))),
         _ => places_validity(alloc, &unpack_numbers(alloc, packed)?),
     }
 }
 
-// The validity bits of slots that are null where they have no place, and none where each has one.
-fn places_validity(alloc: Global, places: &[u32]) -> Result<Option<Bits>, AllocError>
+// The validity of slots that are null where they have no place: without bits, where each has one.
+fn places_validity(alloc: Global, places: &[u32]) -> Result<Validity, AllocError>
     ensures { IfOk result (λ validity. AreValidWhereSome validity (map held places.now)) }
 {
     if !places.contains(&NO_PLACE) {
-        return Ok(None);
+        return Ok(Validity::new(None));
     }
     let mut bits = BitsBuilder::with_capacity(alloc, places.len())?;
     for place in places {
         bits.push(*place != NO_PLACE)?;
     }
-    Ok(Some(bits.into_bits()?))
+    Ok(Validity::new(Some(bits.into_bits()?)))
 }
 
 // A dictionary of one part.

@@ -19,9 +19,9 @@ ghost use Rattle.dictionary_answers.specs.inside.Table.{AreMet, IsTable};
 
 use crate::coding::{Coded, NO_PLACE, Stop};
 use crate::found::Found;
-use crate::indices::{Block, IndexColumn, IndexElement, is_valid, valid_index};
+use crate::indices::{Block, IndexColumn, valid_index};
 use crate::packed::{put_number, unpack_numbers, zeros};
-use arrays::{Cells, Column, Indices, Layout};
+use arrays::{Cells, Code, Column, Indices, Layout};
 use arrow_schema::IntegerType;
 use hash_seed::HashSeed;
 use indexmap::IndexMap;
@@ -230,7 +230,7 @@ fn code_near<'t>(
 }
 
 // Codes each slot of indices of a type. Where no slot is null, validity bits are not looked at.
-fn code_elements<'t, E: IndexElement>(
+fn code_elements<'t, E: Code>(
     found: &mut Found<'t>,
     table: &mut [u32],
     of: &IndexColumn<'t>,
@@ -256,7 +256,7 @@ fn code_elements<'t, E: IndexElement>(
 
 // Codes each slot, none of which is null, block by block. A block whose indices the table has all
 // met is copied through it, in a loop that asks nothing of its slots one by one.
-fn code_valid<'t, E: IndexElement>(
+fn code_valid<'t, E: Code>(
     found: &mut Found<'t>,
     table: &mut [u32],
     of: &IndexColumn<'t>,
@@ -288,7 +288,7 @@ fn code_valid<'t, E: IndexElement>(
 }
 
 // Codes the slots of a block, none of which is null, after those before it.
-fn code_block<'t, E: IndexElement>(
+fn code_block<'t, E: Code>(
     found: &mut Found<'t>,
     table: &mut [u32],
     block: &Block<'_, 't>,
@@ -312,7 +312,7 @@ fn code_block<'t, E: IndexElement>(
     let (first, _count, _slots) = (of.column.first(), of.column.len(), of.cells.len());
     let (values, dictionary) = (of.cells.values(), of.cells.dictionary());
     for place in block.from..block.to {
-        let index = E::index_at(values, first + place);
+        let index = E::code(values, first + place) as usize;
         let number = found.place_of_index(table, dictionary, index)?;
         put_number(packed, place, number);
     }
@@ -320,7 +320,7 @@ fn code_block<'t, E: IndexElement>(
 }
 
 // Codes each slot, some of which are null.
-fn code_some<'t, E: IndexElement>(
+fn code_some<'t, E: Code>(
     found: &mut Found<'t>,
     table: &mut [u32],
     of: &IndexColumn<'t>,
@@ -346,7 +346,7 @@ fn code_some<'t, E: IndexElement>(
 }
 
 // The place of a slot.
-fn near_place<'t, E: IndexElement>(
+fn near_place<'t, E: Code>(
     found: &mut Found<'t>,
     table: &mut [u32],
     cells: &Indices<'t>,
@@ -364,9 +364,9 @@ fn near_place<'t, E: IndexElement>(
         (layout_slot (layout.Indices cells.now) slot ∷ []))) }
 {
     let _slots = cells.len();
-    if !is_valid(cells, slot) {
+    if !cells.validity().is_valid(slot) {
         return Ok(NO_PLACE);
     }
-    let index = E::index_at(cells.values(), slot);
+    let index = E::code(cells.values(), slot) as usize;
     found.place_of_index(table, cells.dictionary(), index)
 }

@@ -12,9 +12,9 @@ ghost use Rattle.dictionary_answers.specs.inside.Coding.{Finds};
 ghost use Rattle.dictionary_answers.specs.inside.Table.{AreMet, IsTable};
 
 use crate::coding::{NO_PLACE, Stop};
-use crate::indices::{Block, IndexElement};
+use crate::indices::Block;
 use crate::packed::put_number;
-use arrays::{Cells, Dictionary};
+use arrays::{Cells, Code, Dictionary};
 use hash_seed::HashSeed;
 use indexmap::{IndexMap, IndexSet};
 use scan_base::ValueRef;
@@ -136,7 +136,7 @@ impl<'t> Found<'t> {
 
     /// Puts the places of a block's indices, none of which is null, as the table has them, and
     /// gives whether it had met all. Only then they are these indices' places among the texts.
-    pub(crate) fn copy_known<E: IndexElement>(
+    pub(crate) fn copy_known<E: Code>(
         &self,
         table: &[u32],
         block: &Block<'_, 't>,
@@ -157,7 +157,7 @@ impl<'t> Found<'t> {
         let values = of.cells.values();
         let mut are_known = true;
         for place in block.from..block.to {
-            let number = table_entry(table, E::index_at(values, first + place));
+            let number = table_entry(table, E::code(values, first + place) as usize);
             put_number(packed, place, number);
             are_known &= number != NO_PLACE;
         }

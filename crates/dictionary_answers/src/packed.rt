@@ -7,8 +7,7 @@ ghost use Rattle.dictionary_answers.specs.Coded.{held};
 ghost use Rattle.dictionary_answers.specs.inside.Packed.{numbers_in, AreValidWhereSome, ArePacked};
 
 use crate::coding::NO_PLACE;
-use arrays::Element;
-use bitmap::Bits;
+use arrays::{Element, Validity};
 use byteorder::{ByteOrder, LittleEndian};
 use std::alloc::{AllocError, Global};
 
@@ -52,11 +51,11 @@ pub(crate) fn put_number(bytes: &mut [u8], slot: usize, number: u32)
 }
 
 /// Writes 0 where the mark stands that tells a slot without a place.
-pub(crate) fn clear_marks(validity: &Option<Bits>, bytes: &mut [u8])
+pub(crate) fn clear_marks(validity: &Validity, bytes: &mut [u8])
     requires { AreValidWhereSome validity.now (map held (numbers_in bytes.old)) }
     ensures { ArePacked bytes.new (map held (numbers_in bytes.old)) }
 {
-    if validity.is_some() {
+    if validity.bits().is_some() {
         put_zeros(bytes);
     }
 }

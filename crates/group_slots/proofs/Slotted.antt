@@ -17,7 +17,7 @@ use Rattle.group_slots.specs.declared.slots.Entries.{Entries}
 use Rattle.group_slots.specs.declared.tally.Tally.{Tally}
 use Rattle.group_slots.specs.Tallies.{summed}
 use Rattle.group_slots.specs.Counting.{IsSmall}
-use Rattle.group_slots.specs.Slots.{AreSlots, HaveRoom, entry_cell, number_or_null, slot_cell, slot_is_valid, slot_number, validity_count}
+use Rattle.group_slots.specs.Slots.{AreSlots, HaveRoom, entry_cell, number_or_null, slot_cell, slot_is_valid, slot_number}
 use Rattle.group_slots.specs.declared.slots.Slots.{Slots}
 use Rattle.arrays.specs.Batch.{AreLong, BatchAt, row_of}
 use Rattle.arrays.specs.Column.{ColumnAt, slot_of}
@@ -58,10 +58,6 @@ are_slots slots column found batch is there long room cells = record {
   cells = λ row. cell_slot batch.columns row column found there ∙ ap (λ (c : ColumnAt). slot_of c row) (sym is) ∙ cells row;
 }
 
-bits_long : (validity : Option (List Bool)) (len wanted : ℕ) → IsLong validity len → wanted ≤ len → wanted ≤ validity_count validity wanted
-bits_long None len wanted long within = omega arith
-bits_long (Some bits) len wanted long within = omega (arith, long, within)
-
 -- the buffers of a column have room for its rows
 pub room_of : (integer : IntegerType) (validity : Option (List Bool)) (values : List ℕ) (len first count : ℕ) (slots : Slots) →
     IsLong validity len → byte_width integer * len ≤ length values → first + count ≤ len → first + count < 2 ^ 64 →
@@ -69,7 +65,7 @@ pub room_of : (integer : IntegerType) (validity : Option (List Bool)) (values : 
 room_of integer validity values len first count slots long room within small is_kind is_validity is_values is_first = record {
   values = rw (is_kind, is_values, is_first) (le_trans (mul-le-mul_left (byte_width integer) within) room);
   small = rw is_first small;
-  valid = rw (is_validity, is_first) (bits_long validity len (first + count) long within);
+  valid = rw (is_validity, is_first) (len, within, long);
 }
 
 -- a slot of integers, by its packed number

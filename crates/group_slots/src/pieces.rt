@@ -9,7 +9,7 @@ ghost use Rattle.group_slots.specs.Pieces.{AreBoth, piece_tally, tallies_of};
 ghost use Rattle.group_slots.specs.Slots.{AreSlots, number_or_null};
 
 use crate::part::Part;
-use crate::slots::{Number, Slots, Validity};
+use crate::slots::{Number, Slots, ValidRows};
 use crate::tally::Tally;
 
 /// Of how many groups there are pieces at most.
@@ -72,7 +72,7 @@ pub(crate) fn blank_pieces() -> [Piece; MOST_PIECES]
 
 /// Adds the number of each row to the piece of its group, where these are the numbers of the
 /// column, of a type, and says whether 64 bits hold each sum.
-pub(crate) fn fill_pieces<N: Number, V: Validity>(
+pub(crate) fn fill_pieces<N: Number, V: ValidRows>(
     pieces: &mut [Piece],
     column: usize,
     slots: &Slots<'_>,

@@ -11,9 +11,8 @@ ghost use Rattle.arrays.specs.Indices.{AreIndices};
 ghost use Rattle.group_slots.specs.Slots.{HaveRoom, entry_cell, slot_cell, slot_is_valid};
 ghost use Rattle.group_slots.specs.Slots.{slot_number};
 
-use arrays::{Cells, Column, Dictionary, Element, Indices, Integers};
+use arrays::{Cells, Column, Dictionary, Element, Indices, Integers, Validity};
 use arrow_schema::IntegerType;
-use bitmap::Bits;
 
 /// A type of numbers that 64 bits with a sign hold.
 pub trait Number {
@@ -87,7 +86,7 @@ impl Number for u32 {
 pub struct Slots<'a> {
     pub kind: IntegerType,
     pub values: &'a [u8],
-    pub validity: &'a Option<Bits>,
+    pub validity: &'a Validity,
     pub first: usize,
 }
 
@@ -101,20 +100,17 @@ impl<'a> Slots<'a> {
         N::at(self.values, self.first + row)
     }
 
-    /// Whether the number of a row is valid: each is, where there are no bits.
+    /// Whether the number of a row is valid.
     pub(crate) fn is_valid(&self, row: usize) -> bool
         requires { (rows : ℕ) × (row < rows) × HaveRoom self.now rows }
         ensures { result ≡ slot_is_valid self.now row }
     {
-        match self.validity {
-            None => true,
-            Some(bits) => bits.get(self.first + row),
-        }
+        self.validity.is_valid(self.first + row)
     }
 }
 
 /// Which numbers of a column are valid.
-pub(crate) trait Validity {
+pub(crate) trait ValidRows {
     ghost marked: { Bool };
 
     /// Whether the number of a row is valid.
@@ -128,7 +124,7 @@ pub(crate) trait Validity {
 #[derive(Clone, Copy, Drop)]
 pub(crate) struct Whole;
 
-impl Validity for Whole {
+impl ValidRows for Whole {
     ghost marked = { false };
 
     fn is_valid(slots: &Slots<'_>, _row: usize) -> bool {
@@ -140,11 +136,11 @@ impl Validity for Whole {
 #[derive(Clone, Copy, Drop)]
 pub(crate) struct Marked;
 
-impl Validity for Marked {
+impl ValidRows for Marked {
     ghost marked = { true };
 
     fn is_valid(slots: &Slots<'_>, row: usize) -> bool {
-        match slots.validity {
+        match slots.validity.bits() {
             None => unreachable!(),
             Some(bits) => bits.get(slots.first + row),
         }

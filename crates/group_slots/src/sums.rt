@@ -8,7 +8,7 @@ ghost use Rattle.group_slots.specs.Slots.{AreSlots};
 
 use crate::part::{Part, add_each};
 use crate::pieces::{MOST_PIECES, blank_pieces, fill_pieces, join_pieces};
-use crate::slots::{Marked, Number, Slots, Validity, Whole, integer_slots};
+use crate::slots::{Marked, Number, Slots, ValidRows, Whole, integer_slots};
 use crate::tally::Tally;
 use arrays::{Cells, Layout};
 use arrow_schema::IntegerType;
@@ -76,14 +76,14 @@ fn sum_slots<N: Number>(tallies: &mut [Tally], column: usize, slots: &Slots<'_>,
         part.now.groups.now part.now.rows.now tallies.old (length part.now.rows.now) }
     ensures small { AreWithin (part.now.fed + length part.now.rows.now) tallies.new }
 {
-    match slots.validity {
+    match slots.validity.bits() {
         None => sum_valid::<N, Whole>(tallies, column, slots, part),
         Some(_) => sum_valid::<N, Marked>(tallies, column, slots, part),
     }
 }
 
 // The same, by which numbers are valid: in pieces, where each of few groups has some rows.
-fn sum_valid<N: Number, V: Validity>(
+fn sum_valid<N: Number, V: ValidRows>(
     tallies: &mut [Tally],
     column: usize,
     slots: &Slots<'_>,
@@ -110,7 +110,7 @@ fn sum_valid<N: Number, V: Validity>(
 // The same in pieces, of few groups. The table of pieces is large, so that it stays out of its
 // callers.
 #[inline(never)]
-fn sum_in_pieces<N: Number, V: Validity>(
+fn sum_in_pieces<N: Number, V: ValidRows>(
     tallies: &mut [Tally],
     column: usize,
     slots: &Slots<'_>,
@@ -138,7 +138,7 @@ fn sum_in_pieces<N: Number, V: Validity>(
 }
 
 // The same, tally by tally.
-fn sum_each<N: Number, V: Validity>(
+fn sum_each<N: Number, V: ValidRows>(
     tallies: &mut [Tally],
     column: usize,
     slots: &Slots<'_>,

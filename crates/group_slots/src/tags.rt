@@ -6,7 +6,6 @@ ghost use Rattle.byteorder.specs.Endian.{little_from};
 ghost use Rattle.scan_base.specs.declared.value.Value.{Value as Cell};
 ghost use Rattle.scan_base.specs.declared.value.Value.TheVariants.{Text as TextOf};
 ghost use Rattle.arrays.specs.declared.layout.Layout.TheVariants.{Texts as TextsLayout};
-ghost use Rattle.arrays.specs.Validity.{is_valid};
 ghost use Rattle.group_slots.specs.Tagged.{value_tagged};
 ghost use Rattle.group_slots.specs.Slots.{HaveRoom, number_tag};
 
@@ -134,7 +133,8 @@ impl<'a> Tags for TextTags<'a> {
 
     fn tag(&self, row: usize) -> Tag {
         let place = self.first + row;
-        if !self.is_valid(place) {
+        let _count = self.texts.len();
+        if !self.texts.validity().is_valid(place) {
             return Tag { key: 0, kind: NULL };
         }
         let (begin, end) = self.texts.bounds(place, place + 1);
@@ -154,20 +154,6 @@ pub fn text_tags<'a>(column: &'a Column, texts: TextsRef<'a>) -> TextTags<'a>
         texts,
         first: column.first(),
         rows,
-    }
-}
-
-impl<'a> TextTags<'a> {
-    // Whether the text at a place is valid: each is, where there are no bits.
-    fn is_valid(&self, place: usize) -> bool
-        requires { place < self.now.texts.len }
-        ensures { result ≡ is_valid self.now.texts.validity place }
-    {
-        let _count = self.texts.len();
-        match self.texts.validity() {
-            None => true,
-            Some(bits) => bits.get(place),
-        }
     }
 }
 

@@ -9,7 +9,6 @@ ghost use Rattle.arrays.specs.declared.layout.Layout.TheVariants as layout;
 ghost use Rattle.hash_join.specs.Codes.{column_code, column_number, layout_code, value_number};
 ghost use Rattle.hash_join.specs.Codes.{AreOne};
 
-use crate::key_element::{is_known, packed_number};
 use arrays::{Batch, Cells, Column, Indices, Layout};
 use scan_base::ValueRef;
 
@@ -44,8 +43,8 @@ fn valid_code(cells: &Indices<'_>, place: usize) -> Option<i128>
     ensures { result ≡ layout_code (layout.Indices cells.now) place }
 {
     let _count = cells.len();
-    if is_known(cells.validity(), place) {
-        Some(packed_number(cells.index_type(), cells.values(), place))
+    if cells.validity().is_valid(place) {
+        Some(cells.index_at(place))
     } else {
         None
     }

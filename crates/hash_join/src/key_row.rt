@@ -13,7 +13,7 @@ ghost use Rattle.hash_join.specs.Hashes.{value_hash};
 ghost use Rattle.hash_join.specs.KeyRows.{key_beside, key_of, IsKeyRow};
 
 use crate::key_codes::{code_at, have_one_code, have_one_number, number_at};
-use arrays::{Batch, Cells};
+use arrays::{Batch, Cells, is_null};
 use scan_base::{Comparison, Truth, ValueRef};
 use std::hash::{DefaultHasher, Hash, Hasher};
 
@@ -185,16 +185,6 @@ impl<'a> KeyRow<'a> {
             }
         }
         true
-    }
-}
-
-// Whether a value is null.
-fn is_null(value: ValueRef<'_>) -> bool
-    ensures { result ≡ is_null (value_of value.entry) }
-{
-    match value {
-        ValueRef::Null => true,
-        _ => false,
     }
 }
 

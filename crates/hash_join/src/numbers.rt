@@ -4,8 +4,7 @@ ghost use Rattle.std.specs.Prelude.{◌≡◌, ◌≤◌, ◌<◌, ◌^◌, All,
 ghost use Rattle.std.specs.List.{list_all};
 ghost use Rattle.arrays.specs.Batch.{BatchAt};
 
-use crate::key_element::{KeyElement, is_known};
-use arrays::{Batch, Cells, Column, Integers, Layout};
+use arrays::{Batch, Cells, Column, Integer, Integers, Layout};
 use arrow_schema::IntegerType;
 
 // What takes numbers in.
@@ -87,14 +86,14 @@ impl<'a> Slots<'a> {
         }
     }
 
-    fn give_as<E: KeyElement, T: TakesNumbers>(&self, taker: &mut T)
-        requires { E.kind ≡ (self.now).cells.integer }
+    fn give_as<E: Integer, T: TakesNumbers>(&self, taker: &mut T)
+        requires { E.KIND ≡ (self.now).cells.integer }
     {
         let _count = self.cells.len();
         let values = self.cells.values();
         let validity = self.cells.validity();
         for place in self.from..self.to {
-            if is_known(validity, place) {
+            if validity.is_valid(place) {
                 taker.take(E::number_at(values, place));
             }
         }

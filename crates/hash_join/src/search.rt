@@ -14,7 +14,6 @@ use crate::buckets::Buckets;
 use crate::build::{LeftSide, Probe};
 use crate::chains::Chains;
 use crate::compared::Made;
-use crate::key_element::KeyElement;
 use crate::key_row::KeyRow;
 use crate::look::{Look, ProductHeads, RankHeads, Told};
 use crate::product::Product;
@@ -22,7 +21,7 @@ use crate::ranks::Ranks;
 use crate::rights::Rights;
 use crate::sieve::{NumberRows, Sieve};
 use crate::walk::Walk;
-use arrays::{Cells, Integers, Layout};
+use arrays::{Cells, Integer, Integers, Layout};
 use arrow_schema::IntegerType;
 use std::alloc::{AllocError, Global};
 use std::marker::PhantomData;
@@ -223,7 +222,7 @@ impl<'a> Search<'a> {
     }
 
     // The same for integers of a type.
-    fn push_as<E: KeyElement, L: Look>(
+    fn push_as<E: Integer, L: Look>(
         &self,
         keys: NumberKeys<'_, L>,
         probe: &Probe,
@@ -234,7 +233,7 @@ impl<'a> Search<'a> {
         requires keys { AreKeysOf self.now keys.cells keys.first }
         requires look { TellsNumbers self.now (L.passes keys.look.now) (L.told keys.look.now)
             (L.head keys.look.now) (L.own keys.look.now) }
-        requires kind { E.kind ≡ keys.cells.integer }
+        requires kind { E.KIND ≡ keys.cells.integer }
         requires few { length made.old.pairs.items ≤ most }
         ensures given { IfOk result (λ stop. made.new.pairs.items ++ ahead_of self.now stop
             ≡ made.old.pairs.items ++ ahead_of self.now probe.now) }

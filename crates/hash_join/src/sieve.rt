@@ -11,10 +11,10 @@ ghost use Rattle.hash_join.specs.Seen.{AreKept};
 ghost use Rattle.hash_join.specs.Words.{passing_word};
 
 use crate::compared::Compared;
-use crate::key_element::{KeyElement, is_known, known_word, number_word};
+use crate::key_element::{known_word, number_word};
 use crate::look::{Look, Told};
 use crate::seen::SeenRows;
-use arrays::Integers;
+use arrays::{Integer, Integers};
 use std::alloc::{AllocError, Global};
 use std::marker::PhantomData;
 
@@ -80,28 +80,28 @@ pub(crate) trait Sieve {
 
 // Rows whose keys are integers, as they lie, and what tells of a number.
 #[derive(Drop)]
-pub(crate) struct NumberRows<'a, E: KeyElement, L: Look> {
+pub(crate) struct NumberRows<'a, E: Integer, L: Look> {
     pub(crate) cells: Integers<'a>,
     pub(crate) first: usize,
     pub(crate) count: usize,
     pub(crate) look: &'a L,
     pub(crate) kind: PhantomData<E>,
-    ghost same: { E.kind ≡ cells.integer },
+    ghost same: { E.KIND ≡ cells.integer },
     ghost there: { first + count ≤ cells.len },
 }
 
-impl<'a, E: KeyElement, L: Look> Sieve for NumberRows<'a, E, L> {
+impl<'a, E: Integer, L: Look> Sieve for NumberRows<'a, E, L> {
     ghost count = { λ rows. rows.count };
 
     ghost passes = { λ rows row. is_valid rows.cells.validity (rows.first + row)
-        && L.passes rows.look.now (integer_at E.kind rows.cells.values (rows.first + row)) };
+        && L.passes rows.look.now (integer_at E.KIND rows.cells.values (rows.first + row)) };
 
     ghost told = { λ rows row. if is_valid rows.cells.validity (rows.first + row)
-        then L.told rows.look.now (integer_at E.kind rows.cells.values (rows.first + row))
+        then L.told rows.look.now (integer_at E.KIND rows.cells.values (rows.first + row))
         else known.Nothing };
 
     ghost head = { λ rows row. L.head rows.look.now
-        (integer_at E.kind rows.cells.values (rows.first + row)) };
+        (integer_at E.KIND rows.cells.values (rows.first + row)) };
 
     ghost own = { λ rows. L.own rows.look.now };
 
@@ -114,7 +114,7 @@ impl<'a, E: KeyElement, L: Look> Sieve for NumberRows<'a, E, L> {
     fn passes(&self, row: usize) -> bool {
         let _count = self.cells.len();
         let place = self.first + row;
-        if !is_known(self.cells.validity(), place) {
+        if !self.cells.validity().is_valid(place) {
             return false;
         }
         self.look.passes(E::number_at(self.cells.values(), place))
@@ -124,7 +124,7 @@ impl<'a, E: KeyElement, L: Look> Sieve for NumberRows<'a, E, L> {
         let _count = self.cells.len();
         let place = self.first + from;
         let word = number_word::<E, L>(self.look, self.cells.values(), place, rows);
-        match self.cells.validity() {
+        match self.cells.validity().bits() {
             None => word,
             Some(bits) => known_word(bits, place, rows) & word,
         }
@@ -133,7 +133,7 @@ impl<'a, E: KeyElement, L: Look> Sieve for NumberRows<'a, E, L> {
     fn tell(&self, row: usize) -> Told {
         let _count = self.cells.len();
         let place = self.first + row;
-        if !is_known(self.cells.validity(), place) {
+        if !self.cells.validity().is_valid(place) {
             return Told::Nothing;
         }
         self.look.tell(E::number_at(self.cells.values(), place))

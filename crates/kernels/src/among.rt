@@ -2,17 +2,16 @@
 
 ghost use Rattle.std.specs.Prelude.{◌≡◌, ◌==◌, ◌≤◌, ◌<◌, ◌+◌, ◌*◌, ℕ, length};
 ghost use Rattle.arrays.specs.Number.{byte_width};
-ghost use Rattle.arrays.specs.Validity.{is_valid};
+ghost use Rattle.arrays.specs.Validity.{is_valid, HasBits};
 ghost use Rattle.kernels.specs.Codes.{code_at, is_among};
-ghost use Rattle.kernels.specs.Ranges.{validity_count};
 ghost use Rattle.kernels.specs.Words.{bit};
 
 use crate::codes::{code_at, word_with_code};
 use crate::kernel::{Kernel, Slots};
-use crate::longs::{is_valid, of_test, valid_word};
+use crate::longs::of_test;
 use crate::word::Word;
+use arrays::Validity;
 use arrow_schema::IntegerType;
-use bitmap::Bits;
 use scan_base::Truth;
 
 /// The packed numbers of `count` slots, and which of the slots are valid.
@@ -20,10 +19,10 @@ use scan_base::Truth;
 pub(crate) struct Packed<'a> {
     pub(crate) integer: IntegerType,
     pub(crate) values: &'a [u8],
-    pub(crate) validity: &'a Option<Bits>,
+    pub(crate) validity: &'a Validity,
     pub(crate) count: usize,
     ghost room: { byte_width integer * count ≤ length values.now },
-    ghost long: { validity_count validity.now count ≡ count },
+    ghost long: { HasBits validity.now count },
 }
 
 impl<'a> Packed<'a> {
@@ -33,7 +32,7 @@ impl<'a> Packed<'a> {
         ensures { result ≡ is_valid self.now.validity.now place }
     {
         let _count = self.count;
-        is_valid(self.validity, place)
+        self.validity.is_valid(place)
     }
 
     /// Which of the 64 slots from `from` on are valid.
@@ -43,7 +42,7 @@ impl<'a> Packed<'a> {
             bit result row ≡ is_valid self.now.validity.now (from + row) }
     {
         let _count = self.count;
-        valid_word(self.validity, from)
+        self.validity.valid_word(from)
     }
 
     /// The code of a slot's number, also that of a null.

@@ -14,8 +14,8 @@ ghost use Rattle.arrays.specs.Decimals.{AreDecimals};
 ghost use Rattle.arrays.specs.Integers.{AreIntegers};
 ghost use Rattle.arrays.specs.Layout.{layout_slot};
 ghost use Rattle.arrays.specs.Number.{AreBytes, byte_width};
+ghost use Rattle.arrays.specs.Validity.{HasBits};
 ghost use Rattle.kernels.specs.Parts.{IsPart, said_of};
-ghost use Rattle.kernels.specs.Ranges.{validity_count};
 ghost use Rattle.kernels.specs.Ranging.{TestsBy};
 
 use crate::longs::longs_in;
@@ -23,8 +23,9 @@ use crate::mask::Mask;
 use crate::part::ColumnPart;
 use crate::range::Range;
 use crate::within::{Packed, cells_in};
-use arrays::{Cells, Decimals, Integers, Layout};
+use arrays::{Cells, Decimals, Integer, Integers, Layout};
 use arrow_schema::IntegerType;
+use num_traits::{Bounded, FromPrimitive};
 use scan_base::Comparison;
 use std::alloc::{AllocError, Global};
 
@@ -112,17 +113,33 @@ fn integers_in(
     ensures { (test : Value → Truth) → TestsBy range.now test → IfOk result (λ mask. mask ≡ map
         (λ place. test (layout_slot (IntegersLayout cells.now) place)) (range_with_len first len)) }
 {
-    let packed = packed_integers(cells);
     match cells.integer_type() {
-        IntegerType::Int8 => cells_in::<i8>(alloc, &packed, range, first, len),
-        IntegerType::Int16 => cells_in::<i16>(alloc, &packed, range, first, len),
-        IntegerType::Int32 => cells_in::<i32>(alloc, &packed, range, first, len),
-        IntegerType::Int64 => longs_in(alloc, &packed, range, first, len),
-        IntegerType::UInt8 => cells_in::<u8>(alloc, &packed, range, first, len),
-        IntegerType::UInt16 => cells_in::<u16>(alloc, &packed, range, first, len),
-        IntegerType::UInt32 => cells_in::<u32>(alloc, &packed, range, first, len),
-        IntegerType::UInt64 => cells_in::<u64>(alloc, &packed, range, first, len),
+        IntegerType::Int8 => typed_in::<i8>(alloc, cells, range, first, len),
+        IntegerType::Int16 => typed_in::<i16>(alloc, cells, range, first, len),
+        IntegerType::Int32 => typed_in::<i32>(alloc, cells, range, first, len),
+        IntegerType::Int64 => longs_in(alloc, &packed_integers(cells), range, first, len),
+        IntegerType::UInt8 => typed_in::<u8>(alloc, cells, range, first, len),
+        IntegerType::UInt16 => typed_in::<u16>(alloc, cells, range, first, len),
+        IntegerType::UInt32 => typed_in::<u32>(alloc, cells, range, first, len),
+        IntegerType::UInt64 => typed_in::<u64>(alloc, cells, range, first, len),
     }
+}
+
+// The same where the slots are of integers of a type.
+fn typed_in<E: Integer + Bounded + FromPrimitive>(
+    alloc: Global,
+    cells: &Integers<'_>,
+    range: &Range,
+    first: usize,
+    len: usize,
+) -> Result<Mask, AllocError>
+    requires kind { E.KIND ≡ (cells.now).integer }
+    requires within { first + len ≤ (cells.now).len }
+    requires small { first + len < 2 ^ 64 }
+    ensures { (test : Value → Truth) → TestsBy range.now test → IfOk result (λ mask. mask ≡ map
+        (λ place. test (layout_slot (IntegersLayout cells.now) place)) (range_with_len first len)) }
+{
+    cells_in::<E>(alloc, &packed_integers(cells), range, first, len)
 }
 
 // The packed numbers of slots of integers.
@@ -131,7 +148,7 @@ fn packed_integers<'a>(cells: &Integers<'a>) -> Packed<'a>
     ensures validity { result.validity.now ≡ (cells.now).validity }
     ensures count { result.count ≡ (cells.now).len }
     ensures room { byte_width (cells.now).integer * result.count ≤ length result.values.now }
-    ensures long { validity_count result.validity.now result.count ≡ result.count }
+    ensures long { HasBits result.validity.now result.count }
     ensures bytes { AreBytes result.values.now }
 {
     let count = cells.len();
@@ -150,7 +167,7 @@ fn packed_decimals<'a>(cells: &Decimals<'a>, count: usize) -> Packed<'a>
     ensures validity { result.validity.now ≡ (cells.now).validity }
     ensures count { result.count ≡ (cells.now).len }
     ensures room { 16 * result.count ≤ length result.values.now }
-    ensures long { validity_count result.validity.now result.count ≡ result.count }
+    ensures long { HasBits result.validity.now result.count }
 {
     Packed {
         values: cells.values(),

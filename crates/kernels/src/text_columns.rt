@@ -5,12 +5,11 @@ ghost use Rattle.arrays.specs.Column.{slot_of};
 ghost use Rattle.arrays.specs.Indices.{index_stands};
 ghost use Rattle.arrays.specs.declared.layout.Layout.TheVariants.{Texts as TextsLayout};
 ghost use Rattle.arrays.specs.declared.layout.Layout.TheVariants.{Indices as IndicesLayout};
-ghost use Rattle.kernels.specs.Ranges.{validity_count};
+ghost use Rattle.arrays.specs.Validity.{HasBits};
 ghost use Rattle.kernels.specs.TextPairs.{indices_into, value_of_code};
 
 use crate::among::Packed;
 use crate::dictionaries::packed_indices;
-use crate::longs::is_valid;
 use crate::row_values::RowValues;
 use arrays::{Cells, Column, Dictionary, Indices, TextsRef};
 use scan_base::ValueRef;
@@ -25,7 +24,7 @@ pub(crate) struct PlainTexts<'a> {
     ghost begins: { first ≡ column.now.first },
     ghost within: { first + column.now.len ≤ cells.len },
     ghost small: { first + column.now.len < 2 ^ 64 },
-    ghost long: { validity_count cells.validity cells.len ≡ cells.len },
+    ghost long: { HasBits cells.validity cells.len },
 }
 
 impl<'a> PlainTexts<'a> {
@@ -47,7 +46,7 @@ impl<'a> RowValues for PlainTexts<'a> {
 
     fn value_in(&self, row: usize) -> ValueRef<'_> {
         let place = self.first + row;
-        if !is_valid(self.cells.validity(), place) {
+        if !self.cells.validity().is_valid(place) {
             return ValueRef::Null;
         }
         ValueRef::Text(self.cells.get(place))

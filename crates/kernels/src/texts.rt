@@ -11,20 +11,19 @@ ghost use Rattle.scan_base.specs.declared.value.Value.{Value as CellValue};
 ghost use Rattle.scan_base.specs.declared.value.Value.TheVariants.{Text};
 ghost use Rattle.scan_base.specs.Truth.{negated_if};
 ghost use Rattle.arrays.specs.Texts.{AreTexts};
+ghost use Rattle.arrays.specs.Validity.{HasBits};
 ghost use Rattle.kernels.specs.Parts.{IsPart, said_of};
-ghost use Rattle.kernels.specs.Ranges.{validity_count};
 ghost use Rattle.kernels.specs.Tests.{tests};
 ghost use Rattle.kernels.specs.TextTests.{AreCut, cut_at, is_far, is_text_at};
 ghost use Rattle.kernels.specs.Words.{bit};
 
 use crate::kernel::{Kernel, Slots, mask_by};
-use crate::longs::{is_valid, of_test, valid_word};
+use crate::longs::of_test;
 use crate::mask::Mask;
 use crate::needle::Needle;
 use crate::part::ColumnPart;
 use crate::word::Word;
-use arrays::{Cells, Element, Layout, TextsRef};
-use bitmap::Bits;
+use arrays::{Cells, Element, Layout, TextsRef, Validity};
 use scan_base::{Comparison, Truth};
 use std::alloc::{AllocError, Global};
 use std::simd::prelude::*;
@@ -82,11 +81,11 @@ fn texts_equal(
 struct EqualTexts<'a> {
     offsets: &'a [u8],
     bytes: &'a [u8],
-    validity: &'a Option<Bits>,
+    validity: &'a Validity,
     count: usize,
     needle: Needle<'a>,
     ghost cut: { AreCut offsets.now bytes.now count },
-    ghost long: { count ≤ validity_count validity.now count },
+    ghost long: { HasBits validity.now count },
 }
 
 fn equal_texts<'a>(cells: &TextsRef<'a>, count: usize, text: &'a str) -> EqualTexts<'a>
@@ -118,7 +117,7 @@ impl<'a> Slots for EqualTexts<'a> {
         (is_text_at s.needle s.offsets.now s.bytes.now place) };
 
     fn truth(&self, place: usize) -> Truth {
-        if !is_valid(self.validity, place) {
+        if !self.validity.is_valid(place) {
             return Truth::Unknown;
         }
         of_test(self.is_needle(place))
@@ -131,7 +130,7 @@ impl<'a> Kernel for EqualTexts<'a> {
     fn word(&self, from: usize) -> Word {
         Word {
             truths: self.equal_word(from, self.long_word(from)),
-            knowns: valid_word(self.validity, from),
+            knowns: self.validity.valid_word(from),
         }
     }
 }

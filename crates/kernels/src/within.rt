@@ -7,30 +7,30 @@ ghost use Rattle.std.specs.List.{range_with_len};
 ghost use Rattle.scan_base.specs.declared.truth.Truth.{Truth as TruthValue};
 ghost use Rattle.scan_base.specs.declared.value.Value.{Value};
 ghost use Rattle.arrays.specs.Number.{element_at};
-ghost use Rattle.kernels.specs.Ranges.{is_within, said_where_valid, validity_count};
+ghost use Rattle.arrays.specs.Validity.{HasBits};
+ghost use Rattle.kernels.specs.Ranges.{is_within, said_where_valid};
 ghost use Rattle.kernels.specs.Ranging.{TestsBy};
 ghost use Rattle.kernels.specs.Words.{bit};
 
 use crate::ends::{Ends, ends_of};
 use crate::kernel::{Kernel, Slots, mask_by};
-use crate::longs::{is_valid, of_test, valid_word};
+use crate::longs::of_test;
 use crate::mask::Mask;
 use crate::pack::pack;
 use crate::range::Range;
 use crate::word::Word;
-use arrays::Element;
-use bitmap::Bits;
+use arrays::{Element, Validity};
 use num_traits::{Bounded, FromPrimitive};
 use scan_base::Truth;
 use std::alloc::{AllocError, Global};
 use std::simd::prelude::*;
 use std::simd::u8x64;
 
-/// Packed numbers in slots, and where there may be nulls the bits that say which slots are valid.
+/// Packed numbers in slots, and which of the slots are valid.
 #[derive(Clone, Copy, Drop)]
 pub struct Packed<'a> {
     pub values: &'a [u8],
-    pub validity: &'a Option<Bits>,
+    pub validity: &'a Validity,
     pub count: usize,
 }
 
@@ -38,12 +38,12 @@ pub struct Packed<'a> {
 #[derive(Drop)]
 pub struct Within<'a, E: Element> {
     pub values: &'a [u8],
-    pub validity: &'a Option<Bits>,
+    pub validity: &'a Validity,
     pub count: usize,
     pub least: E,
     pub most: E,
     ghost room: { E.WIDTH * count ≤ length values.now },
-    ghost long: { validity_count validity.now count ≡ count },
+    ghost long: { HasBits validity.now count },
 }
 
 impl<'a, E: Element> Slots for Within<'a, E> {
@@ -58,7 +58,7 @@ impl<'a, E: Element> Slots for Within<'a, E> {
         (E.value (E.of_bits (element_at E.WIDTH s.values.now place)))) };
 
     fn truth(&self, place: usize) -> Truth {
-        if !is_valid(self.validity, place) {
+        if !self.validity.is_valid(place) {
             return Truth::Unknown;
         }
         of_test(self.passes(place))
@@ -71,7 +71,7 @@ impl<'a, E: Element> Kernel for Within<'a, E> {
     fn word(&self, from: usize) -> Word {
         Word {
             truths: self.passes_word(from),
-            knowns: valid_word(self.validity, from),
+            knowns: self.validity.valid_word(from),
         }
     }
 }
@@ -116,7 +116,7 @@ pub(crate) fn cells_in<E: Element + Bounded + FromPrimitive>(
 ) -> Result<Mask, AllocError>
     requires within { first + len ≤ packed.now.count }
     requires room { E.WIDTH * packed.now.count ≤ length packed.now.values.now }
-    requires long { validity_count packed.now.validity.now packed.now.count ≡ packed.now.count }
+    requires long { HasBits packed.now.validity.now packed.now.count }
     requires small { first + len < 2 ^ 64 }
     requires fits { (place : ℕ) →
         E.fits (E.value (E.of_bits (element_at E.WIDTH packed.now.values.now place))) }
@@ -135,7 +135,7 @@ pub(crate) fn cells_in<E: Element + Bounded + FromPrimitive>(
 // Whether each slot is between the ends.
 fn within_ends<'a, E: Element>(packed: &Packed<'a>, ends: &Ends<E>) -> Within<'a, E>
     requires room { E.WIDTH * packed.now.count ≤ length packed.now.values.now }
-    requires long { validity_count packed.now.validity.now packed.now.count ≡ packed.now.count }
+    requires long { HasBits packed.now.validity.now packed.now.count }
     ensures values { result.values.now ≡ packed.now.values.now }
     ensures validity { result.validity.now ≡ packed.now.validity.now }
     ensures count { result.count ≡ packed.now.count }

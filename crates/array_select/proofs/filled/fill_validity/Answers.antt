@@ -30,4 +30,5 @@ pub returns-clause-typed : goal.returns-clause-typed
 returns-clause-typed g c data_type all k low = c.loop-slot.invariant.typed data_type all k (omega (arith, low, c.loop-slot-test.false))
 
 pub returns-clause-valid : goal.returns-clause-valid
-returns-clause-valid g c = flags_valid g.S.Source.held c.args.slots.now c.loop-slot.slot-index c.loop-slot.bits c.in_ok-into_bits.field-0 c.loop-slot-test.false c.in_ok-into_bits.ensures.value c.loop-slot.invariant.bits
+returns-clause-valid g c =
+    rw c.new-2.ensures (flags_valid g.S.Source.held c.args.slots.now c.loop-slot.slot-index c.loop-slot.bits c.in_ok-into_bits.field-0 c.loop-slot-test.false c.in_ok-into_bits.ensures.value c.loop-slot.invariant.bits)

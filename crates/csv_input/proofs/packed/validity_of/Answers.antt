@@ -23,4 +23,5 @@ loop-value-preserved c =
     }
 
 pub returns : goal.returns
-returns c = flags_valid value_of c.args.values.now c.loop-value.value-index c.loop-value.bits c.in_ok-into_bits.field-0 c.loop-value-test.false c.in_ok-into_bits.ensures.value c.loop-value.invariant.bits
+returns c =
+    rw c.new-2.ensures (flags_valid value_of c.args.values.now c.loop-value.value-index c.loop-value.bits c.in_ok-into_bits.field-0 c.loop-value-test.false c.in_ok-into_bits.ensures.value c.loop-value.invariant.bits)
