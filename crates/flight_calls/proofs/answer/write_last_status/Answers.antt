@@ -1,11 +1,11 @@
-use Rattle.std.proofs.lemmas.Result.{err_from_is_err_and}
-use Rattle.grpc_frame.proofs.Sending.{flushed, begun_alone}
+use Rattle.std.proofs.Common.{Some, subst, append-nil}
+use Rattle.grpc_frame.specs.Calls.{status_of}
+use Rattle.grpc_frame.specs.Outgoing.{SendsAll}
+use Rattle.grpc_frame.specs.Records.{spelling}
+use Rattle.grpc_frame.proofs.Outgoing.{sends_then}
 use Rattle.flight_calls.proofs.answer.write_last_status.Goals as goal
 
-pub returns-in_err-send_status-clause-bytes : goal.returns-in_err-send_status-clause-bytes
-returns-in_err-send_status-clause-bytes g c =
-    let p = err_from_is_err_and c.from_residual.result c.from_residual.ensures.1 in
-    rw p.1 (begun_alone _ _ _ _ _ c.requires.empty c.in_err-send_status.ensures.bytes)
-
 pub returns-clause-bytes : goal.returns-clause-bytes
-returns-clause-bytes g c = flushed _ _ _ _ _ _ _ c.requires.empty c.in_ok-send_status.ensures.bytes c.flush.ensures.bytes
+returns-clause-bytes g c =
+    subst (SendsAll c.flush.result c.args.sender.now c.flush.new.self) (append-nil (spelling (status_of (Some c.args.fault))))
+    (sends_then c.flush.result _ _ _ _ _ c.in_ok-send_status.ensures.bytes c.flush.ensures.bytes)
