@@ -37,10 +37,10 @@ const LOOKED_ROWS: usize = 1_048_576;
 
 /// Writes an answer: each payload in a Message, of which a large part is not copied, and then the
 /// Status. Where it is small it is one write. The payloads of a parcel of a stream are sent before
-/// the next one is made, and of them no more than `MAX_GATHERED_LEN` bytes wait for the next write. Where
-/// the second parcel may come late (`Opening::takes_long`), the first is written at once. Where
-/// 1,048,576 rows were looked at without one that is given, what waits is written, and the other
-/// end is looked at.
+/// the next one is made, and of them no more than `MAX_GATHERED_LEN` bytes wait for the next write.
+/// Where the second parcel may come late (`Opening::takes_long`), the first is written at once.
+/// Where 1,048,576 rows were looked at without one that is given, what waits is written, and the
+/// other end is looked at.
 ///
 /// # Errors
 ///
@@ -72,7 +72,8 @@ fn send_answer<W: Output, X: Executor>(
     requires { FitsMessages answer }
     ensures bytes { (asked : Result Asked FaultAt) (log new : Log) →
         AnsweredBy asked log answer new →
-        SendsReply (λ reply. ReplyTo asked log reply new × IsReplyOf answer reply) result sender.old sender.new }
+        SendsReply (λ reply. ReplyTo asked log reply new × IsReplyOf answer reply)
+        result sender.old sender.new }
     ensures counted { KeepsCount result sender.old sender.new }
 {
     match answer {
@@ -96,7 +97,8 @@ fn send_reply<W: Output>(sender: &mut Sender<'_, W>, reply: &Reply) -> Result<()
 
 // Sends the floor after an expiry.
 fn send_floor<W: Output>(sender: &mut Sender<'_, W>, floor: u64) -> Result<(), Fault>
-    ensures { SendsAll result sender.old sender.new (answer_bytes (whole (floor_bytes floor ∷ []))) }
+    ensures { SendsAll result sender.old sender.new
+        (answer_bytes (whole (floor_bytes floor ∷ []))) }
 {
     sender.send_message(&floor_message(floor))?;
     sender.send_status(None)
@@ -148,7 +150,8 @@ fn send_fetch<W: Output, X: Executor>(
     opening: Opening,
 ) -> Result<(), Fault>
     ensures bytes { (database : Database) (handle : HandleAt) → Opens database handle (Ok opening) →
-        SendsReply (λ reply. FetchAt database handle reply.payloads reply.fault) result sender.old sender.new }
+        SendsReply (λ reply. FetchAt database handle reply.payloads reply.fault)
+        result sender.old sender.new }
     ensures counted { KeepsCount result sender.old sender.new }
 {
     let alloc = setting.alloc;

@@ -5,8 +5,8 @@ use Rattle.scan_base.specs.declared.fault.Fault.{Fault}
 use Rattle.scan_base.specs.declared.fault.Fault.TheVariants.{Transport}
 use Rattle.grpc_frame.specs.Ends.{AppendsBeginning}
 
--- What is on its way to a writer: the name of the reference to the writer; what that holds, where it
--- is known; what waits for the next write; and how many writes have failed.
+-- What is on its way to a writer: the name of the reference to the writer; what the writer holds,
+-- where that is known; what waits for the next write; and how many writes have failed.
 pub record Outgoing : Type 0 where
   pub writer : ℕ
   pub held : Option (List ℕ)
