@@ -223,11 +223,14 @@ struct Watching<'s, 'w, W: Output> {
 
 // After so many rows what was sent is written, and the other end is looked at.
 impl<'s, 'w, W: Output> Watches for Watching<'s, 'w, W> {
-    ghost use Rattle.std.specs.Prelude.{◌≡◌, None, refl};
+    ghost use Rattle.std.specs.Prelude.{◌≡◌, IsSome, None, refl};
     ghost use Rattle.std.proofs.Common.{◌∙◌};
     ghost use Rattle.flight_calls.specs.Watched.{IsWatched, still_watched, watched_again};
 
     ghost ready = { λ w. w.failed ≡ None };
+
+    // It ends the work only with a fault of the other end.
+    ghost ended = { λ w. IsSome w.failed };
 
     ghost watched = { λ old new. (new.sender.ghost_name ≡ old.sender.ghost_name)
         × IsWatched old.failed new.failed old.sender.now new.sender.now };
