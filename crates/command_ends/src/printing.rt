@@ -34,6 +34,7 @@ impl Model for Announced {
 /// # Errors
 ///
 /// `Fault::Transport` where a write failed. It is counted, and a beginning of the line is written.
+#[tactic(auto, using(grpc_frame::proofs::Outgoing::ended))]
 pub fn print_count<W: Output>(alloc: Global, output: &mut W, rows: u64) -> Result<(), Fault>
     requires { CanFail (W.failures output.old) }
     ensures bytes { Writes result (W.contents output.old) (W.contents output.new)
@@ -52,6 +53,7 @@ pub fn print_count<W: Output>(alloc: Global, output: &mut W, rows: u64) -> Resul
 /// # Errors
 ///
 /// `Fault::Transport` where a write failed. It is counted, and a beginning of the line is written.
+#[tactic(auto, using(grpc_frame::proofs::Outgoing::ended))]
 pub fn print_listening<W: Output>(
     alloc: Global,
     output: &mut W,
@@ -90,6 +92,7 @@ fn write_listening<W: Output>(sender: &mut Sender<'_, W>, port: u16) -> Result<(
 /// # Errors
 ///
 /// `Fault::Transport` where a write failed. It is counted, and a beginning of the line is written.
+#[tactic(auto, using(grpc_frame::proofs::Outgoing::ended))]
 pub fn print_floor<W: Output>(alloc: Global, output: &mut W, floor: u64) -> Result<(), Fault>
     requires { CanFail (W.failures output.old) }
     ensures bytes { Writes result (W.contents output.old) (W.contents output.new)

@@ -88,14 +88,14 @@ all_written a b bytes before after p =
 pub begun_written : (a b : Outgoing) (bytes : List ℕ) → a.waiting ≡ [] → IsBroken a b bytes → AppendsBeginning a.held b.held bytes
 begun_written a b bytes before p = subst (AppendsBeginning a.held b.held) (ap (λ (l : List ℕ). l ++ bytes) before) p.begun
 
-pub writes_all : {A : Type 0} (r : Result A Fault) (a b : Outgoing) (bytes : List ℕ) → a.waiting ≡ [] → b.waiting ≡ [] → SendsAll r a b bytes → Writes r a.held b.held bytes
-writes_all (Ok x) a b bytes before after p = all_written a b bytes before after p
-writes_all (Err e) a b bytes before after p = begun_written a b bytes before p.1
+pub writes_all : {A : Type 0} (r : Result A Fault) (a b : Outgoing) (bytes : List ℕ) (old new : Option (List ℕ)) → SendsAll r a b bytes → a.waiting ≡ [] → b.waiting ≡ [] → a.held ≡ old → b.held ≡ new → Writes r old new bytes
+writes_all (Ok x) a b bytes old new p before after begins ends = rw (← begins, ← ends) (all_written a b bytes before after p)
+writes_all (Err e) a b bytes old new p before after begins ends = rw (← begins, ← ends) (begun_written a b bytes before p.1)
 
 -- and a failure is counted, where it can be
-pub counts_failure : {A : Type 0} (r : Result A Fault) (a b : Outgoing) (bytes : List ℕ) → CanFail a.failures → SendsAll r a b bytes → CountsFailure r a.failures b.failures
-counts_failure (Ok x) a b bytes can p = p.quiet.failures
-counts_failure (Err e) a b bytes can p = p.1.failed.failures ∙ one_more_is a.failures can
+pub counts_failure : {A : Type 0} (r : Result A Fault) (a b : Outgoing) (bytes : List ℕ) (old new : ℕ) → SendsAll r a b bytes → CanFail old → a.failures ≡ old → b.failures ≡ new → CountsFailure r old new
+counts_failure (Ok x) a b bytes old new p can begins ends = sym ends ∙ p.quiet.failures ∙ begins
+counts_failure (Err e) a b bytes old new p can begins ends = sym ends ∙ p.1.failed.failures ∙ ap one_more begins ∙ one_more_is old can
 
 pub fails_by : {A : Type 0} (r : Result A Fault) (a b : Outgoing) (bytes : List ℕ) → SendsAll r a b bytes → FailsByTransport r
 fails_by (Ok x) a b bytes p = tt
@@ -163,3 +163,6 @@ pub ruleset outgoing = (head_broken, sends_then, gathered, waiting_written, part
 
 -- the count of their failures
 pub ruleset counts = (keeps_count, counts_then)
+
+-- a sender that gives its writer back
+pub ruleset ended = (writes_all, counts_failure, fails_by)
