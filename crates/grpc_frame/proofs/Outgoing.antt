@@ -69,6 +69,18 @@ pub sends_then : {A : Type 0} (r : Result A Fault) (a b c : Outgoing) (head cont
 sends_then (Ok x) a b c head content p q = sent_then a b c head content p q
 sends_then (Err e) a b c head content p q = (q.0, broken_then a b c head content p q.1)
 
+-- they were sent, and then nothing more, as what waited was written
+pub then_flushed : {A : Type 0} (r : Result A Fault) (a b c : Outgoing) (bytes : List ℕ) → IsSent a b bytes → SendsAll r b c [] → SendsAll r a c bytes
+then_flushed r a b c bytes p q = subst (SendsAll r a c) (append-nil bytes) (sends_then r a b c bytes [] p q)
+
+-- what waited was written, and then they were sent
+pub flushed_then : {A : Type 0} (r : Result A Fault) (a b c : Outgoing) (bytes : List ℕ) → IsSent a b [] → SendsAll r b c bytes → SendsAll r a c bytes
+flushed_then r a b c bytes p q = sends_then r a b c [] bytes p q
+
+-- or not
+pub not_flushed : (a b : Outgoing) (bytes : List ℕ) → IsBroken a b [] → IsBroken a b bytes
+not_flushed a b bytes p = head_broken a b [] bytes p
+
 -- what is sent or not is counted
 pub keeps_count : {A : Type 0} (r : Result A Fault) (a b : Outgoing) (bytes : List ℕ) → SendsAll r a b bytes → KeepsCount r a b
 keeps_count (Ok x) a b bytes p = p.quiet
@@ -159,7 +171,7 @@ looked (Err e) a b writer held counted kind none same = (
 )
 
 -- parts that are sent one after the other
-pub ruleset outgoing = (head_broken, sends_then, gathered, waiting_written, part_written, looked)
+pub ruleset outgoing = (head_broken, sends_then, then_flushed, flushed_then, not_flushed, gathered, waiting_written, part_written, looked)
 
 -- the count of their failures
 pub ruleset counts = (keeps_count, counts_then)

@@ -1,8 +1,7 @@
-use Rattle.std.proofs.Common.{◌≡◌, ◌++◌, append-nil, rules, subst}
+use Rattle.std.proofs.Common.{◌≡◌, rules}
 use Rattle.std.proofs.lemmas.Result.{err_from_is_err_and}
 use Rattle.std.specs.Fmt.{decimal}
-use Rattle.grpc_frame.specs.Outgoing.{SendsAll}
-use Rattle.grpc_frame.proofs.Outgoing.{sends_then}
+use Rattle.grpc_frame.proofs.Outgoing.{then_flushed}
 use Rattle.command_ends.proofs.printing.write_number.Goals as goal
 
 pub returns-in_err-send_parts-clause-bytes : goal.returns-in_err-send_parts-clause-bytes
@@ -14,6 +13,4 @@ returns-in_err-send_parts-clause-bytes g c =
 pub returns-clause-bytes : goal.returns-clause-bytes
 returns-clause-bytes g c =
     let is : c.as_bytes.result.now ≡ decimal c.args.number = search rules in
-    let bytes = decimal c.args.number ++ c.args.behind.now in
-    subst (SendsAll c.flush.result c.args.sender.now c.flush.new.self) (append-nil bytes)
-    (sends_then c.flush.result _ _ _ bytes _ (rw is at c.in_ok-send_parts.ensures) c.flush.ensures.bytes)
+    then_flushed _ _ _ _ _ (rw is at c.in_ok-send_parts.ensures) c.flush.ensures.bytes
