@@ -46,6 +46,7 @@ const LOOKED_ROWS: usize = 1_048_576;
 ///
 /// `Fault::Transport` where a write failed. It is counted, and a beginning of the answer is
 /// written.
+#[tactic(auto, using(grpc_frame::proofs::Outgoing::counts))]
 pub fn write_answer<W: Output, X: Executor>(
     setting: &Setting<'_, X>,
     sender: &mut Sender<'_, W>,
@@ -64,6 +65,7 @@ pub fn write_answer<W: Output, X: Executor>(
 }
 
 // Sends an answer.
+#[tactic(auto, using(grpc_frame::proofs::Outgoing::counts))]
 fn send_answer<W: Output, X: Executor>(
     setting: &Setting<'_, X>,
     sender: &mut Sender<'_, W>,
@@ -144,6 +146,7 @@ fn send_given<W: Output>(
 
 // Sends the answer to a fetch: the payload of its schema, and after it those of its stream, which
 // is made then.
+#[tactic(auto, using(grpc_frame::proofs::Outgoing::counts))]
 fn send_fetch<W: Output, X: Executor>(
     setting: &Setting<'_, X>,
     sender: &mut Sender<'_, W>,
@@ -337,6 +340,7 @@ impl<'s, 'w, W: Output> ReadsPayloads for Sending<'s, 'w, W> {
 // Sends the payloads that are given, and then the Status. Where they may come late, each parcel is
 // written at once. Where a stream is refused, a beginning is sent, and the fault: F20 or F21. Where
 // a turn gives nothing yet, what was sent before is written, and the other end is looked at.
+#[tactic(auto, using(grpc_frame::proofs::Outgoing::counts))]
 fn send_stream<W: Output, P: Payloads>(
     pace: Pace,
     sender: &mut Sender<'_, W>,

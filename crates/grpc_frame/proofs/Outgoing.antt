@@ -174,7 +174,7 @@ looked (Err e) a b writer held counted kind none same = (
 pub ruleset outgoing = (head_broken, sends_then, then_flushed, flushed_then, not_flushed, gathered, waiting_written, part_written, looked)
 
 -- the count of their failures
-pub ruleset counts = (keeps_count, counts_then)
+pub ruleset counts = (keeps_count, counts_then, quiet_then, failed_then)
 
 -- a sender that gives its writer back
 pub ruleset ended = (writes_all, counts_failure, fails_by)

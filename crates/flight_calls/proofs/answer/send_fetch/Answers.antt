@@ -1,5 +1,6 @@
 use Rattle.std.proofs.Common.{inl, refl}
 use Rattle.std.proofs.lemmas.Result.{err_from_is_err_and}
+use Rattle.grpc_frame.proofs.Outgoing.{failed_then}
 use Rattle.flight_calls.proofs.Streaming.{first_given, made_behind, sends_fetch, stream_begins, stream_ends_by, stream_fails, stream_goes_on, stream_rest, stream_stops, stream_waits}
 use Rattle.flight_calls.proofs.answer.send_fetch.Goals as goal
 
@@ -54,3 +55,17 @@ returns-clause-bytes g c database handle opens =
     let waited = stream_waits law opening _ _ _ _ _ sent refl c.in_ok-stream.ensures.bytes in
     sends_fetch database handle law opening _ _ _ opens
     (stream_ends_by law _ _ opening _ _ _ _ waited (λ none. inl refl) c.send_status-in-None.ensures.bytes)
+
+-- ---- the count of failures
+
+pub returns-in_err-send_first-clause-counted : goal.returns-in_err-send_first-clause-counted
+returns-in_err-send_first-clause-counted g c =
+    let p = err_from_is_err_and c.from_residual.result c.from_residual.ensures.1 in
+    let failed = c.in_err-send_first.ensures in
+    rw (p.1, p.2) (failed.0, failed.1.failed)
+
+pub returns-in_err-stream-clause-counted : goal.returns-in_err-stream-clause-counted
+returns-in_err-stream-clause-counted g c =
+    let p = err_from_is_err_and c.from_residual-in_err-stream.result c.from_residual-in_err-stream.ensures.1 in
+    let failed = c.in_err-stream.ensures.bytes in
+    rw (p.1, p.2) (failed.0, failed_then _ _ _ c.in_ok-send_first.ensures.quiet failed.1.failed)

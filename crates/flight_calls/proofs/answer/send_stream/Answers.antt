@@ -1,6 +1,7 @@
 use Rattle.std.proofs.Common.{ap, arith}
 use Rattle.std.proofs.lemmas.Result.{err_from_is_err_and}
 use Rattle.fetch_stream.proofs.Answering.{fewer_turns, gave, turns}
+use Rattle.grpc_frame.proofs.Outgoing.{failed_then}
 use Rattle.flight_calls.proofs.Streaming.{some_left, stream_begins, parcel_goes_on, parcel_fails, stream_ends, stream_refused, stream_stops, stream_waits}
 use Rattle.flight_calls.proofs.answer.send_stream.Goals as goal
 
@@ -41,6 +42,18 @@ returns-in_err-look-in-Ok-Working-clause-bytes g c =
     let p = err_from_is_err_and c.from_residual-in_err-look-in-Ok-Working.result c.from_residual-in_err-look-in-Ok-Working.ensures.1 in
     let waits = rw c.in-Ok-Working.field-0-is at c.in-Ok-Working.ensures.turns in
     rw (p.1, p.2) (stream_stops c.streams_answer.ensures _ _ _ _ _ _ c.loop-parcel.invariant c.in_err-look-in-Ok-Working.ensures)
+
+pub returns-in_err-send_given-in-Ok-Given-clause-counted : goal.returns-in_err-send_given-in-Ok-Given-clause-counted
+returns-in_err-send_given-in-Ok-Given-clause-counted g c =
+    let p = err_from_is_err_and c.from_residual.result c.from_residual.ensures.1 in
+    let failed = c.in_err-send_given-in-Ok-Given.ensures in
+    rw (p.1, p.2) (failed.0, failed_then _ _ _ c.loop-parcel.invariant.sent.quiet failed.1.failed)
+
+pub returns-in_err-look-in-Ok-Working-clause-counted : goal.returns-in_err-look-in-Ok-Working-clause-counted
+returns-in_err-look-in-Ok-Working-clause-counted g c =
+    let p = err_from_is_err_and c.from_residual-in_err-look-in-Ok-Working.result c.from_residual-in_err-look-in-Ok-Working.ensures.1 in
+    let failed = c.in_err-look-in-Ok-Working.ensures in
+    rw (p.1, p.2) (failed.0, failed_then _ _ _ c.loop-parcel.invariant.sent.quiet failed.1.failed)
 
 pub returns-in-Ok-End-clause-bytes : goal.returns-in-Ok-End-clause-bytes
 returns-in-Ok-End-clause-bytes g c =
