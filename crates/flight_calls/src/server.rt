@@ -124,8 +124,9 @@ fn refuse<W: Output>(sender: &mut Sender<'_, W>, fault: Fault) -> Result<(), Fau
         sender.old.failures sender.new.failures }
     ensures writer { sender.new.writer ≡ sender.old.writer }
 {
-    if fault == Fault::Transport || write_last_status(sender, fault).is_err() {
-        return Err(Fault::Transport);
+    if fault == Fault::Transport {
+        return Err(fault);
     }
+    write_last_status(sender, fault)?;
     Err(fault)
 }
