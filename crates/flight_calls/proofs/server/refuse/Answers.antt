@@ -1,4 +1,4 @@
-use Rattle.std.proofs.Common.{Err, ap, inr, refl, rules, ◌∙◌}
+use Rattle.std.proofs.Common.{Err, ap, inl, inr, refl, rules, ◌∙◌}
 use Rattle.std.proofs.lemmas.Result.{err_from_is_err_and}
 use Rattle.grpc_frame.proofs.Outgoing.{all_written, begun_written, one_more_is}
 use Rattle.flight_calls.proofs.server.refuse.Goals as goal
