@@ -1,5 +1,5 @@
 -- The fetch that a stream answers.
-use Rattle.std.proofs.Common.{List, ℕ, Option, Result, Ok, inl, sym, subst}
+use Rattle.std.proofs.Common.{Result, Ok, inl, sym, subst}
 use Rattle.scan_base.specs.declared.fault.Fault.{Fault}
 use Rattle.grpc_frame.specs.Outgoing.{Outgoing}
 use Rattle.endpoint_split.specs.Handle.{HandleAt}

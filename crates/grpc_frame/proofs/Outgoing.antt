@@ -1,10 +1,9 @@
 -- Bytes that a sender sends.
 use Rattle.std.proofs.Common.{◌≡◌, ℕ, ◌+◌, List, [], ◌++◌, Option, refl, sym, ap, subst, ◌∙◌, append_assoc, append-nil, arith}
-use Rattle.std.specs.Prelude.{Result, Ok, Err, min}
+use Rattle.std.specs.Prelude.{Result, Ok, Err}
 use Rattle.std.specs.Io.KnownBytes.{Appends}
 use Rattle.std.proofs.KnownBytes.{Appends-nil, Appends-trans}
 use Rattle.scan_base.specs.declared.fault.Fault.{Fault}
-use Rattle.scan_base.specs.declared.fault.Fault.TheVariants.{Transport}
 use Rattle.grpc_frame.specs.Ends.{AppendsBeginning, CanFail, CountsFailure, FailsByTransport, Writes}
 use Rattle.grpc_frame.specs.Outgoing.{CountsUp, HasFailed, IsBroken, IsQuiet, IsSent, KeepsCount, Outgoing, SendsAll, one_more}
 use Rattle.grpc_frame.proofs.Growing.{beginning_of_head, beginning_of_content, no_beginning}
