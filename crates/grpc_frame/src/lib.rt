@@ -16,6 +16,7 @@ mod memory;
 mod outbox;
 mod place;
 mod record;
+mod sender;
 mod transcript;
 mod write;
 
@@ -26,3 +27,4 @@ pub use crate::memory::{MemoryInput, MemoryOutput};
 pub use crate::outbox::{MAX_GATHERED_LEN, Outbox};
 pub use crate::place::Place;
 pub use crate::record::{MAX_MESSAGE_LEN, MAX_PATH_LEN, Record};
+pub use crate::sender::Sender;
