@@ -1,5 +1,7 @@
 pub mod Fetched
-pub mod Parts
+pub mod Formats
+pub mod Texts
+pub mod Writers
 pub mod Passing
 pub mod Even
 pub mod Spread

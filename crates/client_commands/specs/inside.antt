@@ -1,8 +1,7 @@
 -- What only the contracts of private functions cite.
 pub mod Naming
-pub mod Parts
+pub mod Writers
 pub mod Passing
 pub mod Runs
 pub mod Relaying
-pub mod Forms
 pub mod RowsSent

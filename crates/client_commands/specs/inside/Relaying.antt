@@ -9,11 +9,12 @@ use Rattle.flight_client.specs.Stream.{StreamAt}
 use Rattle.client_calls.specs.declared.failure.Failure.{Failure}
 use Rattle.client_calls.specs.Outcome.{Line}
 use Rattle.client_calls.specs.Taking.{BeginsFetch, FetchAt}
+use Rattle.command_line.specs.declared.request.Format.{Format}
 use Rattle.command_ends.specs.Network.{Ends}
 use Rattle.command_ends.specs.Printing.{Said, Prints, cause_lines}
 use Rattle.command_ends.specs.declared.exit_status.ExitStatus.{ExitStatus}
 use Rattle.command_ends.specs.declared.exit_status.ExitStatus.TheVariants.{FaultAtThisEnd}
-use Rattle.client_commands.specs.declared.apart.Refused.{Refused}
+use Rattle.client_commands.specs.declared.ahead.Refused.{Refused}
 use Rattle.client_commands.specs.declared.lost.Lost.{Lost}
 use Rattle.client_commands.specs.declared.lost.Lost.TheVariants.{Failed, Unconnected}
 use Rattle.client_commands.specs.Fetching.{FetchesEach}
@@ -26,6 +27,12 @@ use Rattle.client_commands.specs.Streaming.{WritesBroken}
 use Rattle.client_commands.specs.inside.Runs.{IsOpen, Opens, PassingAt, StopsInRun}
 
 -- ---- the next connection
+
+-- what was made, or why it was not
+abbrev pub Settles : {N V : Type 0} → Result (Result V Failure) (Refused N) → Result V Lost → Type 0
+Settles (Ok (Ok value)) result = result ≡ Ok value
+Settles (Ok (Err failure)) result = result ≡ Err (Failed failure)
+Settles (Err refused) result = result ≡ Err (Unconnected refused.error)
 
 -- a handle gave a connection, over which a stream was begun, seen by `view`, or failed; or it gave
 -- none
@@ -49,39 +56,40 @@ BeginsAtLast Gives view ticket handle (Err (Unconnected error)) = RefusesTwice G
 
 -- after these streams the stream of an endpoint is begun over a connection of a handle, or not, and
 -- what is written breaks off
-abbrev pub TakesOver : {N V : Type 0} → Giving N → (V → PassingAt) → EndpointSaid → N →
+abbrev pub TakesOver : {N V : Type 0} → Giving N → Format → (V → PassingAt) → EndpointSaid → N →
     List StreamAt → Said → Result V Lost → Said → Type 0
-TakesOver Gives view endpoint handle streams begun (Ok passing) out =
+TakesOver Gives format view endpoint handle streams begun (Ok passing) out =
     (ends : Ends) × GivesAtLast Gives handle ends
-    × Opens view (Ok passing) streams endpoint (opened_line ends) begun out
-TakesOver Gives view endpoint handle streams begun (Err (Failed failure)) out =
+    × Opens format view (Ok passing) streams endpoint (opened_line ends) begun out
+TakesOver Gives format view endpoint handle streams begun (Err (Failed failure)) out =
     (ends : Ends) × GivesAtLast Gives handle ends
-    × Opens view (Err failure) streams endpoint (opened_line ends) begun out
-TakesOver Gives view endpoint handle streams begun (Err (Unconnected error)) out =
-    RefusesTwice Gives handle × WritesBroken streams begun out
+    × Opens format view (Err failure) streams endpoint (opened_line ends) begun out
+TakesOver Gives format view endpoint handle streams begun (Err (Unconnected error)) out =
+    RefusesTwice Gives handle × WritesBroken format streams begun out
 
 -- ---- a run, and the next one
 
 -- a run came whole over a connection after these streams, and the next one was taken over, or not
-pub record PassesThen {N V : Type 0} (Gives : Giving N) (view : V → PassingAt) (next : EndpointSaid)
-    (handle : N) (before : List StreamAt) (run : List EndpointSaid) (line : Line) (begun : Said)
-    (result : Result V Lost) (out : Said) : Type 0 where
+pub record PassesThen {N V : Type 0} (Gives : Giving N) (format : Format) (view : V → PassingAt)
+    (next : EndpointSaid) (handle : N) (before : List StreamAt) (run : List EndpointSaid)
+    (line : Line) (begun : Said) (result : Result V Lost) (out : Said) : Type 0 where
   pub streams : List StreamAt
   pub last : Line
   pub fetched : FetchesEach run streams line last
-  pub takes : TakesOver Gives view next handle (before ++ streams) begun result out
+  pub takes : TakesOver Gives format view next handle (before ++ streams) begun result out
 
 -- it did, or it stopped within the run
-abbrev pub Relays : {N V : Type 0} → Giving N → (V → PassingAt) → EndpointSaid → N → List StreamAt →
-    List EndpointSaid → Line → Said → Result V Lost → Said → Type 0
-Relays Gives view next handle before run line begun result out =
+abbrev pub Relays : {N V : Type 0} → Giving N → Format → (V → PassingAt) → EndpointSaid → N →
+    List StreamAt → List EndpointSaid → Line → Said → Result V Lost → Said → Type 0
+Relays Gives format view next handle before run line begun result out =
     ((failure : Failure) × (result ≡ Err (Failed failure))
-    × StopsInRun before run failure line begun out)
-    ⊎ PassesThen Gives view next handle before run line begun result out
+    × StopsInRun format before run failure line begun out)
+    ⊎ PassesThen Gives format view next handle before run line begun result out
 
 -- the runs of all but the last of these connections came whole. Over the last one the first stream
 -- of its run is open; these are the run's other endpoints, and those of the runs after it
-pub record IsTurn (many : ℕ) (lines : List Line) (endpoints others behind : List EndpointSaid)
+pub record IsTurn (format : Format) (many : ℕ) (lines : List Line)
+    (endpoints others behind : List EndpointSaid)
     (begun : Said) (now : PassingAt) (out : Said) : Type 0 where
   pub before : List Line
   pub line : Line
@@ -90,7 +98,7 @@ pub record IsTurn (many : ℕ) (lines : List Line) (endpoints others behind : Li
   pub streams : List StreamAt
   pub runs : RunsCame many before endpoints ((endpoint ∷ others) ++ behind) streams
   pub even : IsEvenPart (length endpoints) many (length (endpoint ∷ others))
-  pub opened : IsOpen streams endpoint.ticket line begun now out
+  pub opened : IsOpen format streams endpoint.ticket line begun now out
 
 -- of a whole of so many parts so much is left for the others: their even parts are even parts of
 -- the whole, and there is one for each
@@ -100,38 +108,39 @@ pub record IsLeft (whole many rest others : ℕ) : Type 0 where
   pub none : others ≡ 0 → rest ≡ 0
 
 -- the same over the first connection and those of handles, of which these are left
-pub record IsTurnBy {N : Type 0} (Gives : Giving N) (first : Line) (handles left : List N)
-    (endpoints others behind : List EndpointSaid)
+pub record IsTurnBy {N : Type 0} (Gives : Giving N) (format : Format) (first : Line)
+    (handles left : List N) (endpoints others behind : List EndpointSaid)
     (begun : Said) (now : PassingAt) (out : Said) : Type 0 where
   pub done : List N
   pub all : done ++ left ≡ handles
   pub made : List Ends
   pub given : EachGives Gives done made
-  pub turn : IsTurn (length handles + 1)
+  pub turn : IsTurn format (length handles + 1)
       (first ∷ map opened_line made) endpoints others behind begun now out
   pub remains : IsLeft (length endpoints) (length handles + 1) (length behind) (length left)
 
 -- ---- all
 
--- all runs were passed on, and the stream was ended; or not, and why
-abbrev pub PassesRuns : {N : Type 0} → Giving N → Line → List N → List EndpointSaid →
+-- all runs were passed on, and what is written was ended; or not, and why
+abbrev pub PassesRuns : {N : Type 0} → Giving N → Format → Line → List N → List EndpointSaid →
     Result (Unit {0}) Lost → Said → Said → Type 0
-PassesRuns Gives first handles endpoints (Ok done) out out' =
-    IsWrittenWhole Gives first handles endpoints out out'
-PassesRuns Gives first handles endpoints (Err (Failed failure)) out out' =
-    StopsInTurn Gives first handles endpoints failure out out'
-PassesRuns Gives first handles endpoints (Err (Unconnected error)) out out' =
-    BreaksUnconnected Gives first handles endpoints out out'
+PassesRuns Gives format first handles endpoints (Ok done) out out' =
+    IsWrittenWhole Gives format first handles endpoints out out'
+PassesRuns Gives format first handles endpoints (Err (Failed failure)) out out' =
+    StopsInTurn Gives format first handles endpoints failure out out'
+PassesRuns Gives format first handles endpoints (Err (Unconnected error)) out out' =
+    BreaksUnconnected Gives format first handles endpoints out out'
 
 -- the rows of a query are written as they come, or not, and why
-abbrev pub StreamsOrNot : {N : Type 0} → Giving N → (N → N → N → Type 0) → ℕ → Wanted → N → N →
-    Result (Unit {0}) Lost → Line → Line → Said → Said → Type 0
-StreamsOrNot Gives Shares streams wanted old new (Ok done) first last out out' =
-    Streams Gives Shares streams wanted old new (Ok done) first last out out'
-StreamsOrNot Gives Shares streams wanted old new (Err (Failed failure)) first last out out' =
-    Streams Gives Shares streams wanted old new (Err failure) first last out out'
-StreamsOrNot Gives Shares streams wanted old new (Err (Unconnected error)) first last out out' =
-    StreamsUnconnected Gives Shares streams wanted old new first last out out'
+abbrev pub StreamsOrNot : {N : Type 0} → Giving N → (N → N → N → Type 0) → Format → ℕ → Wanted → N →
+    N → Result (Unit {0}) Lost → Line → Line → Said → Said → Type 0
+StreamsOrNot Gives Shares format streams wanted old new (Ok done) first last out out' =
+    Streams Gives Shares format streams wanted old new (Ok done) first last out out'
+StreamsOrNot Gives Shares format streams wanted old new (Err (Failed failure)) first last out out' =
+    Streams Gives Shares format streams wanted old new (Err failure) first last out out'
+StreamsOrNot Gives Shares format streams wanted old new (Err (Unconnected error)) first last out
+    out' =
+    StreamsUnconnected Gives Shares format streams wanted old new first last out out'
 
 -- nothing is said where all was written; and else the failure, or that there was no connection
 abbrev pub TellsStreamed : Result (Unit {0}) Lost → ExitStatus → Said → Said → Type 0

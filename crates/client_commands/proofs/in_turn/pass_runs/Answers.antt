@@ -32,7 +32,7 @@ returns-in_err-passing g c =
     let behind = c.cut_run.result.2.now in
     let many : c.saturating_add.result ≡ length c.args.handles.items + 1 = search rules in
     rw (p.1, p.2)
-    (first_stops (λ old ends new. g.C.Connect.connects old c.args.writing.port ends new) c.args.connection c.args.handles.items (map endpoint_said all) (said_of g.O.Output c.args.output.now)
+    (first_stops g.F.RowWriter.format (λ old ends new. g.C.Connect.connects old c.args.writing.port ends new) c.args.connection c.args.handles.items (map endpoint_said all) (said_of g.O.Output c.args.output.now)
     (endpoint_said first) (map endpoint_said others) (map endpoint_said behind) (cut_said first others behind all c.cut_run.ensures.all) (part_said first others all _ _ many c.cut_run.ensures.part) (fewer_said _ all c.requires.fewer)
     _ _ (c.in_err-passing.ensures (map endpoint_said others)))
 
@@ -46,11 +46,11 @@ loop-handle-init g c =
     let same : c.args.handles.items ≡ into_iter_items c.into_iter-handle-iterator.result = search rules in
     let begun = said_of g.O.Output c.args.output.now in
     let out = said_of g.O.Output c.begin_first.new.output in
-    let turn = first_turn (λ old ends new. g.C.Connect.connects old c.args.writing.port ends new) c.args.connection c.args.handles.items (map endpoint_said all) begun
+    let turn = first_turn g.F.RowWriter.format (λ old ends new. g.C.Connect.connects old c.args.writing.port ends new) c.args.connection c.args.handles.items (map endpoint_said all) begun
     (endpoint_said first) (map endpoint_said others) (map endpoint_said behind) (cut_said first others behind all c.cut_run.ensures.all) (part_said first others all _ _ many c.cut_run.ensures.part) (fewer_said _ all c.requires.fewer)
     c.in_ok-passing.passing out c.in_ok-passing.ensures in
     record {
-      turn = subst (λ left. IsTurnBy (λ old ends new. g.C.Connect.connects old c.args.writing.port ends new) c.args.connection c.args.handles.items left (map endpoint_said all) (map endpoint_said others) (map endpoint_said behind) begun c.in_ok-passing.passing out) same turn;
+      turn = subst (λ left. IsTurnBy (λ old ends new. g.C.Connect.connects old c.args.writing.port ends new) g.F.RowWriter.format c.args.connection c.args.handles.items left (map endpoint_said all) (map endpoint_said others) (map endpoint_said behind) begun c.in_ok-passing.passing out) same turn;
       left = search rules;
     }
 
@@ -70,9 +70,9 @@ returns-in_err-passing-2 g c =
     let begun = said_of g.O.Output c.args.output.now in
     let mid = said_of g.O.Output c.loop-handle.output in
     let many : c.loop-handle.left ≡ length rest + 1 = omega (arith, i.left, ap length front) in
-    let it = subst (λ left. IsTurnBy (λ old ends new. g.C.Connect.connects old c.args.writing.port ends new) c.args.connection c.args.handles.items left (map endpoint_said all) (map endpoint_said others) (map endpoint_said behind) begun c.loop-handle.passing mid) front i.turn in
+    let it = subst (λ left. IsTurnBy (λ old ends new. g.C.Connect.connects old c.args.writing.port ends new) g.F.RowWriter.format c.args.connection c.args.handles.items left (map endpoint_said all) (map endpoint_said others) (map endpoint_said behind) begun c.loop-handle.passing mid) front i.turn in
     rw (p.1, p.2)
-    (relay_lost (λ old ends new. g.C.Connect.connects old c.args.writing.port ends new) c.args.connection c.args.handles.items (map endpoint_said all) begun
+    (relay_lost g.F.RowWriter.format (λ old ends new. g.C.Connect.connects old c.args.writing.port ends new) c.args.connection c.args.handles.items (map endpoint_said all) begun
     handle rest (map endpoint_said others) (map endpoint_said behind) mid c.loop-handle.passing it
     (endpoint_said next) (map endpoint_said more) (map endpoint_said after) (cut_said next more after behind c.cut_run-in-loop-handle.ensures.all) (part_said next more behind _ _ many c.cut_run-in-loop-handle.ensures.part)
     (λ (passing : PassingAt). passing) _ _ (c.in_err-passing-2.ensures it.turn.streams it.turn.endpoint it.turn.line begun it.turn.opened))
@@ -93,9 +93,9 @@ loop-handle-preserved g c =
     let mid = said_of g.O.Output c.loop-handle.output in
     let out = said_of g.O.Output c.relay.new.output in
     let many : c.loop-handle.left ≡ length rest + 1 = omega (arith, i.left, ap length front) in
-    let it = subst (λ left. IsTurnBy (λ old ends new. g.C.Connect.connects old c.args.writing.port ends new) c.args.connection c.args.handles.items left (map endpoint_said all) (map endpoint_said others) (map endpoint_said behind) begun c.loop-handle.passing mid) front i.turn in
+    let it = subst (λ left. IsTurnBy (λ old ends new. g.C.Connect.connects old c.args.writing.port ends new) g.F.RowWriter.format c.args.connection c.args.handles.items left (map endpoint_said all) (map endpoint_said others) (map endpoint_said behind) begun c.loop-handle.passing mid) front i.turn in
     record {
-      turn = relayed (λ old ends new. g.C.Connect.connects old c.args.writing.port ends new) c.args.connection c.args.handles.items (map endpoint_said all) begun
+      turn = relayed g.F.RowWriter.format (λ old ends new. g.C.Connect.connects old c.args.writing.port ends new) c.args.connection c.args.handles.items (map endpoint_said all) begun
           handle rest (map endpoint_said others) (map endpoint_said behind) mid c.loop-handle.passing it
           (endpoint_said next) (map endpoint_said more) (map endpoint_said after) (cut_said next more after behind c.cut_run-in-loop-handle.ensures.all) (part_said next more behind _ _ many c.cut_run-in-loop-handle.ensures.part)
           (λ (passing : PassingAt). passing) out c.in_ok-passing-2.passing (c.in_ok-passing-2.ensures it.turn.streams it.turn.endpoint it.turn.line begun it.turn.opened);
@@ -113,9 +113,9 @@ returns-in_err-writer g c =
     let behind = c.loop-handle.behind.now in
     let begun = said_of g.O.Output c.args.output.now in
     let mid = said_of g.O.Output c.loop-handle.output in
-    let it = subst (λ left. IsTurnBy (λ old ends new. g.C.Connect.connects old c.args.writing.port ends new) c.args.connection c.args.handles.items left (map endpoint_said all) (map endpoint_said others) (map endpoint_said behind) begun c.loop-handle.passing mid) none i.turn in
+    let it = subst (λ left. IsTurnBy (λ old ends new. g.C.Connect.connects old c.args.writing.port ends new) g.F.RowWriter.format c.args.connection c.args.handles.items left (map endpoint_said all) (map endpoint_said others) (map endpoint_said behind) begun c.loop-handle.passing mid) none i.turn in
     rw (p.1, p.2)
-    (last_stops (λ old ends new. g.C.Connect.connects old c.args.writing.port ends new) c.args.connection c.args.handles.items (map endpoint_said all) begun
+    (last_stops g.F.RowWriter.format (λ old ends new. g.C.Connect.connects old c.args.writing.port ends new) c.args.connection c.args.handles.items (map endpoint_said all) begun
     (map endpoint_said others) (map endpoint_said behind) mid c.loop-handle.passing it _ _ (c.in_err-writer.ensures.passes it.turn.streams it.turn.endpoint it.turn.line begun it.turn.opened))
 
 pub end-requires : goal.end-requires
@@ -134,12 +134,12 @@ returns-in_err-end g c =
     let behind = c.loop-handle.behind.now in
     let begun = said_of g.O.Output c.args.output.now in
     let mid = said_of g.O.Output c.loop-handle.output in
-    let it = subst (λ left. IsTurnBy (λ old ends new. g.C.Connect.connects old c.args.writing.port ends new) c.args.connection c.args.handles.items left (map endpoint_said all) (map endpoint_said others) (map endpoint_said behind) begun c.loop-handle.passing mid) none i.turn in
+    let it = subst (λ left. IsTurnBy (λ old ends new. g.C.Connect.connects old c.args.writing.port ends new) g.F.RowWriter.format c.args.connection c.args.handles.items left (map endpoint_said all) (map endpoint_said others) (map endpoint_said behind) begun c.loop-handle.passing mid) none i.turn in
     let passed = c.in_ok-writer.ensures.passes it.turn.streams it.turn.endpoint it.turn.line begun it.turn.opened in
     let wrote = c.in_err-end.ensures.bytes _ (rows_held (it.turn.streams ++ passed.1.streams)) begun.bytes passed.1.sent.so in
     rw (p.1, p.2)
-    (not_ended (λ old ends new. g.C.Connect.connects old c.args.writing.port ends new) c.args.connection c.args.handles.items (map endpoint_said all) begun
-    (map endpoint_said others) (map endpoint_said behind) mid c.loop-handle.passing it c.in_ok-writer.writer passed.0 _ _ passed.1 _ wrote c.in_err-end.ensures.cause c.in_err-end.ensures.counted)
+    (not_ended g.F.RowWriter.format (λ old ends new. g.C.Connect.connects old c.args.writing.port ends new) c.args.connection c.args.handles.items (map endpoint_said all) begun
+    (map endpoint_said others) (map endpoint_said behind) mid c.loop-handle.passing it (g.F.RowWriter.state c.in_ok-writer.writer) passed.0 _ _ passed.1 _ wrote c.in_err-end.ensures.cause c.in_err-end.ensures.counted)
 
 pub returns : goal.returns
 returns g c =
@@ -151,8 +151,8 @@ returns g c =
     let behind = c.loop-handle.behind.now in
     let begun = said_of g.O.Output c.args.output.now in
     let mid = said_of g.O.Output c.loop-handle.output in
-    let it = subst (λ left. IsTurnBy (λ old ends new. g.C.Connect.connects old c.args.writing.port ends new) c.args.connection c.args.handles.items left (map endpoint_said all) (map endpoint_said others) (map endpoint_said behind) begun c.loop-handle.passing mid) none i.turn in
+    let it = subst (λ left. IsTurnBy (λ old ends new. g.C.Connect.connects old c.args.writing.port ends new) g.F.RowWriter.format c.args.connection c.args.handles.items left (map endpoint_said all) (map endpoint_said others) (map endpoint_said behind) begun c.loop-handle.passing mid) none i.turn in
     let passed = c.in_ok-writer.ensures.passes it.turn.streams it.turn.endpoint it.turn.line begun it.turn.opened in
     let wrote = c.in_ok-end.ensures.bytes _ (rows_held (it.turn.streams ++ passed.1.streams)) begun.bytes passed.1.sent.so in
-    ended_whole (λ old ends new. g.C.Connect.connects old c.args.writing.port ends new) c.args.connection c.args.handles.items (map endpoint_said all) begun
-    (map endpoint_said others) (map endpoint_said behind) mid c.loop-handle.passing it c.in_ok-writer.writer passed.0 _ _ passed.1 wrote c.in_ok-end.ensures.counted
+    ended_whole g.F.RowWriter.format (λ old ends new. g.C.Connect.connects old c.args.writing.port ends new) c.args.connection c.args.handles.items (map endpoint_said all) begun
+    (map endpoint_said others) (map endpoint_said behind) mid c.loop-handle.passing it (g.F.RowWriter.state c.in_ok-writer.writer) passed.0 _ _ passed.1 wrote c.in_ok-end.ensures.counted

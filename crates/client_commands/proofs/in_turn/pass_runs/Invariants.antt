@@ -8,7 +8,7 @@ use Rattle.client_commands.proofs.in_turn.pass_runs.Given as goal
 -- the runs before were passed on, and the next one is open
 abbrev pub invariant-loop-handle : goal.invariant-loop-handle
 invariant-loop-handle g l = record {
-  turn : IsTurnBy (λ old ends new. g.C.Connect.connects old l.fn.writing.port ends new) l.fn.connection l.fn.handles.items (into_iter_items l.handle-iterator)
+  turn : IsTurnBy (λ old ends new. g.C.Connect.connects old l.fn.writing.port ends new) g.F.RowWriter.format l.fn.connection l.fn.handles.items (into_iter_items l.handle-iterator)
       (map endpoint_said l.endpoints) (map endpoint_said l.others) (map endpoint_said l.behind) (said_of g.O.Output l.fn.output) l.passing (said_of g.O.Output l.output);
   left : l.left ≡ length (into_iter_items l.handle-iterator);
 }

@@ -10,17 +10,17 @@ returns-in-Ok-clause-opens g c streams begun sent =
     let mid = said_of g.O.Output c.args.output.now in
     let out = said_of g.O.Output c.fit_next.new.output in
     let endpoint = endpoint_said c.args.endpoint.now in
-    let was = subst (λ (now : PassedAt). AreSent streams begun now.writer mid) (sym c.passed.view_is) sent in
+    let was = subst (λ (now : PassedAt). AreSent g.F.RowWriter.format streams begun now.writer mid) (sym c.passed.view_is) sent in
     let it = rw c.deref.ensures.value at c.in-Ok.ensures in
-    subst (λ (now : PassedAt). Opens {A = PassingAt} (λ (passing : PassingAt). passing) c.fit_next.result streams endpoint now.line begun out) c.passed.view_is
-    (opens_by {A = PassingAt} (λ (passing : PassingAt). passing) streams endpoint c.passed.inside.connection begun mid out c.passed.inside.writer was c.in-Ok.fetching c.fit_next.result it c.fit_next.ensures)
+    subst (λ (now : PassedAt). Opens {A = PassingAt} g.F.RowWriter.format (λ (passing : PassingAt). passing) c.fit_next.result streams endpoint now.line begun out) c.passed.view_is
+    (opens_by g.F.RowWriter.format {A = PassingAt} (λ (passing : PassingAt). passing) streams endpoint c.passed.inside.connection begun mid out (g.F.RowWriter.state c.passed.inside.writer) was c.in-Ok.fetching c.fit_next.result it c.fit_next.ensures)
 
 pub returns-in-Err-clause-opens : goal.returns-in-Err-clause-opens
 returns-in-Err-clause-opens g c streams begun sent =
     let mid = said_of g.O.Output c.args.output.now in
     let out = said_of g.O.Output c.break_off.new.output in
     let endpoint = endpoint_said c.args.endpoint.now in
-    let was = subst (λ (now : PassedAt). AreSent streams begun now.writer mid) (sym c.passed.view_is) sent in
+    let was = subst (λ (now : PassedAt). AreSent g.F.RowWriter.format streams begun now.writer mid) (sym c.passed.view_is) sent in
     let stops = rw c.deref.ensures.value at c.in-Err.ensures in
-    subst (λ (now : PassedAt). Opens {A = PassingAt} (λ (passing : PassingAt). passing) (Err c.in-Err.failure) streams endpoint now.line begun out) c.passed.view_is
-    (not_opened {A = PassingAt} (λ (passing : PassingAt). passing) streams endpoint c.passed.inside.connection begun mid out c.passed.inside.writer was c.in-Err.failure c.break_off.ensures stops)
+    subst (λ (now : PassedAt). Opens {A = PassingAt} g.F.RowWriter.format (λ (passing : PassingAt). passing) (Err c.in-Err.failure) streams endpoint now.line begun out) c.passed.view_is
+    (not_opened g.F.RowWriter.format {A = PassingAt} (λ (passing : PassingAt). passing) streams endpoint c.passed.inside.connection begun mid out (g.F.RowWriter.state c.passed.inside.writer) was c.in-Err.failure c.break_off.ensures stops)

@@ -13,9 +13,9 @@ use Rattle.client_commands.proofs.streaming.pass_batches.Given as goal
 abbrev pub invariant-loop-batch : goal.invariant-loop-batch
 invariant-loop-batch g l = record {
   passes : (ticket : Payload) (schema own : Schema) (rows : Rows) (start : Option (List ℕ)) (begun : Line) (stream : StreamAt) → stream.rows ≡ [] →
-      IsPassing ticket schema own rows start begun stream l.initial.fetching (said_of g.O.Output l.initial.output) l.initial.writer →
-      (now : StreamAt) × IsPassing ticket schema own rows start begun now l.fetching (said_of g.O.Output l.output) l.writer;
-  fits : FitsSchema l.fetching.state l.writer.schema;
+      IsPassing g.F.RowWriter.format ticket schema own rows start begun stream l.initial.fetching (said_of g.O.Output l.initial.output) (g.F.RowWriter.state l.initial.writer) →
+      (now : StreamAt) × IsPassing g.F.RowWriter.format ticket schema own rows start begun now l.fetching (said_of g.O.Output l.output) (g.F.RowWriter.state l.writer);
+  fits : FitsSchema l.fetching.state (g.F.RowWriter.state l.writer).schema;
   count : g.O.Output.failures l.output ≡ g.O.Output.failures l.initial.output;
   calls : SameCounts l.initial.fetching.line l.fetching.line;
 }

@@ -13,7 +13,7 @@ returns-in_err-passed-2-clause-passes g c before endpoint line begun opened =
     let others = c.args.others.now in
     let place = c.loop-endpoint.endpoint-index in
     let stops = c.in_err-passed-2.ensures.passes before (endpoint ∷ map endpoint_said (take place others)) line begun (i.passed before endpoint line begun opened) (map endpoint_said (drop (place + 1) others)) in
-    rw (p.1, p.2) (stopped_among endpoint_said others place c.endpoint-item.result c.loop-endpoint-test.true c.endpoint-item.is before endpoint _ line begun _ stops)
+    rw (p.1, p.2) (stopped_among g.F.RowWriter.format endpoint_said others place c.endpoint-item.result c.loop-endpoint-test.true c.endpoint-item.is before endpoint _ line begun _ stops)
 
 pub loop-endpoint-preserved : goal.loop-endpoint-preserved
 loop-endpoint-preserved g c =
@@ -22,7 +22,7 @@ loop-endpoint-preserved g c =
     let place = c.loop-endpoint.endpoint-index in
     record {
       passed = λ before endpoint line begun opened.
-          passed_more endpoint_said others place c.endpoint-item.result c.loop-endpoint-test.true c.endpoint-item.is before endpoint line begun _ _
+          passed_more g.F.RowWriter.format endpoint_said others place c.endpoint-item.result c.loop-endpoint-test.true c.endpoint-item.is before endpoint line begun _ _
           (c.in_ok-passed-2.ensures.passes before (endpoint ∷ map endpoint_said (take place others)) line begun (i.passed before endpoint line begun opened));
       count = c.in_ok-passed-2.ensures.counts ∙ i.count;
     }
@@ -34,5 +34,5 @@ returns-clause-passes g c before endpoint line begun opened =
     let place = c.loop-endpoint.endpoint-index in
     let out = said_of g.O.Output c.loop-endpoint.output in
     let whole : take place others ≡ others = take_all place others (omega arith) in
-    let all = subst {A = _} (λ l. HavePassed before (endpoint ∷ map endpoint_said l) line begun c.loop-endpoint.passed out) whole (i.passed before endpoint line begun opened) in
-    (c.passed.inside.connection, subst (λ (now : PassedAt). HavePassed before (endpoint ∷ map endpoint_said others) line begun now out) (sym c.passed.view_is) all)
+    let all = subst {A = _} (λ l. HavePassed g.F.RowWriter.format before (endpoint ∷ map endpoint_said l) line begun c.loop-endpoint.passed out) whole (i.passed before endpoint line begun opened) in
+    (c.passed.inside.connection, subst (λ (now : PassedAt). HavePassed g.F.RowWriter.format before (endpoint ∷ map endpoint_said others) line begun now out) (sym c.passed.view_is) all)

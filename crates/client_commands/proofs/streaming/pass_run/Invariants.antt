@@ -9,7 +9,7 @@ use Rattle.client_commands.proofs.streaming.pass_run.Given as goal
 -- the streams of the first endpoints were passed on
 abbrev pub invariant-loop-endpoint : goal.invariant-loop-endpoint
 invariant-loop-endpoint g l = record {
-  passed : (before : List StreamAt) (endpoint : EndpointSaid) (line : Line) (begun : Said) → IsOpen before endpoint.ticket line begun l.fn.passing (said_of g.O.Output l.fn.output) →
-      HavePassed before (endpoint ∷ map endpoint_said (take l.endpoint-index l.others)) line begun l.passed (said_of g.O.Output l.output);
+  passed : (before : List StreamAt) (endpoint : EndpointSaid) (line : Line) (begun : Said) → IsOpen g.F.RowWriter.format before endpoint.ticket line begun l.fn.passing (said_of g.O.Output l.fn.output) →
+      HavePassed g.F.RowWriter.format before (endpoint ∷ map endpoint_said (take l.endpoint-index l.others)) line begun l.passed (said_of g.O.Output l.output);
   count : g.O.Output.failures l.output ≡ g.O.Output.failures l.fn.output;
 }
