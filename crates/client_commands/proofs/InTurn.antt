@@ -25,9 +25,9 @@ use Rattle.client_commands.specs.InTurn.{IsWrittenWhole, RunsCame, StopsAmong, S
 use Rattle.client_commands.specs.Lines.{opened_line}
 use Rattle.client_commands.specs.Spread.{EachGives, FetchesOver, Giving, IsAsked, IsEvenPart, IsRun}
 use Rattle.client_commands.specs.Streaming.{ComeSome, WhyNoMore, WritesUpTo, rows_held}
-use Rattle.client_commands.specs.inside.Relaying.{IsLeft, IsTurn, IsTurnBy, PassesRuns, Relays, StreamsOrNot}
+use Rattle.client_commands.specs.inside.Turns.{IsLeft, IsTurn, IsTurnBy, WritesRuns, WritesAndBegins, StreamsOrNot}
 use Rattle.client_commands.specs.inside.Writers.{WriterAt}
-use Rattle.client_commands.specs.inside.Runs.{HavePassed, IsOpen, PassingAt, StopsInRun}
+use Rattle.client_commands.specs.inside.Runs.{HaveCome, IsOpen, OpenAt, StopsInRun}
 use Rattle.client_commands.proofs.Even.{all_left, part_even, part_left}
 use Rattle.client_commands.proofs.Spread.{IsEven, asked, began, gave, gives_more, lines_more, many_given, run_of}
 
@@ -79,7 +79,7 @@ come_all (e ∷ es) (s ∷ ss) old new fetched = inr (fetched.0, fetched.1, come
 module _ (format : Format) where
   -- ---- a turn
 
-  module _ (many : ℕ) (lines : List Line) (endpoints others behind : List EndpointSaid) (begun mid : Said) (now : PassingAt) (turn : IsTurn format many lines endpoints others behind begun now mid) where
+  module _ (many : ℕ) (lines : List Line) (endpoints others behind : List EndpointSaid) (begun mid : Said) (now : OpenAt) (turn : IsTurn format many lines endpoints others behind begun now mid) where
     -- its run came whole
     turn_came : (more : List StreamAt) (last : Line) → FetchesEach (turn.endpoint ∷ others) more turn.line last → RunsCame many lines endpoints behind (turn.streams ++ more)
     turn_came more last fetched =
@@ -110,7 +110,7 @@ module _ (format : Format) where
       before_next : RunsCame many lines endpoints ((next ∷ more) ++ rest) (turn.streams ++ streams)
       before_next = subst (λ (l : List EndpointSaid). RunsCame many lines endpoints l (turn.streams ++ streams)) (sym cut) (turn_came streams last fetched)
 
-      next_turn : (after : PassingAt) (out : Said) → IsOpen format (turn.streams ++ streams) next.ticket (opened_line ends) begun after out → IsTurn format many (lines ++ opened_line ends ∷ []) endpoints more rest begun after out
+      next_turn : (after : OpenAt) (out : Said) → IsOpen format (turn.streams ++ streams) next.ticket (opened_line ends) begun after out → IsTurn format many (lines ++ opened_line ends ∷ []) endpoints more rest begun after out
       next_turn after out opened = record {
         before = lines;
         line = opened_line ends;
@@ -155,7 +155,7 @@ module _ (format : Format) where
       even_first : IsEvenPart (length endpoints) (length handles + 1) (length (next ∷ more))
       even_first = part_even (length endpoints) (length handles + 1) (length endpoints) (length handles) (length (next ∷ more)) (length rest) left_first part cut_first
 
-      pub first_turn : (now : PassingAt) (out : Said) → IsOpen format [] next.ticket first begun now out → IsTurnBy Gives format first handles handles endpoints more rest begun now out
+      pub first_turn : (now : OpenAt) (out : Said) → IsOpen format [] next.ticket first begun now out → IsTurnBy Gives format first handles handles endpoints more rest begun now out
       first_turn now out opened = record {
         done = [];
         all = refl;
@@ -201,7 +201,7 @@ module _ (format : Format) where
 
     -- ---- one run more
 
-    module _ (handle : N) (left : List N) (others behind : List EndpointSaid) (mid : Said) (now : PassingAt) (it : IsTurnBy Gives format first handles (handle ∷ left) endpoints others behind begun now mid)
+    module _ (handle : N) (left : List N) (others behind : List EndpointSaid) (mid : Said) (now : OpenAt) (it : IsTurnBy Gives format first handles (handle ∷ left) endpoints others behind begun now mid)
         (next : EndpointSaid) (more rest : List EndpointSaid) (cut : (next ∷ more) ++ rest ≡ behind) (part : length (next ∷ more) ≡ length behind / (length left + 1)) where
       left_next : IsLeft (length endpoints) (length handles + 1) (length behind) (length left + 1)
       left_next = subst (λ (n : ℕ). IsLeft (length endpoints) (length handles + 1) (length behind) n) (omega arith) it.remains
@@ -215,14 +215,14 @@ module _ (format : Format) where
       all_next : (it.done ++ handle ∷ []) ++ left ≡ handles
       all_next = append_assoc it.done (handle ∷ []) left ∙ it.all
 
-      module _ {V : Type 0} (view : V → PassingAt) (out : Said) where
+      module _ {V : Type 0} (view : V → OpenAt) (out : Said) where
         abbrev right : V → Result V Lost
         right passing = Ok passing
 
         abbrev wrong : Lost → Result V Lost
         wrong lost = Err lost
 
-        pub relayed : (passing : V) → Relays Gives format view next handle it.turn.streams (it.turn.endpoint ∷ others) it.turn.line begun (Ok passing) out
+        pub relayed : (passing : V) → WritesAndBegins Gives format view next handle it.turn.streams (it.turn.endpoint ∷ others) it.turn.line begun (Ok passing) out
             → IsTurnBy Gives format first handles left endpoints more rest begun (view passing) out
         relayed passing (inl (failure, is, stops)) = let no : right passing ≡ wrong (Failed failure) = is in absurd cc
         relayed passing (inr passes) =
@@ -236,7 +236,7 @@ module _ (format : Format) where
               remains = part_left (length endpoints) (length handles + 1) (length behind) (length left) (length (next ∷ more)) (length rest) left_next part cut_next;
             }
 
-        pub relay_lost : (lost : Lost) → Relays Gives format view next handle it.turn.streams (it.turn.endpoint ∷ others) it.turn.line begun (Err lost) out → PassesRuns Gives format first handles endpoints (Err lost) begun out
+        pub relay_lost : (lost : Lost) → WritesAndBegins Gives format view next handle it.turn.streams (it.turn.endpoint ∷ others) it.turn.line begun (Err lost) out → WritesRuns Gives format first handles endpoints (Err lost) begun out
         relay_lost (Failed failure) (inl (same, is, stops)) =
             let e : wrong (Failed failure) ≡ wrong (Failed same) = is in
             let failed : same ≡ failure = cc in
@@ -276,7 +276,7 @@ module _ (format : Format) where
 
     -- ---- the last run
 
-    module _ (others behind : List EndpointSaid) (mid : Said) (now : PassingAt) (it : IsTurnBy Gives format first handles [] endpoints others behind begun now mid) where
+    module _ (others behind : List EndpointSaid) (mid : Said) (now : OpenAt) (it : IsTurnBy Gives format first handles [] endpoints others behind begun now mid) where
       abbrev lines : List Line
       lines = first ∷ map opened_line it.made
 
@@ -293,7 +293,7 @@ module _ (format : Format) where
         stops = turn_stops (length handles + 1) lines endpoints others behind begun mid now it.turn failure out stops;
       }
 
-      module _ (writer : WriterAt) (last : Line) (out out' : Said) (passed : HavePassed format it.turn.streams (it.turn.endpoint ∷ others) it.turn.line begun (record { line = last; writer = writer }) out) where
+      module _ (writer : WriterAt) (last : Line) (out out' : Said) (passed : HaveCome format it.turn.streams (it.turn.endpoint ∷ others) it.turn.line begun (record { line = last; writer = writer }) out) where
         none_behind : behind ≡ []
         none_behind = nil_from_length behind (it.remains.none refl)
 
@@ -344,11 +344,11 @@ module _ (format : Format) where
 
   -- it was asked, and the runs were passed on or not
   pub streams_by : {N : Type 0} (Gives : Giving N) (Shares : N → N → N → Type 0) (streams : ℕ) (wanted : Wanted) (old new : N) (first last : Line) (endpoints parts : List EndpointSaid) (handles : List N)
-      (result : Result (Unit {0}) Lost) (out out' : Said) → parts ≡ endpoints → IsAsked Shares streams wanted old new first last endpoints handles → PassesRuns Gives format last handles parts result out out'
+      (result : Result (Unit {0}) Lost) (out out' : Said) → parts ≡ endpoints → IsAsked Shares streams wanted old new first last endpoints handles → WritesRuns Gives format last handles parts result out out'
       → StreamsOrNot Gives Shares format streams wanted old new result first last out out'
   streams_by Gives Shares streams wanted old new first last endpoints parts handles (Ok done) out out' same is_asked passes =
-      record { endpoints = endpoints; handles = handles; asked = is_asked; comes = subst (λ (l : List EndpointSaid). PassesRuns Gives format last handles l (Ok done) out out') same passes }
+      record { endpoints = endpoints; handles = handles; asked = is_asked; comes = subst (λ (l : List EndpointSaid). WritesRuns Gives format last handles l (Ok done) out out') same passes }
   streams_by Gives Shares streams wanted old new first last endpoints parts handles (Err (Failed failure)) out out' same is_asked passes =
-      inr (record { endpoints = endpoints; handles = handles; asked = is_asked; comes = subst (λ (l : List EndpointSaid). PassesRuns Gives format last handles l (Err (Failed failure)) out out') same passes })
+      inr (record { endpoints = endpoints; handles = handles; asked = is_asked; comes = subst (λ (l : List EndpointSaid). WritesRuns Gives format last handles l (Err (Failed failure)) out out') same passes })
   streams_by Gives Shares streams wanted old new first last endpoints parts handles (Err (Unconnected error)) out out' same is_asked passes =
-      record { endpoints = endpoints; handles = handles; asked = is_asked; comes = subst (λ (l : List EndpointSaid). PassesRuns Gives format last handles l (Err (Unconnected error)) out out') same passes }
+      record { endpoints = endpoints; handles = handles; asked = is_asked; comes = subst (λ (l : List EndpointSaid). WritesRuns Gives format last handles l (Err (Unconnected error)) out out') same passes }

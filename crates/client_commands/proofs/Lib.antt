@@ -2,7 +2,7 @@ pub mod Fetched
 pub mod Formats
 pub mod Texts
 pub mod Writers
-pub mod Passing
+pub mod Rows
 pub mod Even
 pub mod Spread
 pub mod InTurn

@@ -65,11 +65,11 @@ says_text form.Csv is schema rows = refl
 says_text form.Table is schema rows = absurd is
 says_text form.Arrow is schema rows = absurd is
 
-part_text : (format : Format) → IsText format → (schema : Schema) (rows : Rows) (bytes : List ℕ) → SaysFront format schema rows bytes → SaysPart format schema rows bytes
-part_text form.Lines is schema rows bytes says = says
-part_text form.Csv is schema rows bytes says = says
-part_text form.Table is schema rows bytes says = absurd is
-part_text form.Arrow is schema rows bytes says = absurd is
+part_text : (format : Format) → IsText format → (schema : Schema) (rows : Rows) → SaysPart format schema rows (text_of format schema rows)
+part_text form.Lines is schema rows = refl
+part_text form.Csv is schema rows = refl
+part_text form.Table is schema rows = absurd is
+part_text form.Arrow is schema rows = absurd is
 
 broken_text : (format : Format) → IsText format → (schema : Schema) (rows : Rows) (bytes : List ℕ) → SaysFront format schema rows bytes → SaysBroken format schema rows bytes
 broken_text form.Lines is schema rows bytes says = says
@@ -117,7 +117,7 @@ module _ (format : Format) (is : IsText format) where
   names_not_sent schema a b before after none failed =
       let names = names_row (layout_of format schema.fields) schema.fields in (
         text_of format schema [],
-        part_text format is schema [] (text_of format schema []) (whole_front schema []),
+        part_text format is schema [],
         subst (AppendsBeginning a b) (sym (append-nil names)) (begun_alone a b before after names none failed),
       )
 
@@ -139,7 +139,7 @@ module _ (format : Format) (is : IsText format) where
         let is_schema = same_schema schema rows start out.bytes before taken in
         let all = text_of format schema (rows ++ rows_of batch) in (
           all,
-          part_text format is schema (rows ++ rows_of batch) all (whole_front schema (rows ++ rows_of batch)),
+          part_text format is schema (rows ++ rows_of batch),
           subst (AppendsBeginning start out'.bytes) (sym (text_more schema rows (rows_of batch)))
               (begun_alone start out'.bytes [] after.waiting (text_of format schema rows ++ sent_of schema) refl
               (second_not_sent start out.bytes out'.bytes [] before.waiting after.waiting (text_of format schema rows) (sent_of schema) (was_sent schema rows start out.bytes before taken)
@@ -163,6 +163,6 @@ module _ (format : Format) (is : IsText format) where
       (text_of format schema rows, says_text format is schema rows, flushed (Ok x) start old new [] writer.waiting (text_of format schema rows) refl (was_sent schema rows start old writer taken) wrote)
   text_ends (Err e) writer old new wrote = λ schema rows start taken. (
     text_of format schema rows,
-    part_text format is schema rows (text_of format schema rows) (whole_front schema rows),
+    part_text format is schema rows,
     flushed (Err e) start old new [] writer.waiting (text_of format schema rows) refl (was_sent schema rows start old writer taken) wrote,
   )

@@ -93,4 +93,4 @@ table_ends result writer old new wrote = λ schema rows start taken.
   where
     by : {A E : Type 0} (result : Result A E) (schema : Schema) (rows : Rows) (start : Option (List ℕ)) → Writes result start new (table_of schema rows) → WritesAll result form.Table schema rows start new
     by (Ok x) schema rows start wrote = (table_of schema rows, refl, wrote)
-    by (Err e) schema rows start wrote = (table_of schema rows, record { front = rows; rest = []; splits = sym (append-nil rows); says = refl }, wrote)
+    by (Err e) schema rows start wrote = (table_of schema rows, refl, wrote)

@@ -28,21 +28,21 @@ pub record SaysFront (format : Format) (schema : Schema) (rows : Rows)
   pub splits : rows ≡ front ++ rest
   pub says : SaysAll format schema front bytes
 
--- bytes of which a beginning stands where a write failed: they say some of these rows, from the
--- first one on
+-- bytes of which a beginning stands where a write failed: they say these rows, or in an Arrow IPC
+-- stream some of them, from the first one on
 abbrev pub SaysPart : Format → Schema → Rows → List ℕ → Type 0
 SaysPart form.Arrow schema rows bytes = SaysSome (numbered_schema schema) rows bytes
-SaysPart format schema rows bytes = SaysFront format schema rows bytes
+SaysPart format schema rows bytes = SaysAll format schema rows bytes
 
 -- Bytes that stand where the rows break off. They say some of them, from the first one on: whole
--- lines or records, or an Arrow IPC stream that ends in the middle of a message. Of a table there is
--- none.
+-- lines or records, or an Arrow IPC stream that ends in the middle of a message. A table is not
+-- begun.
 abbrev pub SaysBroken : Format → Schema → Rows → List ℕ → Type 0
 SaysBroken form.Arrow schema rows bytes = IsBrokenOff (numbered_schema schema) rows bytes
 SaysBroken form.Table schema rows bytes = bytes ≡ []
 SaysBroken format schema rows bytes = SaysFront format schema rows bytes
 
--- a beginning of some of these rows was written
+-- a beginning of these rows was written
 abbrev pub WritesFront : Format → Schema → Rows → Option (List ℕ) → Option (List ℕ) → Type 0
 WritesFront format schema rows old new =
     (bytes : List ℕ) × SaysPart format schema rows bytes × AppendsBeginning old new bytes

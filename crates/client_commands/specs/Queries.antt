@@ -21,7 +21,7 @@ TellsEnd (Err failure) status old new = TellsFailure failure status old new
 
 -- the network gave the first connection, and the rows that are wanted, fetched over up to `streams`
 -- connections, were written as they came
-pub record IsPassedOn {N : Type 0} (Gives : Giving N) (Shares : N → N → N → Type 0)
+pub record IsPrinted {N : Type 0} (Gives : Giving N) (Shares : N → N → N → Type 0)
     (format : Format) (streams : ℕ) (wanted : Wanted)
     (before middle behind : N) (status : ExitStatus) (old new : Desk) : Type 0 where
   pub ends : Ends
@@ -34,7 +34,7 @@ pub record IsPassedOn {N : Type 0} (Gives : Giving N) (Shares : N → N → N �
 
 -- the network gave the first connection, and no further one where it was needed: what is written
 -- breaks off, and why is said
-pub record IsLeftOff {N : Type 0} (Gives : Giving N) (Shares : N → N → N → Type 0)
+pub record IsCutOff {N : Type 0} (Gives : Giving N) (Shares : N → N → N → Type 0)
     (format : Format) (streams : ℕ) (wanted : Wanted)
     (before middle behind : N) (status : ExitStatus) (old new : Desk) : Type 0 where
   pub ends : Ends
@@ -48,16 +48,16 @@ pub record IsLeftOff {N : Type 0} (Gives : Giving N) (Shares : N → N → N →
 
 -- the rows that are wanted are written in a format as they come; or the network gave no connection,
 -- and why is said
-abbrev pub PassesOn : {N : Type 0} → Giving N → (N → N → N → Type 0) → Format → ℕ → Wanted → N → N →
-    ExitStatus → Desk → Desk → Type 0
-PassesOn {N} Gives Shares format streams wanted before behind status old new =
+abbrev pub PrintsRows : {N : Type 0} → Giving N → (N → N → N → Type 0) → Format → ℕ → Wanted → N →
+    N → ExitStatus → Desk → Desk → Type 0
+PrintsRows {N} Gives Shares format streams wanted before behind status old new =
     (Gives before None behind × ((cause : List ℕ) × EndsBy (cause_lines cause) status old new))
     ⊎ ((middle : N)
-    × (IsPassedOn Gives Shares format streams wanted before middle behind status old new
-    ⊎ IsLeftOff Gives Shares format streams wanted before middle behind status old new))
+    × (IsPrinted Gives Shares format streams wanted before middle behind status old new
+    ⊎ IsCutOff Gives Shares format streams wanted before middle behind status old new))
 
 -- the rows that a query answers, in a format
 abbrev pub Queries : {N : Type 0} → Giving N → (N → N → N → Type 0) → ℕ → List ℕ → Format → N → N →
     ExitStatus → Desk → Desk → Type 0
 Queries Gives Shares streams sql format before behind status old new =
-    PassesOn Gives Shares format streams (rows_of sql) before behind status old new
+    PrintsRows Gives Shares format streams (rows_of sql) before behind status old new

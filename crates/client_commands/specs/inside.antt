@@ -1,7 +1,7 @@
 -- What only the contracts of private functions cite.
 pub mod Naming
 pub mod Writers
-pub mod Passing
+pub mod OneStream
 pub mod Runs
-pub mod Relaying
+pub mod Turns
 pub mod RowsSent

@@ -3,7 +3,7 @@
 ghost use Rattle.std.specs.Prelude.{IfOk};
 ghost use Rattle.flight_proto.specs.FlightInfo.{endpoint_said};
 ghost use Rattle.client_commands.specs.Lines.{CanCount};
-ghost use Rattle.client_commands.specs.inside.Relaying.{Ahead, BeginsAtLast, Settles};
+ghost use Rattle.client_commands.specs.inside.Turns.{Ahead, BeginsAtLast, Settles};
 
 use crate::connecting::open;
 use crate::lost::Lost;

@@ -3,8 +3,8 @@
 //!
 //! `specs/Told.antt` says how a command ends by what came of its calls, `specs/Fetching.antt` how
 //! rows are fetched over one connection, and `specs/Spread.antt` how over several.
-//! `specs/Formats.antt` says what is written of rows in each format, `specs/Streaming.antt` how they
-//! are written as they come, and `specs/InTurn.antt` how over several connections.
+//! `specs/Formats.antt` says what is written of rows in each format, `specs/Streaming.antt` how it
+//! is written as they come, and `specs/InTurn.antt` how over several connections.
 //! `specs/RowsPut.antt` says how the rows of CSV are put, batch by batch. `specs/Commands.antt` and
 //! `specs/Queries.antt` say what each command does.
 #![tactic(auto)]

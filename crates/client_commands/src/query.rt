@@ -4,7 +4,7 @@ ghost use Rattle.grpc_frame.specs.Ends.{CanFail};
 ghost use Rattle.command_ends.specs.Printing.{said_of};
 ghost use Rattle.client_commands.specs.Commands.{desk_of};
 ghost use Rattle.client_commands.specs.Queries.{Queries};
-ghost use Rattle.client_commands.specs.inside.Relaying.{TellsStreamed};
+ghost use Rattle.client_commands.specs.inside.Turns.{TellsStreamed};
 
 use crate::connecting::{end_unconnected, open};
 use crate::in_turn::stream_rows;
@@ -99,7 +99,7 @@ where
     C: Connect + Drop + Send,
     W: Output,
     E: Output,
-    F: RowWriter + Drop,
+    F: RowWriter,
     C::Reader: Send,
     C::Writer: Send,
     requires writes { CanFail (W.failures output.old) }

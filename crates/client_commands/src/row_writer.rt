@@ -8,7 +8,7 @@ use scan_base::Fault;
 use std::alloc::Global;
 
 /// Rows of one schema, while they are written in a format.
-pub(crate) trait RowWriter {
+pub(crate) trait RowWriter: Drop {
     ghost use Rattle.std.specs.Prelude.{◌≡◌, ◌∷◌, [], MatchResult};
     ghost use Rattle.arrow_schema.specs.Schema.{IsSchema};
     ghost use Rattle.arrays.specs.Typed.{AreOfTypes};

@@ -11,10 +11,10 @@ ghost use Rattle.client_calls.specs.Outcome.{Line};
 ghost use Rattle.client_calls.specs.Taking.{IsFetching, KeepsSchema, TakesNext};
 ghost use Rattle.command_ends.specs.Printing.{Said, said_of};
 ghost use Rattle.client_commands.specs.Lines.{CanCount, SameCounts};
-ghost use Rattle.client_commands.specs.inside.Passing.{BreaksAtFailure, FitsSchema, IsPassing};
-ghost use Rattle.client_commands.specs.inside.Passing.{PassesBatches};
-ghost use Rattle.client_commands.specs.inside.Runs.{AreSent, Fits, HavePassed, IsOpen, Opens};
-ghost use Rattle.client_commands.specs.inside.Runs.{Passes, PassesRun};
+ghost use Rattle.client_commands.specs.inside.OneStream.{BreaksAtFailure, FitsSchema, IsUnderWay};
+ghost use Rattle.client_commands.specs.inside.OneStream.{WritesBatches};
+ghost use Rattle.client_commands.specs.inside.Runs.{AreSent, ChecksColumns, HaveCome, IsOpen};
+ghost use Rattle.client_commands.specs.inside.Runs.{Opens, WritesNext, WritesRun};
 
 use crate::row_writer::RowWriter;
 use arrays::Batch;
@@ -37,19 +37,19 @@ pub(crate) struct Writing {
 }
 
 /// A stream that is begun and has the columns that are written, and who writes its rows. A contract
-/// sees a `PassingAt`.
+/// sees a `OpenAt`.
 #[derive(Drop)]
-pub(crate) struct Passing<R: Input, W: Output, F: RowWriter> {
+pub(crate) struct OpenStream<R: Input, W: Output, F: RowWriter> {
     fetching: Fetching<R, W>,
     writer: F,
 }
 
-impl<R: Input, W: Output, F: RowWriter> Model for Passing<R, W, F> {
+impl<R: Input, W: Output, F: RowWriter> Model for OpenStream<R, W, F> {
     ghost use Rattle.client_commands.specs.Lines.{CanCount};
-    ghost use Rattle.client_commands.specs.inside.Passing.{FitsSchema};
-    ghost use Rattle.client_commands.specs.inside.Runs.{PassingAt};
+    ghost use Rattle.client_commands.specs.inside.OneStream.{FitsSchema};
+    ghost use Rattle.client_commands.specs.inside.Runs.{OpenAt};
 
-    ghost Value = { PassingAt };
+    ghost Value = { OpenAt };
 
     ghost view = { λ p. record { fetch = p.fetching; writer = F.state p.writer } };
 
@@ -58,16 +58,16 @@ impl<R: Input, W: Output, F: RowWriter> Model for Passing<R, W, F> {
 }
 
 // What goes on from one stream to the next of a run: the connection, and who writes.
-struct Passed<R: Input, W: Output, F: RowWriter> {
+struct Handover<R: Input, W: Output, F: RowWriter> {
     connection: Connection<R, W>,
     writer: F,
 }
 
-impl<R: Input, W: Output, F: RowWriter> Model for Passed<R, W, F> {
+impl<R: Input, W: Output, F: RowWriter> Model for Handover<R, W, F> {
     ghost use Rattle.client_commands.specs.Lines.{CanCount};
-    ghost use Rattle.client_commands.specs.inside.Runs.{PassedAt};
+    ghost use Rattle.client_commands.specs.inside.Runs.{HandoverAt};
 
-    ghost Value = { PassedAt };
+    ghost Value = { HandoverAt };
 
     ghost view = { λ p. record { line = p.connection; writer = F.state p.writer } };
 
@@ -86,12 +86,12 @@ pub(crate) fn begin_first<R, W, O, F>(
     connection: Connection<R, W>,
     output: &mut O,
     endpoint: &FlightEndpoint,
-) -> Result<Passing<R, W, F>, Failure>
+) -> Result<OpenStream<R, W, F>, Failure>
 where
     R: Input + Drop,
     W: Output + Drop,
     O: Output,
-    F: RowWriter + Drop,
+    F: RowWriter,
     requires calls { CanCount connection }
     requires writes { CanFail (O.failures output.old) }
     ensures { Opens F.format (λ passing. passing) result [] (endpoint_said endpoint.now) connection
@@ -99,11 +99,11 @@ where
 {
     let fetching = Fetching::begin(writing.alloc, connection, &endpoint.ticket)?;
     let writer = F::begin(writing.alloc, writing.seed, output, fetching.schema())?;
-    Ok(Passing { fetching, writer })
+    Ok(OpenStream { fetching, writer })
 }
 
-/// Passes on the stream that is begun, and the streams of these endpoints, in turn over its
-/// connection, which is closed after the last one.
+/// Writes the rows of the stream that is begun, and of the streams of these endpoints, in turn over
+/// its connection, which is closed after the last one.
 ///
 /// # Errors
 ///
@@ -115,9 +115,9 @@ where
 /// - F11 (`Fault::SchemaMismatch`) where one has other columns than those that are written. None of
 ///   its rows is written.
 /// - F12 (`Fault::LimitReached`), F21 and F22 as `RowWriter` gives them.
-pub(crate) fn pass_run<R, W, O, F>(
+pub(crate) fn write_run<R, W, O, F>(
     alloc: Global,
-    passing: Passing<R, W, F>,
+    passing: OpenStream<R, W, F>,
     output: &mut O,
     others: &[FlightEndpoint],
 ) -> Result<F, Failure>
@@ -125,71 +125,72 @@ where
     R: Input + Drop,
     W: Output + Drop,
     O: Output,
-    F: RowWriter + Drop,
+    F: RowWriter,
     requires { CanFail (O.failures output.old) }
-    ensures passes { PassesRun F.format F.state result passing (map endpoint_said others.now)
+    ensures passes { WritesRun F.format F.state result passing (map endpoint_said others.now)
         (said_of O.Output output.old) (said_of O.Output output.new) }
     ensures counts { IfOk result (λ _. O.failures output.new ≡ O.failures output.old) }
 {
-    let mut passed = pass_begun(alloc, passing, output)?;
+    let mut passed = write_begun(alloc, passing, output)?;
     for endpoint in others {
-        passed = pass_next(alloc, passed, output, endpoint)?;
+        passed = write_next(alloc, passed, output, endpoint)?;
     }
-    let Passed {
+    let Handover {
         connection: _,
         writer,
     } = passed;
     Ok(writer)
 }
 
-// Passes on the stream of one more endpoint.
-fn pass_next<R, W, O, F>(
+// Writes the rows of the stream of one more endpoint.
+fn write_next<R, W, O, F>(
     alloc: Global,
-    passed: Passed<R, W, F>,
+    passed: Handover<R, W, F>,
     output: &mut O,
     endpoint: &FlightEndpoint,
-) -> Result<Passed<R, W, F>, Failure>
+) -> Result<Handover<R, W, F>, Failure>
 where
     R: Input + Drop,
     W: Output + Drop,
     O: Output,
-    F: RowWriter + Drop,
+    F: RowWriter,
     requires { CanFail (O.failures output.old) }
     ensures passes { (before : List StreamAt) (front : List EndpointSaid) (line : Line)
-        (begun : Said) → HavePassed F.format before front line begun passed (said_of O.Output output.old) →
-        Passes F.format (λ passed. passed) result before front (endpoint_said endpoint.now) line begun
-        (said_of O.Output output.new) }
+        (begun : Said) →
+        HaveCome F.format before front line begun passed (said_of O.Output output.old) →
+        WritesNext F.format (λ passed. passed) result before front (endpoint_said endpoint.now)
+        line begun (said_of O.Output output.new) }
     ensures counts { IfOk result (λ _. O.failures output.new ≡ O.failures output.old) }
 {
     let passing = begin_next(alloc, passed, output, endpoint)?;
-    pass_begun(alloc, passing, output)
+    write_begun(alloc, passing, output)
 }
 
 // Begins the stream of one more endpoint, where it has the columns that are written.
 fn begin_next<R, W, O, F>(
     alloc: Global,
-    passed: Passed<R, W, F>,
+    passed: Handover<R, W, F>,
     output: &mut O,
     endpoint: &FlightEndpoint,
-) -> Result<Passing<R, W, F>, Failure>
+) -> Result<OpenStream<R, W, F>, Failure>
 where
     R: Input + Drop,
     W: Output + Drop,
     O: Output,
-    F: RowWriter + Drop,
+    F: RowWriter,
     requires { CanFail (O.failures output.old) }
     ensures opens { (streams : List StreamAt) (begun : Said) →
         AreSent F.format streams begun passed.writer (said_of O.Output output.old) →
-        Opens F.format (λ passing. passing) result streams (endpoint_said endpoint.now) passed.line begun
-        (said_of O.Output output.new) }
+        Opens F.format (λ passing. passing) result streams (endpoint_said endpoint.now) passed.line
+        begun (said_of O.Output output.new) }
     ensures counts { IfOk result (λ _. O.failures output.new ≡ O.failures output.old) }
 {
-    let Passed {
+    let Handover {
         connection,
         mut writer,
     } = passed;
     match Fetching::begin(alloc, connection, &endpoint.ticket) {
-        Ok(fetching) => fit_next(fetching, writer, output),
+        Ok(fetching) => check_columns(fetching, writer, output),
         Err(failure) => {
             writer.break_off(output);
             Err(failure)
@@ -202,20 +203,20 @@ where
 /// # Errors
 ///
 /// F11 (`Fault::SchemaMismatch`) where it has others. What is written breaks off then.
-pub(crate) fn fit_next<R, W, O, F>(
+pub(crate) fn check_columns<R, W, O, F>(
     fetching: Fetching<R, W>,
     mut writer: F,
     output: &mut O,
-) -> Result<Passing<R, W, F>, Failure>
+) -> Result<OpenStream<R, W, F>, Failure>
 where
     R: Input + Drop,
     W: Output + Drop,
     O: Output,
-    F: RowWriter + Drop,
+    F: RowWriter,
     requires calls { CanCount fetching.line }
     requires writes { CanFail (O.failures output.old) }
-    ensures { Fits F.format (λ passing. passing) result fetching (F.state writer) (said_of O.Output output.old)
-        (said_of O.Output output.new) }
+    ensures { ChecksColumns F.format (λ passing. passing) result fetching (F.state writer)
+        (said_of O.Output output.old) (said_of O.Output output.new) }
 {
     let known = writer.schema().fields.as_slice();
     let same = same_fields(known, fetching.schema().fields.as_slice());
@@ -223,39 +224,39 @@ where
         writer.break_off(output);
         return Err(Failure::Found(Fault::SchemaMismatch));
     }
-    Ok(Passing { fetching, writer })
+    Ok(OpenStream { fetching, writer })
 }
 
-// Passes on a stream that is begun.
-fn pass_begun<R, W, O, F>(
+// Writes the rows of a stream that is begun.
+fn write_begun<R, W, O, F>(
     alloc: Global,
-    passing: Passing<R, W, F>,
+    passing: OpenStream<R, W, F>,
     output: &mut O,
-) -> Result<Passed<R, W, F>, Failure>
+) -> Result<Handover<R, W, F>, Failure>
 where
     R: Input + Drop,
     W: Output + Drop,
     O: Output,
-    F: RowWriter + Drop,
+    F: RowWriter,
     requires { CanFail (O.failures output.old) }
     ensures passes { (before : List StreamAt) (endpoint : EndpointSaid) (line : Line)
         (begun : Said) →
         IsOpen F.format before endpoint.ticket line begun passing (said_of O.Output output.old) →
-        Passes F.format (λ passed. passed) result before [] endpoint line begun
+        WritesNext F.format (λ passed. passed) result before [] endpoint line begun
         (said_of O.Output output.new) }
     ensures counts { IfOk result (λ _. O.failures output.new ≡ O.failures output.old) }
 {
-    let Passing {
+    let OpenStream {
         mut fetching,
         mut writer,
     } = passing;
-    pass_batches(alloc, &mut fetching, &mut writer, output)?;
+    write_batches(alloc, &mut fetching, &mut writer, output)?;
     let (connection, _) = fetching.end();
-    Ok(Passed { connection, writer })
+    Ok(Handover { connection, writer })
 }
 
 // Writes the batches of a stream as they come, up to its end.
-fn pass_batches<R, W, O, F>(
+fn write_batches<R, W, O, F>(
     alloc: Global,
     fetching: &mut Fetching<R, W>,
     writer: &mut F,
@@ -265,15 +266,15 @@ where
     R: Input + Drop,
     W: Output + Drop,
     O: Output,
-    F: RowWriter + Drop,
+    F: RowWriter,
     requires reads { CanFail (fetching.old.line.incoming.failed) }
     requires writes { CanFail (O.failures output.old) }
     requires fits { FitsSchema fetching.old.state (F.state writer.old).schema }
     ensures passes { (ticket : Payload) (schema own : Schema) (rows : Rows)
         (start : Option (List ℕ)) (begun : Line) (stream : StreamAt) → stream.rows ≡ [] →
-        IsPassing F.format ticket schema own rows start begun stream fetching.old
+        IsUnderWay F.format ticket schema own rows start begun stream fetching.old
         (said_of O.Output output.old) (F.state writer.old) →
-        PassesBatches F.format result ticket schema own rows start begun fetching.new
+        WritesBatches F.format result ticket schema own rows start begun fetching.new
         (said_of O.Output output.old) (said_of O.Output output.new) (F.state writer.new) }
     ensures reads { IfOk result (λ _. SameCounts fetching.old.line fetching.new.line) }
     ensures writes { IfOk result (λ _. O.failures output.new ≡ O.failures output.old) }
@@ -296,7 +297,7 @@ where
     R: Input + Drop,
     W: Output + Drop,
     O: Output,
-    F: RowWriter + Drop,
+    F: RowWriter,
     requires reads { CanFail (fetching.old.line.incoming.failed) }
     requires writes { CanFail (O.failures output.old) }
     ensures next { (ticket : Payload) (stream : StreamAt) (begun : Line) →

@@ -11,7 +11,7 @@ use std::alloc::Global;
 use std::marker::PhantomData;
 
 /// A format of text in which each row stands by itself, after a row of names.
-pub(crate) trait TextFormat {
+pub(crate) trait TextFormat: Drop {
     ghost use Rattle.std.specs.List.{flat_map};
     ghost use Rattle.arrays.specs.Batch.{rows_of};
     ghost use Rattle.grpc_frame.specs.Ends.{CanFail, CountsFailure, FailsByTransport};
@@ -62,6 +62,7 @@ pub(crate) trait TextFormat {
 }
 
 /// A line for each row.
+#[derive(Drop)]
 pub(crate) struct LineText;
 
 impl TextFormat for LineText {
@@ -90,6 +91,7 @@ impl TextFormat for LineText {
 }
 
 /// A record of CSV for each row.
+#[derive(Drop)]
 pub(crate) struct RecordText;
 
 impl TextFormat for RecordText {

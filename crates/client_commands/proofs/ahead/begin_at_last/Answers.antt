@@ -8,7 +8,7 @@ use Rattle.client_commands.specs.declared.ahead.Refused.{Refused}
 use Rattle.client_commands.specs.declared.lost.Lost.{Lost}
 use Rattle.client_commands.specs.Lines.{opened_line}
 use Rattle.client_commands.specs.Spread.{GivesAtLast, Giving}
-use Rattle.client_commands.specs.inside.Relaying.{Ahead, BeginsAtLast, Settles}
+use Rattle.client_commands.specs.inside.Turns.{Ahead, BeginsAtLast, Settles}
 use Rattle.client_commands.proofs.ahead.begin_at_last.Goals as goal
 
 module _ {N V : Type 0} (Gives : Giving N) (view : V → FetchAt) (ticket : Payload) (handle : N) where

@@ -10,14 +10,14 @@ use Rattle.client_commands.specs.declared.lost.Lost.TheVariants.{Failed, Unconne
 use Rattle.client_commands.specs.Commands.{Desk, desk_of}
 use Rattle.client_commands.specs.Handles.{Giving}
 use Rattle.client_commands.specs.Lines.{opened_line}
-use Rattle.client_commands.specs.Queries.{PassesOn}
-use Rattle.client_commands.specs.inside.Relaying.{StreamsOrNot, TellsStreamed}
+use Rattle.client_commands.specs.Queries.{PrintsRows}
+use Rattle.client_commands.specs.inside.Turns.{StreamsOrNot, TellsStreamed}
 use Rattle.client_commands.proofs.query.query_by.Goals as goal
 
 -- the network gave the first connection, and what was written is told
 told : {N : Type 0} (Gives : Giving N) (Shares : N → N → N → Type 0) (format : Format) (streams : ℕ) (wanted : Wanted) (before middle behind : N) (ends : Ends) (last : Line) (result : Result (Unit {0}) Lost) (status : ExitStatus) (old new : Desk)
     → Gives before (Some ends) middle → StreamsOrNot Gives Shares format streams wanted middle behind result (opened_line ends) last old.out new.out → TellsStreamed result status old.faults new.faults
-    → PassesOn Gives Shares format streams wanted before behind status old new
+    → PrintsRows Gives Shares format streams wanted before behind status old new
 told Gives Shares format streams wanted before middle behind ends last (Ok done) status old new given written tells =
     inr (middle, inl (record { ends = ends; given = given; result = Ok done; last = last; written = written; tells = tells }))
 told Gives Shares format streams wanted before middle behind ends last (Err (Failed failure)) status old new given written tells =

@@ -2,7 +2,7 @@ use Rattle.std.proofs.Common.{[], inl, refl, sym}
 use Rattle.std.proofs.lemmas.Result.{err_from_is_err_and}
 use Rattle.flight_client.proofs.Together.{fields_same}
 use Rattle.flight_proto.specs.FlightInfo.{endpoint_said}
-use Rattle.client_commands.proofs.Passing.{begun_counts, fits_written, not_begun, opens_first, schema_unsent}
+use Rattle.client_commands.proofs.Rows.{begun_counts, fits_written, not_begun, opens_first, schema_unsent}
 use Rattle.client_commands.proofs.streaming.begin_first.Goals as goal
 
 pub returns-in_err-fetching : goal.returns-in_err-fetching

@@ -6,15 +6,15 @@ use Rattle.flight_client.specs.Stream.{StreamAt}
 use Rattle.client_calls.specs.Outcome.{Line}
 use Rattle.command_ends.specs.Printing.{said_of}
 use Rattle.client_commands.specs.Lines.{SameCounts}
-use Rattle.client_commands.specs.inside.Passing.{FitsSchema, IsPassing}
-use Rattle.client_commands.proofs.streaming.pass_batches.Given as goal
+use Rattle.client_commands.specs.inside.OneStream.{FitsSchema, IsUnderWay}
+use Rattle.client_commands.proofs.streaming.write_batches.Given as goal
 
 -- the batches so far were written
 abbrev pub invariant-loop-batch : goal.invariant-loop-batch
 invariant-loop-batch g l = record {
   passes : (ticket : Payload) (schema own : Schema) (rows : Rows) (start : Option (List ℕ)) (begun : Line) (stream : StreamAt) → stream.rows ≡ [] →
-      IsPassing g.F.RowWriter.format ticket schema own rows start begun stream l.initial.fetching (said_of g.O.Output l.initial.output) (g.F.RowWriter.state l.initial.writer) →
-      (now : StreamAt) × IsPassing g.F.RowWriter.format ticket schema own rows start begun now l.fetching (said_of g.O.Output l.output) (g.F.RowWriter.state l.writer);
+      IsUnderWay g.F.RowWriter.format ticket schema own rows start begun stream l.initial.fetching (said_of g.O.Output l.initial.output) (g.F.RowWriter.state l.initial.writer) →
+      (now : StreamAt) × IsUnderWay g.F.RowWriter.format ticket schema own rows start begun now l.fetching (said_of g.O.Output l.output) (g.F.RowWriter.state l.writer);
   fits : FitsSchema l.fetching.state (g.F.RowWriter.state l.writer).schema;
   count : g.O.Output.failures l.output ≡ g.O.Output.failures l.initial.output;
   calls : SameCounts l.initial.fetching.line l.fetching.line;

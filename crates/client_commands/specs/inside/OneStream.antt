@@ -24,7 +24,7 @@ use Rattle.client_commands.specs.inside.Writers.{Breaks, HasTaken, WriterAt}
 
 -- A stream of this schema is being fetched, which has the columns of the schema that is written;
 -- and the rows before it and its own so far were sent.
-pub record IsPassing (format : Format) (ticket : Payload) (schema own : Schema) (rows : Rows)
+pub record IsUnderWay (format : Format) (ticket : Payload) (schema own : Schema) (rows : Rows)
     (start : Option (List ℕ)) (begun : Line) (stream : StreamAt)
     (now : FetchAt) (out : Said) (writer : WriterAt) : Type 0 where
   pub fetching : IsFetching ticket stream begun now.line
@@ -52,7 +52,7 @@ WhyUnwritten format schema stream LimitReached =
 WhyUnwritten format schema stream _ = ⊥
 
 -- it came whole
-pub record HasPassed (format : Format) (ticket : Payload) (schema own : Schema) (rows : Rows)
+pub record HasCome (format : Format) (ticket : Payload) (schema own : Schema) (rows : Rows)
     (start : Option (List ℕ)) (begun : Line)
     (now : FetchAt) (out out' : Said) (writer : WriterAt) : Type 0 where
   pub stream : StreamAt
@@ -73,7 +73,7 @@ EndsAt format fault schema rows old new failed failed' =
     BreaksRows format schema rows old new failed failed'
 
 -- it stopped after some rows
-pub record StopsPassing (format : Format) (ticket : Payload) (schema own : Schema) (rows : Rows)
+pub record StopsWithin (format : Format) (ticket : Payload) (schema own : Schema) (rows : Rows)
     (start : Option (List ℕ)) (begun : Line)
     (failure : Failure) (now : Line) (out out' : Said) : Type 0 where
   pub stream : StreamAt
@@ -93,9 +93,9 @@ abbrev pub BreaksAtFailure : {A : Type 0} → Format → Result A Failure → Wr
 BreaksAtFailure format (Ok x) old new out out' = (new ≡ old) × (out' ≡ out)
 BreaksAtFailure format (Err failure) old new out out' = Breaks format old out out'
 
-abbrev pub PassesBatches : Format → Result (Unit {0}) Failure → Payload → Schema → Schema → Rows →
+abbrev pub WritesBatches : Format → Result (Unit {0}) Failure → Payload → Schema → Schema → Rows →
     Option (List ℕ) → Line → FetchAt → Said → Said → WriterAt → Type 0
-PassesBatches format (Ok done) ticket schema own rows start begun now out out' writer =
-    HasPassed format ticket schema own rows start begun now out out' writer
-PassesBatches format (Err failure) ticket schema own rows start begun now out out' writer =
-    StopsPassing format ticket schema own rows start begun failure now.line out out'
+WritesBatches format (Ok done) ticket schema own rows start begun now out out' writer =
+    HasCome format ticket schema own rows start begun now out out' writer
+WritesBatches format (Err failure) ticket schema own rows start begun now out out' writer =
+    StopsWithin format ticket schema own rows start begun failure now.line out out'

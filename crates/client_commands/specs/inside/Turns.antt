@@ -1,4 +1,4 @@
--- Inside: runs that are passed on one after the other, each while the first stream of the next one
+-- Inside: runs that are written one after the other, each while the first stream of the next one
 -- is begun.
 use Rattle.std.specs.Prelude.{◌≡◌, ◌⊎◌, ◌≤◌, ℕ, ◌+◌, List, [], ◌∷◌, ◌++◌, map, length, Some, None}
 use Rattle.std.specs.Prelude.{Result, Ok, Err}
@@ -24,7 +24,7 @@ use Rattle.client_commands.specs.Lines.{opened_line}
 use Rattle.client_commands.specs.Queries.{TellsEnd}
 use Rattle.client_commands.specs.Spread.{EachGives, GivesAtLast, Giving, IsEvenPart, RefusesTwice}
 use Rattle.client_commands.specs.Streaming.{WritesBroken}
-use Rattle.client_commands.specs.inside.Runs.{IsOpen, Opens, PassingAt, StopsInRun}
+use Rattle.client_commands.specs.inside.Runs.{IsOpen, Opens, OpenAt, StopsInRun}
 
 -- ---- the next connection
 
@@ -56,41 +56,41 @@ BeginsAtLast Gives view ticket handle (Err (Unconnected error)) = RefusesTwice G
 
 -- after these streams the stream of an endpoint is begun over a connection of a handle, or not, and
 -- what is written breaks off
-abbrev pub TakesOver : {N V : Type 0} → Giving N → Format → (V → PassingAt) → EndpointSaid → N →
+abbrev pub BeginsNext : {N V : Type 0} → Giving N → Format → (V → OpenAt) → EndpointSaid → N →
     List StreamAt → Said → Result V Lost → Said → Type 0
-TakesOver Gives format view endpoint handle streams begun (Ok passing) out =
+BeginsNext Gives format view endpoint handle streams begun (Ok passing) out =
     (ends : Ends) × GivesAtLast Gives handle ends
     × Opens format view (Ok passing) streams endpoint (opened_line ends) begun out
-TakesOver Gives format view endpoint handle streams begun (Err (Failed failure)) out =
+BeginsNext Gives format view endpoint handle streams begun (Err (Failed failure)) out =
     (ends : Ends) × GivesAtLast Gives handle ends
     × Opens format view (Err failure) streams endpoint (opened_line ends) begun out
-TakesOver Gives format view endpoint handle streams begun (Err (Unconnected error)) out =
+BeginsNext Gives format view endpoint handle streams begun (Err (Unconnected error)) out =
     RefusesTwice Gives handle × WritesBroken format streams begun out
 
 -- ---- a run, and the next one
 
 -- a run came whole over a connection after these streams, and the next one was taken over, or not
-pub record PassesThen {N V : Type 0} (Gives : Giving N) (format : Format) (view : V → PassingAt)
+pub record WritesThen {N V : Type 0} (Gives : Giving N) (format : Format) (view : V → OpenAt)
     (next : EndpointSaid) (handle : N) (before : List StreamAt) (run : List EndpointSaid)
     (line : Line) (begun : Said) (result : Result V Lost) (out : Said) : Type 0 where
   pub streams : List StreamAt
   pub last : Line
   pub fetched : FetchesEach run streams line last
-  pub takes : TakesOver Gives format view next handle (before ++ streams) begun result out
+  pub takes : BeginsNext Gives format view next handle (before ++ streams) begun result out
 
 -- it did, or it stopped within the run
-abbrev pub Relays : {N V : Type 0} → Giving N → Format → (V → PassingAt) → EndpointSaid → N →
+abbrev pub WritesAndBegins : {N V : Type 0} → Giving N → Format → (V → OpenAt) → EndpointSaid → N →
     List StreamAt → List EndpointSaid → Line → Said → Result V Lost → Said → Type 0
-Relays Gives format view next handle before run line begun result out =
+WritesAndBegins Gives format view next handle before run line begun result out =
     ((failure : Failure) × (result ≡ Err (Failed failure))
     × StopsInRun format before run failure line begun out)
-    ⊎ PassesThen Gives format view next handle before run line begun result out
+    ⊎ WritesThen Gives format view next handle before run line begun result out
 
 -- the runs of all but the last of these connections came whole. Over the last one the first stream
 -- of its run is open; these are the run's other endpoints, and those of the runs after it
 pub record IsTurn (format : Format) (many : ℕ) (lines : List Line)
     (endpoints others behind : List EndpointSaid)
-    (begun : Said) (now : PassingAt) (out : Said) : Type 0 where
+    (begun : Said) (now : OpenAt) (out : Said) : Type 0 where
   pub before : List Line
   pub line : Line
   pub over : before ++ line ∷ [] ≡ lines
@@ -110,7 +110,7 @@ pub record IsLeft (whole many rest others : ℕ) : Type 0 where
 -- the same over the first connection and those of handles, of which these are left
 pub record IsTurnBy {N : Type 0} (Gives : Giving N) (format : Format) (first : Line)
     (handles left : List N) (endpoints others behind : List EndpointSaid)
-    (begun : Said) (now : PassingAt) (out : Said) : Type 0 where
+    (begun : Said) (now : OpenAt) (out : Said) : Type 0 where
   pub done : List N
   pub all : done ++ left ≡ handles
   pub made : List Ends
@@ -121,14 +121,14 @@ pub record IsTurnBy {N : Type 0} (Gives : Giving N) (format : Format) (first : L
 
 -- ---- all
 
--- all runs were passed on, and what is written was ended; or not, and why
-abbrev pub PassesRuns : {N : Type 0} → Giving N → Format → Line → List N → List EndpointSaid →
+-- all runs were written, and what is written was ended; or not, and why
+abbrev pub WritesRuns : {N : Type 0} → Giving N → Format → Line → List N → List EndpointSaid →
     Result (Unit {0}) Lost → Said → Said → Type 0
-PassesRuns Gives format first handles endpoints (Ok done) out out' =
+WritesRuns Gives format first handles endpoints (Ok done) out out' =
     IsWrittenWhole Gives format first handles endpoints out out'
-PassesRuns Gives format first handles endpoints (Err (Failed failure)) out out' =
+WritesRuns Gives format first handles endpoints (Err (Failed failure)) out out' =
     StopsInTurn Gives format first handles endpoints failure out out'
-PassesRuns Gives format first handles endpoints (Err (Unconnected error)) out out' =
+WritesRuns Gives format first handles endpoints (Err (Unconnected error)) out out' =
     BreaksUnconnected Gives format first handles endpoints out out'
 
 -- the rows of a query are written as they come, or not, and why

@@ -2,8 +2,8 @@ use Rattle.std.proofs.Common.{◌≡◌, length, map}
 use Rattle.std.specs.Vec.Iter.{into_iter_items}
 use Rattle.flight_proto.specs.FlightInfo.{endpoint_said}
 use Rattle.command_ends.specs.Printing.{said_of}
-use Rattle.client_commands.specs.inside.Relaying.{IsTurnBy}
-use Rattle.client_commands.proofs.in_turn.pass_runs.Given as goal
+use Rattle.client_commands.specs.inside.Turns.{IsTurnBy}
+use Rattle.client_commands.proofs.in_turn.write_runs.Given as goal
 
 -- the runs before were passed on, and the next one is open
 abbrev pub invariant-loop-handle : goal.invariant-loop-handle

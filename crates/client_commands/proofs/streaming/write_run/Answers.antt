@@ -2,9 +2,9 @@ use Rattle.std.proofs.Common.{◌≡◌, ◌+◌, ◌∷◌, map, take, drop, ar
 use Rattle.std.proofs.lemmas.Result.{err_from_is_err_and}
 use Rattle.flight_proto.specs.FlightInfo.{endpoint_said}
 use Rattle.command_ends.specs.Printing.{said_of}
-use Rattle.client_commands.specs.inside.Runs.{HavePassed, PassedAt}
-use Rattle.client_commands.proofs.Passing.{passed_more, stopped_among}
-use Rattle.client_commands.proofs.streaming.pass_run.Goals as goal
+use Rattle.client_commands.specs.inside.Runs.{HaveCome, HandoverAt}
+use Rattle.client_commands.proofs.Rows.{passed_more, stopped_among}
+use Rattle.client_commands.proofs.streaming.write_run.Goals as goal
 
 pub returns-in_err-passed-2-clause-passes : goal.returns-in_err-passed-2-clause-passes
 returns-in_err-passed-2-clause-passes g c before endpoint line begun opened =
@@ -34,5 +34,5 @@ returns-clause-passes g c before endpoint line begun opened =
     let place = c.loop-endpoint.endpoint-index in
     let out = said_of g.O.Output c.loop-endpoint.output in
     let whole : take place others ≡ others = take_all place others (omega arith) in
-    let all = subst {A = _} (λ l. HavePassed g.F.RowWriter.format before (endpoint ∷ map endpoint_said l) line begun c.loop-endpoint.passed out) whole (i.passed before endpoint line begun opened) in
-    (c.passed.inside.connection, subst (λ (now : PassedAt). HavePassed g.F.RowWriter.format before (endpoint ∷ map endpoint_said others) line begun now out) (sym c.passed.view_is) all)
+    let all = subst {A = _} (λ l. HaveCome g.F.RowWriter.format before (endpoint ∷ map endpoint_said l) line begun c.loop-endpoint.passed out) whole (i.passed before endpoint line begun opened) in
+    (c.passed.inside.connection, subst (λ (now : HandoverAt). HaveCome g.F.RowWriter.format before (endpoint ∷ map endpoint_said others) line begun now out) (sym c.passed.view_is) all)

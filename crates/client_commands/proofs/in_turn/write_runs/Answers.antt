@@ -7,10 +7,10 @@ use Rattle.flight_proto.specs.FlightInfo.{endpoint_said}
 use Rattle.flight_proto.specs.declared.flight_info.FlightEndpoint.{FlightEndpoint}
 use Rattle.command_ends.specs.Printing.{said_of}
 use Rattle.client_commands.specs.Streaming.{rows_held}
-use Rattle.client_commands.specs.inside.Relaying.{IsTurnBy}
-use Rattle.client_commands.specs.inside.Runs.{PassingAt}
+use Rattle.client_commands.specs.inside.Turns.{IsTurnBy}
+use Rattle.client_commands.specs.inside.Runs.{OpenAt}
 use Rattle.client_commands.proofs.InTurn.{ended_whole, first_stops, first_turn, last_stops, not_ended, relay_lost, relayed}
-use Rattle.client_commands.proofs.in_turn.pass_runs.Goals as goal
+use Rattle.client_commands.proofs.in_turn.write_runs.Goals as goal
 
 -- a run that was cut off, as plain data
 cut_said : (first : FlightEndpoint) (others behind all : List FlightEndpoint) → (first ∷ others) ++ behind ≡ all → (endpoint_said first ∷ map endpoint_said others) ++ map endpoint_said behind ≡ map endpoint_said all
@@ -75,7 +75,7 @@ returns-in_err-passing-2 g c =
     (relay_lost g.F.RowWriter.format (λ old ends new. g.C.Connect.connects old c.args.writing.port ends new) c.args.connection c.args.handles.items (map endpoint_said all) begun
     handle rest (map endpoint_said others) (map endpoint_said behind) mid c.loop-handle.passing it
     (endpoint_said next) (map endpoint_said more) (map endpoint_said after) (cut_said next more after behind c.cut_run-in-loop-handle.ensures.all) (part_said next more behind _ _ many c.cut_run-in-loop-handle.ensures.part)
-    (λ (passing : PassingAt). passing) _ _ (c.in_err-passing-2.ensures it.turn.streams it.turn.endpoint it.turn.line begun it.turn.opened))
+    (λ (passing : OpenAt). passing) _ _ (c.in_err-passing-2.ensures it.turn.streams it.turn.endpoint it.turn.line begun it.turn.opened))
 
 pub loop-handle-preserved : goal.loop-handle-preserved
 loop-handle-preserved g c =
@@ -91,14 +91,14 @@ loop-handle-preserved g c =
     let after = c.cut_run-in-loop-handle.result.2.now in
     let begun = said_of g.O.Output c.args.output.now in
     let mid = said_of g.O.Output c.loop-handle.output in
-    let out = said_of g.O.Output c.relay.new.output in
+    let out = said_of g.O.Output c.write_and_begin.new.output in
     let many : c.loop-handle.left ≡ length rest + 1 = omega (arith, i.left, ap length front) in
     let it = subst (λ left. IsTurnBy (λ old ends new. g.C.Connect.connects old c.args.writing.port ends new) g.F.RowWriter.format c.args.connection c.args.handles.items left (map endpoint_said all) (map endpoint_said others) (map endpoint_said behind) begun c.loop-handle.passing mid) front i.turn in
     record {
       turn = relayed g.F.RowWriter.format (λ old ends new. g.C.Connect.connects old c.args.writing.port ends new) c.args.connection c.args.handles.items (map endpoint_said all) begun
           handle rest (map endpoint_said others) (map endpoint_said behind) mid c.loop-handle.passing it
           (endpoint_said next) (map endpoint_said more) (map endpoint_said after) (cut_said next more after behind c.cut_run-in-loop-handle.ensures.all) (part_said next more behind _ _ many c.cut_run-in-loop-handle.ensures.part)
-          (λ (passing : PassingAt). passing) out c.in_ok-passing-2.passing (c.in_ok-passing-2.ensures it.turn.streams it.turn.endpoint it.turn.line begun it.turn.opened);
+          (λ (passing : OpenAt). passing) out c.in_ok-passing-2.passing (c.in_ok-passing-2.ensures it.turn.streams it.turn.endpoint it.turn.line begun it.turn.opened);
       left = omega (arith, many);
     }
 

@@ -3,8 +3,8 @@ use Rattle.std.proofs.lemmas.Result.{err_from_is_err_and}
 use Rattle.client_calls.specs.Taking.{with_batch}
 use Rattle.command_ends.specs.Printing.{Said}
 use Rattle.client_commands.specs.inside.Writers.{WriterAt}
-use Rattle.client_commands.proofs.Passing.{all_passed, batch_passed, batch_stopped, fetch_failed, fits_next, same_passing, typed_by}
-use Rattle.client_commands.proofs.streaming.pass_batches.Goals as goal
+use Rattle.client_commands.proofs.Rows.{all_passed, batch_passed, batch_stopped, fetch_failed, fits_next, same_passing, typed_by}
+use Rattle.client_commands.proofs.streaming.write_batches.Goals as goal
 
 pub loop-batch-init : goal.loop-batch-init
 loop-batch-init g c = record { fits = c.requires.fits; passes = λ ticket schema own rows start begun stream none passing. (stream, passing); count = refl; calls = (refl, refl) }

@@ -2,9 +2,9 @@ use Rattle.std.proofs.Common.{◌∷◌, ◌++◌}
 use Rattle.std.proofs.lemmas.Result.{err_from_is_err_and}
 use Rattle.flight_proto.specs.FlightInfo.{endpoint_said}
 use Rattle.command_ends.specs.Printing.{said_of}
-use Rattle.client_commands.specs.inside.Runs.{PassedAt}
-use Rattle.client_commands.proofs.Passing.{passes_behind, stops_behind}
-use Rattle.client_commands.proofs.streaming.pass_next.Goals as goal
+use Rattle.client_commands.specs.inside.Runs.{HandoverAt}
+use Rattle.client_commands.proofs.Rows.{passes_behind, stops_behind}
+use Rattle.client_commands.proofs.streaming.write_next.Goals as goal
 
 pub returns-in_err-passing-clause-passes : goal.returns-in_err-passing-clause-passes
 returns-in_err-passing-clause-passes g c before front line begun passed =
@@ -18,4 +18,4 @@ returns-clause-passes g c before front line begun passed =
     let mid = said_of g.O.Output c.args.output.now in
     let opened = c.in_ok-passing.ensures.opens (before ++ passed.streams) begun passed.sent in
     let endpoint = endpoint_said c.args.endpoint.now in
-    passes_behind g.F.RowWriter.format before front line begun mid _ c.args.passed passed (λ (now : PassedAt). now) endpoint c.pass_begun.result (c.pass_begun.ensures.passes (before ++ passed.streams) endpoint c.args.passed.line begun opened)
+    passes_behind g.F.RowWriter.format before front line begun mid _ c.args.passed passed (λ (now : HandoverAt). now) endpoint c.write_begun.result (c.write_begun.ensures.passes (before ++ passed.streams) endpoint c.args.passed.line begun opened)

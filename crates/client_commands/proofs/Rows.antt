@@ -34,8 +34,8 @@ use Rattle.client_commands.specs.Lines.{CanCount}
 use Rattle.client_commands.specs.Streaming.{ComeSome, SaysFirst, SaysSchema, Stops, WhyNoMore, WritesBroken, WritesSome, WritesUpTo, rows_held}
 use Rattle.client_commands.specs.Formats.{BreaksRows, WritesFront}
 use Rattle.client_commands.specs.inside.Writers.{BeginsRows, Breaks, HasTaken, IsCauseIn, SendsRows, WriterAt, written_schema}
-use Rattle.client_commands.specs.inside.Passing.{BreaksAtFailure, EndsAt, FitsSchema, HasPassed, IsPassing, StopsPassing, WhyUnwritten}
-use Rattle.client_commands.specs.inside.Runs.{AreSent, Fits, Follows, HavePassed, IsOpen, Opens, Passes, PassedAt, PassingAt, StopsInRun}
+use Rattle.client_commands.specs.inside.OneStream.{BreaksAtFailure, EndsAt, FitsSchema, HasCome, IsUnderWay, StopsWithin, WhyUnwritten}
+use Rattle.client_commands.specs.inside.Runs.{AreSent, ChecksColumns, Follows, HaveCome, IsOpen, Opens, WritesNext, HandoverAt, OpenAt, StopsInRun}
 use Rattle.client_commands.proofs.Fetched.{front_more, quiet, split_at}
 use Rattle.client_commands.proofs.Formats.{breaks_before, same_written}
 
@@ -265,7 +265,7 @@ module _ (format : Format) where
 
   -- a stream that begins has the columns of the schema that is written
   pub at_begin : (ticket : Payload) (schema own : Schema) (rows : Rows) (start : Option (List ℕ)) (begun : Line) (now : FetchAt) (out : Said) (writer : WriterAt) (it : IsBegun ticket now.state begun now.line) → (it.known).schema ≡ own
-      → same_fields schema.fields own.fields ≡ true → HasTaken format schema rows start out.bytes writer → IsPassing format ticket schema own rows start begun it.stream now out writer
+      → same_fields schema.fields own.fields ≡ true → HasTaken format schema rows start out.bytes writer → IsUnderWay format ticket schema own rows start begun it.stream now out writer
   at_begin ticket schema own rows start begun now out writer it is same so = record {
     fetching = it.fetching;
     state = it.state_is;
@@ -275,9 +275,9 @@ module _ (format : Format) where
   }
 
   module _ (ticket : Payload) (schema own : Schema) (rows : Rows) (start : Option (List ℕ)) (begun : Line) (stream : StreamAt) (now : FetchAt) (out : Said) (writer : WriterAt)
-      (passing : IsPassing format ticket schema own rows start begun stream now out writer) where
+      (passing : IsUnderWay format ticket schema own rows start begun stream now out writer) where
     -- nothing more was written
-    pub same_passing : (writer' : WriterAt) (out' : Said) → writer' ≡ writer → out' ≡ out → IsPassing format ticket schema own rows start begun stream now out' writer'
+    pub same_passing : (writer' : WriterAt) (out' : Said) → writer' ≡ writer → out' ≡ out → IsUnderWay format ticket schema own rows start begun stream now out' writer'
     same_passing writer' out' same still = record {
       fetching = passing.fetching;
       state = passing.state;
@@ -297,7 +297,7 @@ module _ (format : Format) where
 
       -- and was written
       pub batch_passed : (next : FetchAt) (out' : Said) (after : WriterAt) → next.state ≡ state → next.line ≡ line
-          → SendsRows {A = Unit {0}} (Ok tt) format batch writer after out out' → IsPassing format ticket schema own rows start begun with_it next out' after
+          → SendsRows {A = Unit {0}} (Ok tt) format batch writer after out out' → IsUnderWay format ticket schema own rows start begun with_it next out' after
       batch_passed next out' after state_is line_is sends = record {
         fetching = subst (λ (l : Line). IsFetching ticket with_it begun l) (sym line_is) fetching;
         state = sym state_is;
@@ -310,7 +310,7 @@ module _ (format : Format) where
       pub batch_stopped : (fault : Fault) (failure : Failure) (first out' : Said) (after : WriterAt) → failure ≡ Found fault → out.failures ≡ first.failures
           → SendsRows {A = Unit {0}} (Err fault) format batch writer after out out'
           → IsCauseIn format writer.schema (batch ∷ []) fault → CountsWrites {A = Unit {0}} (Err fault) out.failures out'.failures
-          → StopsPassing format ticket schema own rows start begun failure line first out'
+          → StopsWithin format ticket schema own rows start begun failure line first out'
       batch_stopped fault failure first out' after is quiet sends cause counted = record {
         stream = with_it;
         some = line;
@@ -334,7 +334,7 @@ module _ (format : Format) where
 
     -- the stream ended
     pub all_passed : (next : FetchAt) (first : Said) → FetchGives ticket (Ok (ended (with_batch stream next.state None))) begun next.line → KeepsSchema now.state next.state → out.failures ≡ first.failures
-        → HasPassed format ticket schema own rows start begun next first out writer
+        → HasCome format ticket schema own rows start begun next first out writer
     all_passed next first fetched kept quiet = record {
       stream = ended (with_batch stream next.state None);
       fetched = fetched;
@@ -347,7 +347,7 @@ module _ (format : Format) where
 
     -- it failed
     pub fetch_failed : (failure : Failure) (line : Line) (first out' : Said) (after : WriterAt) → FetchGives ticket (Err failure) begun line → out.failures ≡ first.failures
-        → BreaksAtFailure {A = Option BatchAt} format (Err failure) writer after out out' → StopsPassing format ticket schema own rows start begun failure line first out'
+        → BreaksAtFailure {A = Option BatchAt} format (Err failure) writer after out out' → StopsWithin format ticket schema own rows start begun failure line first out'
     fetch_failed failure line first out' after fetched quiet breaks = record {
       stream = stream;
       some = now.line;
@@ -433,10 +433,10 @@ module _ (format : Format) where
   follows_sent [] begun out writer sent own same = absurd sent.says
   follows_sent (s ∷ ss) begun out writer sent own same = (sent.says, sent.join, same)
 
-  module _ {A : Type 0} (view : A → PassingAt) (streams : List StreamAt) (endpoint : EndpointSaid) (line : Line) (begun mid out : Said) (writer : WriterAt)
+  module _ {A : Type 0} (view : A → OpenAt) (streams : List StreamAt) (endpoint : EndpointSaid) (line : Line) (begun mid out : Said) (writer : WriterAt)
       (sent : AreSent format streams begun writer mid) where
     -- where it has the columns that are written it is open
-    pub opens_by : (fetch : FetchAt) (result : Result A Failure) → IsBegun endpoint.ticket fetch.state line fetch.line → Fits format view result fetch writer mid out → Opens format view result streams endpoint line begun out
+    pub opens_by : (fetch : FetchAt) (result : Result A Failure) → IsBegun endpoint.ticket fetch.state line fetch.line → ChecksColumns format view result fetch writer mid out → Opens format view result streams endpoint line begun out
     opens_by fetch (Ok passing) it fits =
         let same = of_known endpoint.ticket fetch line writer.schema true it fits.1 in
         let open_at : IsOpen format streams endpoint.ticket line begun (record { fetch = fetch; writer = writer }) mid = record {
@@ -446,7 +446,7 @@ module _ (format : Format) where
           so = sent.so;
           quiet = sent.quiet;
         } in
-        subst (λ (now : PassingAt). IsOpen format streams endpoint.ticket line begun now out) (sym fits.0)
+        subst (λ (now : OpenAt). IsOpen format streams endpoint.ticket line begun now out) (sym fits.0)
         (subst (λ (o : Said). IsOpen format streams endpoint.ticket line begun (record { fetch = fetch; writer = writer }) o) (sym fits.2) open_at)
     opens_by fetch (Err failure) it fits =
         let differ = of_known endpoint.ticket fetch line writer.schema false it fits.1 in
@@ -489,22 +489,22 @@ module _ (format : Format) where
       by _ begins cause counted = absurd cause
 
   -- its schema was sent, and nothing else
-  pub opens_first : (endpoint : EndpointSaid) (line : Line) (begun out : Said) (now : PassingAt) (schema : Schema) (it : IsBegun endpoint.ticket now.fetch.state line now.fetch.line) → it.known.schema ≡ schema
+  pub opens_first : (endpoint : EndpointSaid) (line : Line) (begun out : Said) (now : OpenAt) (schema : Schema) (it : IsBegun endpoint.ticket now.fetch.state line now.fetch.line) → it.known.schema ≡ schema
       → HasTaken format schema [] begun.bytes out.bytes now.writer → out.failures ≡ begun.failures → IsOpen format [] endpoint.ticket line begun now out
   opens_first endpoint line begun out now schema it is begins quiet =
       record { begins = it; schema = schema; follows = is; so = begins; quiet = quiet }
 
   -- ---- a stream that is open
 
-  module _ (before : List StreamAt) (endpoint : EndpointSaid) (line : Line) (begun mid : Said) (now : PassingAt) (at : IsOpen format before endpoint.ticket line begun now mid) where
+  module _ (before : List StreamAt) (endpoint : EndpointSaid) (line : Line) (begun mid : Said) (now : OpenAt) (at : IsOpen format before endpoint.ticket line begun now mid) where
     -- its batches come next
-    pub passing_at : IsPassing format endpoint.ticket at.schema at.begins.known.schema (rows_held before) begun.bytes line at.begins.stream now.fetch mid now.writer
+    pub passing_at : IsUnderWay format endpoint.ticket at.schema at.begins.known.schema (rows_held before) begun.bytes line at.begins.stream now.fetch mid now.writer
     passing_at = at_begin endpoint.ticket at.schema at.begins.known.schema (rows_held before) begun.bytes line now.fetch mid now.writer at.begins refl
         (has_same before at.schema at.begins.known.schema at.follows) at.so
 
     -- it stopped after some rows
     pub stream_stops : (behind : List EndpointSaid) (failure : Failure) (last : Line) (out : Said)
-        → StopsPassing format endpoint.ticket at.schema at.begins.known.schema (rows_held before) begun.bytes line failure last mid out → StopsInRun format before (endpoint ∷ behind) failure line begun out
+        → StopsWithin format endpoint.ticket at.schema at.begins.known.schema (rows_held before) begun.bytes line failure last mid out → StopsInRun format before (endpoint ∷ behind) failure line begun out
     stream_stops behind failure last out stops = record {
       more = stops.stream ∷ [];
       some = stops.some;
@@ -540,8 +540,8 @@ module _ (format : Format) where
         by (inr (fault, is, why, ends, same)) = inr (fault, is, no_more before stops.stream at.schema fault first_is why, up_to fault ends, same)
 
     -- it came whole
-    pub stream_passed : (fetch : FetchAt) (out : Said) (after : PassedAt) → after.line ≡ fetch.line
-        → HasPassed format endpoint.ticket at.schema at.begins.known.schema (rows_held before) begun.bytes line fetch mid out after.writer → HavePassed format before (endpoint ∷ []) line begun after out
+    pub stream_passed : (fetch : FetchAt) (out : Said) (after : HandoverAt) → after.line ≡ fetch.line
+        → HasCome format endpoint.ticket at.schema at.begins.known.schema (rows_held before) begun.bytes line fetch mid out after.writer → HaveCome format before (endpoint ∷ []) line begun after out
     stream_passed fetch out after is passed = record {
       streams = passed.stream ∷ [];
       fetched = (fetch.line, passed.fetched, is);
@@ -556,7 +556,7 @@ module _ (format : Format) where
 
   -- ---- streams of one connection
 
-  module _ (before : List StreamAt) (front : List EndpointSaid) (line : Line) (begun mid out : Said) (now : PassedAt) (passed : HavePassed format before front line begun now mid) where
+  module _ (before : List StreamAt) (front : List EndpointSaid) (line : Line) (begun mid out : Said) (now : HandoverAt) (passed : HaveCome format before front line begun now mid) where
     -- it stopped among those after them
     pub stops_behind : (rest : List EndpointSaid) (failure : Failure) → StopsInRun format (before ++ passed.streams) rest failure now.line begun out → StopsInRun format before (front ++ rest) failure line begun out
     stops_behind rest failure stops = record {
@@ -584,7 +584,7 @@ module _ (format : Format) where
         )
 
     -- these came whole, too
-    passed_behind : (rest : List EndpointSaid) (later : PassedAt) → HavePassed format (before ++ passed.streams) rest now.line begun later out → HavePassed format before (front ++ rest) line begun later out
+    passed_behind : (rest : List EndpointSaid) (later : HandoverAt) → HaveCome format (before ++ passed.streams) rest now.line begun later out → HaveCome format before (front ++ rest) line begun later out
     passed_behind rest later more = record {
       streams = passed.streams ++ more.streams;
       fetched = fetches_both front rest passed.streams more.streams line now.line later.line passed.fetched more.fetched;
@@ -592,7 +592,7 @@ module _ (format : Format) where
     }
 
     -- one stream more, or not
-    pub passes_behind : {A : Type 0} (view : A → PassedAt) (endpoint : EndpointSaid) (result : Result A Failure) → Passes format view result (before ++ passed.streams) [] endpoint now.line begun out → Passes format view result before front endpoint line begun out
+    pub passes_behind : {A : Type 0} (view : A → HandoverAt) (endpoint : EndpointSaid) (result : Result A Failure) → WritesNext format view result (before ++ passed.streams) [] endpoint now.line begun out → WritesNext format view result before front endpoint line begun out
     passes_behind view endpoint (Ok later) more = passed_behind (endpoint ∷ []) (view later) more
     passes_behind view endpoint (Err failure) stops = λ behind. stops_behind (endpoint ∷ behind) failure (stops behind)
 
@@ -600,9 +600,9 @@ module _ (format : Format) where
 
   module _ {X : Type 0} (said : X → EndpointSaid) (items : List X) (i : ℕ) (x : X) (inside : i < length items) (is : x ≡ get_or items i x) (before : List StreamAt) (front : EndpointSaid) where
     -- the next one was passed on
-    pub passed_more : (line : Line) (begun out : Said) (now : PassedAt) → HavePassed format before ((front ∷ map said (take i items)) ++ said x ∷ []) line begun now out → HavePassed format before (front ∷ map said (take (i + 1) items)) line begun now out
+    pub passed_more : (line : Line) (begun out : Said) (now : HandoverAt) → HaveCome format before ((front ∷ map said (take i items)) ++ said x ∷ []) line begun now out → HaveCome format before (front ∷ map said (take (i + 1) items)) line begun now out
     passed_more line begun out now passed =
-        subst (λ (endpoints : List EndpointSaid). HavePassed format before (front ∷ endpoints) line begun now out) (sym (front_more said items i x inside is)) passed
+        subst (λ (endpoints : List EndpointSaid). HaveCome format before (front ∷ endpoints) line begun now out) (sym (front_more said items i x inside is)) passed
 
     -- or it stopped there
     pub stopped_among : (failure : Failure) (line : Line) (begun out : Said) → StopsInRun format before ((front ∷ map said (take i items)) ++ said x ∷ map said (drop (i + 1) items)) failure line begun out → StopsInRun format before (front ∷ map said items) failure line begun out
