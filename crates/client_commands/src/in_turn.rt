@@ -45,7 +45,7 @@ use std::thread::Threads;
 ///   that time.
 /// - `Lost::Unconnected` where the streams of all endpoints before those of a further connection
 ///   were written, and the network was asked twice for that one and gave none.
-pub(crate) fn stream_rows<T, C, O, F>(
+pub(crate) fn stream_rows<T: Threads, C: Connect + Drop + Send, O: Output, F: RowWriter>(
     rt: &T,
     alloc: Global,
     network: &mut C,
@@ -54,10 +54,6 @@ pub(crate) fn stream_rows<T, C, O, F>(
     query: Querying<'_>,
 ) -> Result<(), Lost>
 where
-    T: Threads,
-    C: Connect + Drop + Send,
-    O: Output,
-    F: RowWriter,
     C::Reader: Send,
     C::Writer: Send,
     requires calls { CanCount connection }
@@ -77,7 +73,7 @@ where
 }
 
 // Writes the runs of the connections, one after the other, and ends what is written.
-fn write_runs<T, C, O, F>(
+fn write_runs<T: Threads, C: Connect + Drop + Send, O: Output, F: RowWriter>(
     rt: &T,
     writing: Writing,
     connection: Connection<C::Reader, C::Writer>,
@@ -86,10 +82,6 @@ fn write_runs<T, C, O, F>(
     endpoints: &[FlightEndpoint],
 ) -> Result<(), Lost>
 where
-    T: Threads,
-    C: Connect + Drop + Send,
-    O: Output,
-    F: RowWriter,
     C::Reader: Send,
     C::Writer: Send,
     requires calls { CanCount connection }
@@ -211,7 +203,7 @@ where
 
 // Writes a run. Next to it the connection of the handle is made, and the stream of the next
 // run's first endpoint is begun over it.
-fn write_and_begin<T, C, O, F>(
+fn write_and_begin<T: Threads, C: Connect + Drop + Send, O: Output, F: RowWriter>(
     rt: &T,
     writing: Writing,
     passing: OpenStream<C::Reader, C::Writer, F>,
@@ -221,10 +213,6 @@ fn write_and_begin<T, C, O, F>(
     next: &FlightEndpoint,
 ) -> Result<OpenStream<C::Reader, C::Writer, F>, Lost>
 where
-    T: Threads,
-    C: Connect + Drop + Send,
-    O: Output,
-    F: RowWriter,
     C::Reader: Send,
     C::Writer: Send,
     requires { CanFail (O.failures output.old) }
@@ -246,17 +234,13 @@ where
 
 // The next run, whose first stream is begun, at last where it is not yet. Else what is written
 // breaks off.
-fn begin_next_run<C, O, F>(
+fn begin_next_run<C: Connect + Drop, O: Output, F: RowWriter>(
     writing: Writing,
     begun: Result<Result<Fetching<C::Reader, C::Writer>, Failure>, Refused<C>>,
     mut writer: F,
     output: &mut O,
     next: &FlightEndpoint,
 ) -> Result<OpenStream<C::Reader, C::Writer, F>, Lost>
-where
-    C: Connect + Drop,
-    O: Output,
-    F: RowWriter,
     requires writes { CanFail (O.failures output.old) }
     requires made { (handle : C) × Ahead (λ old ends new. C.connects old writing.port ends new)
         (λ fetching. fetching) (endpoint_said next.now).ticket handle begun }

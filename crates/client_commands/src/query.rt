@@ -86,7 +86,7 @@ where
 }
 
 // Prints the rows that a query answers in the format of a writer.
-fn query_by<T, C, W, E, F>(
+fn query_by<T: Threads, C: Connect + Drop + Send, W: Output, E: Output, F: RowWriter>(
     rt: &T,
     alloc: Global,
     network: &mut C,
@@ -95,11 +95,6 @@ fn query_by<T, C, W, E, F>(
     query: Querying<'_>,
 ) -> ExitStatus
 where
-    T: Threads,
-    C: Connect + Drop + Send,
-    W: Output,
-    E: Output,
-    F: RowWriter,
     C::Reader: Send,
     C::Writer: Send,
     requires writes { CanFail (W.failures output.old) }

@@ -81,17 +81,12 @@ impl<R: Input, W: Output, F: RowWriter> Model for Handover<R, W, F> {
 /// - `Failure::Answered` with the server's fault, and `Failure::Found` with one of this end, as
 ///   `Fetching::begin` gives them: F8 (`Fault::BadBatch`) where the stream ended without a schema.
 /// - F21 and F22 as `RowWriter::begin` gives them.
-pub(crate) fn begin_first<R, W, O, F>(
+pub(crate) fn begin_first<R: Input + Drop, W: Output + Drop, O: Output, F: RowWriter>(
     writing: Writing,
     connection: Connection<R, W>,
     output: &mut O,
     endpoint: &FlightEndpoint,
 ) -> Result<OpenStream<R, W, F>, Failure>
-where
-    R: Input + Drop,
-    W: Output + Drop,
-    O: Output,
-    F: RowWriter,
     requires calls { CanCount connection }
     requires writes { CanFail (O.failures output.old) }
     ensures { Opens F.format (λ passing. passing) result [] (endpoint_said endpoint.now) connection
@@ -115,17 +110,12 @@ where
 /// - F11 (`Fault::SchemaMismatch`) where one has other columns than those that are written. None of
 ///   its rows is written.
 /// - F12 (`Fault::LimitReached`), F21 and F22 as `RowWriter` gives them.
-pub(crate) fn write_run<R, W, O, F>(
+pub(crate) fn write_run<R: Input + Drop, W: Output + Drop, O: Output, F: RowWriter>(
     alloc: Global,
     passing: OpenStream<R, W, F>,
     output: &mut O,
     others: &[FlightEndpoint],
 ) -> Result<F, Failure>
-where
-    R: Input + Drop,
-    W: Output + Drop,
-    O: Output,
-    F: RowWriter,
     requires { CanFail (O.failures output.old) }
     ensures passes { WritesRun F.format F.state result passing (map endpoint_said others.now)
         (said_of O.Output output.old) (said_of O.Output output.new) }
@@ -143,17 +133,12 @@ where
 }
 
 // Writes the rows of the stream of one more endpoint.
-fn write_next<R, W, O, F>(
+fn write_next<R: Input + Drop, W: Output + Drop, O: Output, F: RowWriter>(
     alloc: Global,
     passed: Handover<R, W, F>,
     output: &mut O,
     endpoint: &FlightEndpoint,
 ) -> Result<Handover<R, W, F>, Failure>
-where
-    R: Input + Drop,
-    W: Output + Drop,
-    O: Output,
-    F: RowWriter,
     requires { CanFail (O.failures output.old) }
     ensures passes { (before : List StreamAt) (front : List EndpointSaid) (line : Line)
         (begun : Said) →
@@ -167,17 +152,12 @@ where
 }
 
 // Begins the stream of one more endpoint, where it has the columns that are written.
-fn begin_next<R, W, O, F>(
+fn begin_next<R: Input + Drop, W: Output + Drop, O: Output, F: RowWriter>(
     alloc: Global,
     passed: Handover<R, W, F>,
     output: &mut O,
     endpoint: &FlightEndpoint,
 ) -> Result<OpenStream<R, W, F>, Failure>
-where
-    R: Input + Drop,
-    W: Output + Drop,
-    O: Output,
-    F: RowWriter,
     requires { CanFail (O.failures output.old) }
     ensures opens { (streams : List StreamAt) (begun : Said) →
         AreSent F.format streams begun passed.writer (said_of O.Output output.old) →
@@ -203,16 +183,11 @@ where
 /// # Errors
 ///
 /// F11 (`Fault::SchemaMismatch`) where it has others. What is written breaks off then.
-pub(crate) fn check_columns<R, W, O, F>(
+pub(crate) fn check_columns<R: Input + Drop, W: Output + Drop, O: Output, F: RowWriter>(
     fetching: Fetching<R, W>,
     mut writer: F,
     output: &mut O,
 ) -> Result<OpenStream<R, W, F>, Failure>
-where
-    R: Input + Drop,
-    W: Output + Drop,
-    O: Output,
-    F: RowWriter,
     requires calls { CanCount fetching.line }
     requires writes { CanFail (O.failures output.old) }
     ensures { ChecksColumns F.format (λ passing. passing) result fetching (F.state writer)
@@ -228,16 +203,11 @@ where
 }
 
 // Writes the rows of a stream that is begun.
-fn write_begun<R, W, O, F>(
+fn write_begun<R: Input + Drop, W: Output + Drop, O: Output, F: RowWriter>(
     alloc: Global,
     passing: OpenStream<R, W, F>,
     output: &mut O,
 ) -> Result<Handover<R, W, F>, Failure>
-where
-    R: Input + Drop,
-    W: Output + Drop,
-    O: Output,
-    F: RowWriter,
     requires { CanFail (O.failures output.old) }
     ensures passes { (before : List StreamAt) (endpoint : EndpointSaid) (line : Line)
         (begun : Said) →
@@ -256,17 +226,12 @@ where
 }
 
 // Writes the batches of a stream as they come, up to its end.
-fn write_batches<R, W, O, F>(
+fn write_batches<R: Input + Drop, W: Output + Drop, O: Output, F: RowWriter>(
     alloc: Global,
     fetching: &mut Fetching<R, W>,
     writer: &mut F,
     output: &mut O,
 ) -> Result<(), Failure>
-where
-    R: Input + Drop,
-    W: Output + Drop,
-    O: Output,
-    F: RowWriter,
     requires reads { CanFail (fetching.old.line.incoming.failed) }
     requires writes { CanFail (O.failures output.old) }
     requires fits { FitsSchema fetching.old.state (F.state writer.old).schema }
@@ -287,17 +252,12 @@ where
 
 // Takes the next batch of a stream, as `Fetching::next` gives it. At a failure of that what is
 // written breaks off.
-fn next_batch<R, W, O, F>(
+fn next_batch<R: Input + Drop, W: Output + Drop, O: Output, F: RowWriter>(
     alloc: Global,
     fetching: &mut Fetching<R, W>,
     writer: &mut F,
     output: &mut O,
 ) -> Result<Option<Batch>, Failure>
-where
-    R: Input + Drop,
-    W: Output + Drop,
-    O: Output,
-    F: RowWriter,
     requires reads { CanFail (fetching.old.line.incoming.failed) }
     requires writes { CanFail (O.failures output.old) }
     ensures next { (ticket : Payload) (stream : StreamAt) (begun : Line) →
