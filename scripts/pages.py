@@ -9,7 +9,7 @@ docs/PROMISE.md, from what scripts/trusted_base.py counts and what public contra
 crates.txt has its row in its section, and stands on none of a later one. And in each page: that the files and headings that
 links lead to are there; that a name in a link to a source file stands in that file; that files and wrong bodies
 named in backticks are there; that each wrong body has its row in the README of its crate, with a link to where it
-stands, and fits the code; that each crate with plants has its line in plants/README.md; that code which is shown stands
+stands, and fits the code; that plants/README.md names each crate with plants; that code which is shown stands
 so in a source file; that the definitions of docs/PROMISE.md leave out no file to believe, and that what a row says of its
 files stands in them; that no sentence and no cell of a table has more than 35 words, where a code span is one word and
 quotations are left out; that README.md has at most 9,216 bytes; and what `page_style.py` says of the words of a page.
@@ -22,7 +22,7 @@ import sys
 sys.dont_write_bytecode = True
 
 import trusted_base  # noqa: E402
-from page_style import look_at_style  # noqa: E402
+from page_style import look_at_style, look_at_totals  # noqa: E402
 from wrong_bodies import misfits, wrong_bodies  # noqa: E402
 
 TOP = pathlib.Path(__file__).resolve().parent.parent
@@ -142,23 +142,24 @@ def public_base(files):
 
 
 def list_of_files(amiss):
-    """The files of each crate's specs: those to believe, those of other public calls and laws, and those inside."""
+    """The files of each crate's specs: those to believe, and those of other public calls and laws; not those inside."""
     files = trusted_base.read_specs()
     believed, types = trusted_base.base_of_promise(files)
     public = {item.path for item in public_base(files).values()}
     among = {item.path for item in believed.values()}
     rows = ["| What there is to read | How much | Goal |", "|---|---:|---|"]
     rows += [f"| {name} | {count:,} | {goal} |" for name, count, goal in trusted_base.counts(files, believed, types)]
-    rows += ["", "| Crate | To believe | For other public calls, and laws | Inside |", "|---|---|---|---|"]
+    rows += ["", "| Crate | To believe | For other public calls, and laws |", "|---|---|---|"]
     for crate in stands_on():
         specs = CRATES / crate / "specs"
-        kinds = {"believe": [], "stated": [], "inside": []}
+        kinds = {"believe": [], "stated": []}
         for path in sorted(specs.rglob("*.antt")):
             if not any(file["path"] == path and file["found"] for file in files.values()):
                 continue
             is_marked = path.relative_to(specs).parts[0] == "inside" or path.read_text().startswith("-- Inside")
             kind = "believe" if path in among else "stated" if path in public else "inside"
-            kinds[kind].append(path.stem)
+            if kind != "inside":
+                kinds[kind].append(path.stem)
             if is_marked and kind != "inside":
                 rests = "the promise rests" if kind == "believe" else "a public contract rests"
                 amiss.append(f"{path.relative_to(TOP)}: marked as inside, but {rests} on it")
@@ -238,13 +239,14 @@ def look_at_wrong_bodies(amiss):
 
 
 def look_at_plants(amiss):
-    """Tells which crates with plants have no line in plants/README.md, and which lines no plants."""
+    """Tells which crates with plants are not in plants/README.md, and which are there without plants."""
     page = (TOP / "plants/README.md").read_text()
-    lines = set(re.findall(r"(?m)^\| (\w+) \| (?:not tried|\d{4}-)", page))
+    named = set(re.findall(r"(?m)^\| (\w+) \| \d{4}-", page))
+    for untried in re.findall(r"(?ms)^Not tried yet: (.*?)\.$", page):
+        named |= set(re.findall(r"\w+", untried))
     crates = {path.parent.name for path in TOP.glob("plants/*/*.edit")}
-    amiss.extend(f"plants/README.md: no line '| {crate} | not tried | | | | | | |'"
-                 for crate in sorted(crates - lines))
-    amiss.extend(f"plants/README.md: no plants of {crate}" for crate in sorted(lines - crates))
+    amiss.extend(f"plants/README.md: {crate} is not there, not even as not tried" for crate in sorted(crates - named))
+    amiss.extend(f"plants/README.md: no plants of {crate}" for crate in sorted(named - crates))
 
 
 def look_at_edits(amiss):
@@ -263,7 +265,7 @@ def look_at_definitions(page, text, amiss):
         found |= {(path.relative_to(CRATES).parts[0], path.stem) for path in files if CRATES in path.parents}
         amiss.extend(f"{where}: {name} does not stand in {row}" for name in re.findall(r"`([A-Za-z_]\w*)[^`]*`", says)
                      if not re.search(rf"(?<!\w){name}(?!\w)", source))
-    for crate, believed in re.findall(r"(?m)^\| \[(\w+)\]\([^|]*\) \| (\w[^|]*) \|[^|]*\|[^|]*\|$", text):
+    for crate, believed in re.findall(r"(?m)^\| \[(\w+)\]\([^|]*\) \| (\w[^|]*) \|[^|]*\|$", text):
         amiss.extend(f"{where}: the definitions leave out {crate}/{name}" for name in believed.split(", ")
                      if (crate, name) not in found)
 
@@ -310,7 +312,7 @@ def look_at_lengths(page, text, amiss):
 
 def pages():
     yield from sorted(TOP.glob("*.md"))
-    for folder in ("docs", "bench", "plants", "scripts", "vectors", "crates"):
+    for folder in ("docs", "bench", "gateway", "plants", "scripts", "vectors", "crates"):
         yield from sorted(path for path in (TOP / folder).rglob("*.md") if "/out/" not in str(path))
 
 
@@ -326,8 +328,9 @@ def main(words):
                 path.write_text(new)
     sources = {kind: [" ".join(path.read_text().split()) for path in CRATES.glob(pattern)]
                for kind, pattern in (("rust", "*/src/**/*.rt"), ("antt", "*/specs/**/*.antt"))}
+    texts = {}
     for page in pages():
-        text = page.read_text()
+        texts[str(page.relative_to(TOP))] = text = page.read_text()
         look_at_code(page, text, sources, amiss)
         if page.name == "PROMISE.md":
             look_at_definitions(page, text, amiss)
@@ -335,6 +338,7 @@ def main(words):
         look_at_names(page, text, amiss)
         look_at_lengths(page, text, amiss)
         look_at_style(str(page.relative_to(TOP)), text, amiss)
+    look_at_totals(texts, amiss)
     look_at_sections(amiss)
     look_at_wrong_bodies(amiss)
     look_at_edits(amiss)

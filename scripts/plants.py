@@ -27,6 +27,7 @@ import shutil
 import subprocess
 import sys
 import tempfile
+import textwrap
 import time
 
 sys.dont_write_bytecode = True
@@ -78,10 +79,14 @@ def lines_of_page():
 
 
 def write_page(lines):
-    """Writes the table of plants/README.md, a line for each crate that has plants."""
+    """Writes the table of plants/README.md: a line for each crate whose plants were tried, and the
+    names of the others that have plants."""
     front, _, rest = PAGE.read_text().partition(BEGIN)
-    rows = [" | ".join([crate, *lines.get(crate, NOT_TRIED)]) for crate in sorted(plants())]
+    tried = [crate for crate in sorted(plants()) if lines.get(crate, NOT_TRIED) != NOT_TRIED]
+    rows = [" | ".join([crate, *lines[crate]]) for crate in tried]
     table = "\n".join([HEAD, *(re.sub(" +", " ", f"| {row} |") for row in rows)])
+    if others := ", ".join(crate for crate in sorted(plants()) if crate not in tried):
+        table += "\n\n" + textwrap.fill(f"Not tried yet: {others}.", 100)
     PAGE.write_text(f"{front}{BEGIN}\n\n{table}\n\n{END}{rest.partition(END)[2]}")
 
 

@@ -1,9 +1,9 @@
 //! Batches with the statistics of their columns.
 
-ghost use Rattle.std.specs.Prelude.{◌≡◌, ◌<◌, length, IfOk, IfSome};
+ghost use Rattle.std.specs.Prelude.{◌≡◌, ◌<◌, length, IfNone, IfOk, IfSome};
 ghost use Rattle.arrays.specs.Column.{ColumnAt};
 ghost use Rattle.batch_stats.specs.Columns.{stats_in};
-ghost use Rattle.batch_stats.specs.Owned.{AreKept};
+ghost use Rattle.batch_stats.specs.Owned.{AreKept, AreUnlike};
 ghost use Rattle.batch_stats.specs.Sides.{side_at};
 ghost use Rattle.batch_stats.specs.inside.Measured.{AreStatsOf};
 
@@ -75,11 +75,12 @@ impl MeasuredBatch {
         self.stats[column].side(&self.batch.columns()[column])
     }
 
-    /// The statistics of a column, to be kept without it. It is `None` only of texts that are none:
-    /// no column has such ends.
+    /// The statistics of a column, to be kept without it. It is `None` only of two ends
+    /// that are not alike: no column has such ends.
     pub fn owned_stats(&self, column: usize) -> Option<OwnedStats>
         requires { column < length self.now.columns }
-        ensures { IfSome result (λ owned. AreKept owned (stats_in self.now.columns column)) }
+        ensures kept { IfSome result (λ owned. AreKept owned (stats_in self.now.columns column)) }
+        ensures alike { IfNone result (AreUnlike (stats_in self.now.columns column)) }
     {
         self.stats[column].owned(&self.batch.columns()[column])
     }

@@ -1,14 +1,14 @@
 //! Statistics that are kept without their column.
 
-ghost use Rattle.std.specs.Prelude.{◌≡◌, IfSome, Some};
+ghost use Rattle.std.specs.Prelude.{◌≡◌, false, IfNone, IfSome, IsSome, Some};
 ghost use Rattle.scan_base.specs.Value.{value_of};
 ghost use Rattle.batch_stats.specs.Beginnings.{AreBeginnings, AreFirst};
-ghost use Rattle.batch_stats.specs.Owned.{AreKept};
-ghost use Rattle.batch_stats.specs.Sides.{side_at};
+ghost use Rattle.batch_stats.specs.Owned.{AreKept, are_alike};
+ghost use Rattle.batch_stats.specs.Sides.{ends_at, side_at};
 ghost use Rattle.batch_stats.specs.Stats.{StatsAt};
 
 use crate::beginnings::{Beginning, Beginnings};
-use crate::side::Side;
+use crate::side::{Ends, Side};
 use arrayvec::ArrayString;
 use scan_base::ValueRef;
 
@@ -55,7 +55,8 @@ struct ShortBeginning {
 // Those of a text. They always fit.
 #[tactic(auto, using(crate::proofs::Begun::first_cut))]
 fn short_beginning(text: &str) -> Option<ShortBeginning>
-    ensures { IfSome result (λ begun. AreFirst begun.text.bytes begun.is_whole text.now) }
+    ensures always { IsSome result }
+    ensures first { IfSome result (λ begun. AreFirst begun.text.bytes begun.is_whole text.now) }
 {
     let end = text.floor_char_boundary(MOST_BYTES);
     let is_whole = end == text.len();
@@ -64,30 +65,37 @@ fn short_beginning(text: &str) -> Option<ShortBeginning>
 }
 
 impl OwnedStats {
-    // Those of texts. It is `None` of other values.
-    pub(crate) fn of_texts(
-        least: ValueRef<'_>,
-        greatest: ValueRef<'_>,
-        nulls: usize,
-    ) -> Option<OwnedStats>
-        ensures { IfSome result (λ owned. AreKept owned
-            (record {
-              ends = Some (value_of least.entry, value_of greatest.entry);
-              nulls = nulls;
-            })) }
+    // Those of a least and a greatest value. It is `None` only of two that are not alike.
+    pub(crate) fn of_ends(ends: Ends<'_>, nulls: usize) -> Option<OwnedStats>
+        ensures kept { IfSome result (λ owned. AreKept owned
+            (record { ends = Some (ends_at ends.entry); nulls = nulls })) }
+        ensures alike { IfNone result
+            (are_alike (value_of ends.entry.least) (value_of ends.entry.greatest) ≡ false) }
     {
-        let (ValueRef::Text(least), ValueRef::Text(greatest)) = (least, greatest) else {
-            return None;
-        };
-        let least = short_beginning(least)?;
-        let greatest = short_beginning(greatest)?;
-        Some(OwnedStats::Texts {
-            least: least.text,
-            least_is_whole: least.is_whole,
-            greatest: greatest.text,
-            greatest_is_whole: greatest.is_whole,
-            nulls,
-        })
+        match (ends.least, ends.greatest) {
+            (ValueRef::Bool(least), ValueRef::Bool(greatest)) => Some(OwnedStats::Flags {
+                least,
+                greatest,
+                nulls,
+            }),
+            (ValueRef::Int(least), ValueRef::Int(greatest)) => Some(OwnedStats::Numbers {
+                least,
+                greatest,
+                nulls,
+            }),
+            (ValueRef::Text(least), ValueRef::Text(greatest)) => {
+                let least = short_beginning(least)?;
+                let greatest = short_beginning(greatest)?;
+                Some(OwnedStats::Texts {
+                    least: least.text,
+                    least_is_whole: least.is_whole,
+                    greatest: greatest.text,
+                    greatest_is_whole: greatest.is_whole,
+                    nulls,
+                })
+            }
+            _ => None,
+        }
     }
 
     /// What the values are between, and how many are null. It is `None` of texts of which one is

@@ -1,11 +1,11 @@
 //! The statistics of a column.
 
-ghost use Rattle.std.specs.Prelude.{◌≡◌, ◌<◌, IfSome, None, option_map};
+ghost use Rattle.std.specs.Prelude.{◌≡◌, ◌<◌, IfNone, IfSome, None, option_map};
 ghost use Rattle.scan_base.specs.declared.comparison.Comparison.TheVariants.{Less};
 ghost use Rattle.scan_base.specs.Value.{value_of};
 ghost use Rattle.arrays.specs.Column.{slot_of, values_of, ColumnAt};
 ghost use Rattle.batch_stats.specs.Held.{ends_held, AreSlots, IsStatsOf};
-ghost use Rattle.batch_stats.specs.Owned.{AreKept};
+ghost use Rattle.batch_stats.specs.Owned.{AreKept, AreUnlike};
 ghost use Rattle.batch_stats.specs.Sides.{ends_at, side_at};
 ghost use Rattle.batch_stats.specs.Stats.{stand, stats_of, with_value};
 
@@ -144,27 +144,16 @@ impl Stats {
     }
 
     /// The same without the column. Of texts it keeps the first characters, at most 36 bytes. It is
-    /// `None` only of texts that are none: no column has such ends.
+    /// `None` only of two ends that are not alike: no column has such ends.
     pub fn owned(&self, column: &Column) -> Option<OwnedStats>
         requires { IsStatsOf column.now self.now }
-        ensures { IfSome result (λ owned. AreKept owned (stats_of (values_of column.now))) }
+        ensures kept { IfSome result (λ owned. AreKept owned (stats_of (values_of column.now))) }
+        ensures alike { IfNone result (AreUnlike (stats_of (values_of column.now))) }
     {
         let nulls = column.null_count();
-        match *self {
-            Stats::Nulls => Some(OwnedStats::Nulls { nulls }),
-            Stats::Flags { least, greatest } => Some(OwnedStats::Flags {
-                least,
-                greatest,
-                nulls,
-            }),
-            Stats::Numbers { least, greatest } => Some(OwnedStats::Numbers {
-                least,
-                greatest,
-                nulls,
-            }),
-            Stats::Texts { least, greatest } => {
-                OwnedStats::of_texts(column.value_at(least), column.value_at(greatest), nulls)
-            }
+        match self.ends(column) {
+            None => Some(OwnedStats::Nulls { nulls }),
+            Some(ends) => OwnedStats::of_ends(ends, nulls),
         }
     }
 }

@@ -269,12 +269,15 @@ struct Watching<'w, 'o, W> {
 
 // After so many rows what was sent is written, and the other end is looked at.
 impl<'w, 'o, W: Output> Watches for Watching<'w, 'o, W> {
-    ghost use Rattle.std.specs.Prelude.{◌≡◌, None, refl};
+    ghost use Rattle.std.specs.Prelude.{◌≡◌, IsSome, None, refl};
     ghost use Rattle.std.proofs.Common.{◌∙◌};
     ghost use Rattle.grpc_frame.specs.Ends.{CanFail};
     ghost use Rattle.flight_calls.specs.Watched.{IsWatched, still_watched, watched_again};
 
     ghost ready = { λ w. (w.failed ≡ None) × CanFail (W.failures w.writer.now) };
+
+    // It ends the work only with a fault of the other end.
+    ghost ended = { λ w. IsSome w.failed };
 
     ghost watched = { λ old new.
         (new.writer.ghost_name ≡ old.writer.ghost_name)

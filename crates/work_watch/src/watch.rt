@@ -1,15 +1,18 @@
 //! Who watches long work, and may end it.
 
-ghost use Rattle.std.specs.Prelude.{OnOk};
+ghost use Rattle.std.specs.Prelude.{OnOk, OnErr};
 
 use std::alloc::AllocError;
 
 /// Who watches work that may take long, and may end it.
 pub trait Watches {
-    ghost use Rattle.std.specs.Prelude.{◌≡◌, ℕ, ◌+◌, true};
+    ghost use Rattle.std.specs.Prelude.{◌≡◌, ℕ, ◌+◌, true, false};
 
     // What has to hold for it to be asked. It holds again only where the work is to go on.
     ghost ready: { Self → Type 0 };
+
+    // What is so where it ended the work.
+    ghost ended: { Self → Type 0 };
 
     // What may have become of it while it watched.
     ghost watched: { Self → Self → Type 0 };
@@ -22,6 +25,7 @@ pub trait Watches {
     fn goes_on(&mut self, rows: usize) -> bool
         requires { ready self.old }
         ensures ready { result ≡ true → ready self.new }
+        ensures ended { result ≡ false → ended self.new }
         ensures watched { watched self.old self.new }
         ensures told { told rows self.old self.new };
 
@@ -46,6 +50,9 @@ pub struct Unwatched;
 
 impl Watches for Unwatched {
     ghost ready = { λ _. Unit {0} };
+
+    // It never ends the work.
+    ghost ended = { λ _. ⊥ };
 
     ghost watched = { λ _ _. Unit {0} };
 
@@ -72,6 +79,7 @@ impl Watches for Unwatched {
 pub fn tell<W: Watches>(watch: &mut W, rows: usize) -> Result<(), AllocError>
     requires ready { W.ready watch.old }
     ensures ready { OnOk result (W.ready watch.new) }
+    ensures ended { OnErr result (W.ended watch.new) }
     ensures watched { W.watched watch.old watch.new }
     ensures told { W.told rows watch.old watch.new }
 {

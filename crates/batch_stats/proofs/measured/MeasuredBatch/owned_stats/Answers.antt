@@ -20,10 +20,18 @@ owned-requires c =
     let at : column ≡ get_or columns c.args.column column = c.index-columns-column.is ∙ ap (λ columns. get_or columns c.args.column column) c.columns.ensures.columns in
     zip_at IsStatsOf columns c.self.inside.stats.items c.args.column column c.index.result.now c.self.invariant (omega (arith, same, c.requires)) at c.index.ensures
 
-pub returns : goal.returns
-returns c =
+pub returns-clause-kept : goal.returns-clause-kept
+returns-clause-kept c =
     let column = c.index-columns-column.result in
     let columns = c.args.self.now.columns in
     let at : column ≡ get_or columns c.args.column column =
     c.index-columns-column.is ∙ ap (λ columns. get_or columns c.args.column column) (c.columns.ensures.columns ∙ ap (λ (batch : BatchAt). batch.columns) c.self.view_is) in
-    rw (slice_get-get_or columns c.args.column column c.requires, ← at) c.owned.ensures
+    rw (slice_get-get_or columns c.args.column column c.requires, ← at) c.owned.ensures.kept
+
+pub returns-clause-alike : goal.returns-clause-alike
+returns-clause-alike c =
+    let column = c.index-columns-column.result in
+    let columns = c.args.self.now.columns in
+    let at : column ≡ get_or columns c.args.column column =
+    c.index-columns-column.is ∙ ap (λ columns. get_or columns c.args.column column) (c.columns.ensures.columns ∙ ap (λ (batch : BatchAt). batch.columns) c.self.view_is) in
+    rw (slice_get-get_or columns c.args.column column c.requires, ← at) c.owned.ensures.alike

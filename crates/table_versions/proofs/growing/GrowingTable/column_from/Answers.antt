@@ -33,7 +33,7 @@ loop-index-preserved c =
     rw (← c.self.view_is) (batch_there c.self.inside.batches c.loop-index.index one (rw (← c.deref.ensures) at c.get.ensures)) in
     let next = c.in-Some.stats in
     let items : c.push.new.self.items ≡ stats ++ next ∷ [] = c.in_ok-push-in-Some.ensures.items in
-    let more = stats_more all first c.loop-index.index one.batch there column stats next c.in-Some.ensures c.loop-index.invariant.are c.loop-index.invariant.long in
+    let more = stats_more all first c.loop-index.index one.batch there column stats next c.in-Some.ensures.kept c.loop-index.invariant.are c.loop-index.invariant.long in
     record {
       long = omega (arith, c.loop-index.invariant.long, ap (λ (some : List OwnedStats). length some) items, length-append stats (next ∷ []));
       are = subst (λ (some : List OwnedStats). AreStatsFrom all first column some) (sym items) more;
