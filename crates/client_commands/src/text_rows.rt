@@ -156,7 +156,8 @@ impl<K: TextFormat> RowWriter for TextWriter<K> {
     }
 
     fn write_batch<W: Output>(&mut self, output: &mut W, batch: Batch) -> Result<(), Fault> {
-        K::send_rows(output, &mut self.outbox, self.schema.fields.as_slice(), &batch)
+        let fields = self.schema.fields.as_slice();
+        K::send_rows(output, &mut self.outbox, fields, &batch)
     }
 
     fn break_off<W: Output>(&mut self, output: &mut W) {
