@@ -91,6 +91,6 @@ table_ends result writer old new wrote = λ schema rows start taken.
     (subst (λ (s : Schema). Writes result old new (table_of s (flat_map rows_of writer.batches))) taken.written wrote)) in
     by result schema rows start all
   where
-    by : {A E : Type 0} (result : Result A E) (schema : Schema) (rows : Rows) (start : Option (List ℕ)) → Writes result start new (table_of schema rows) → WritesAll result form.Table schema rows start new
+    by : {X Y : Type 0} (result : Result X Y) (schema : Schema) (rows : Rows) (start : Option (List ℕ)) → Writes result start new (table_of schema rows) → WritesAll result form.Table schema rows start new
     by (Ok x) schema rows start wrote = (table_of schema rows, refl, wrote)
     by (Err e) schema rows start wrote = (table_of schema rows, refl, wrote)
