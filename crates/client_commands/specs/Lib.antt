@@ -1,6 +1,6 @@
 pub mod Told
-pub mod Rows
 pub mod Lines
+pub mod Formats
 pub mod Fetching
 pub mod Handles
 pub mod Spread

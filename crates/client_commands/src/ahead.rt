@@ -3,15 +3,22 @@
 ghost use Rattle.std.specs.Prelude.{IfOk};
 ghost use Rattle.flight_proto.specs.FlightInfo.{endpoint_said};
 ghost use Rattle.client_commands.specs.Lines.{CanCount};
-ghost use Rattle.client_commands.specs.inside.Relaying.{Ahead, BeginsAtLast};
+ghost use Rattle.client_commands.specs.inside.Turns.{Ahead, BeginsAtLast, Settles};
 
-use crate::apart::{Refused, settle};
 use crate::connecting::open;
 use crate::lost::Lost;
 use client_calls::{Failure, Fetching};
 use command_ends::Connect;
 use flight_proto::FlightEndpoint;
 use std::alloc::Global;
+use std::io::Error;
+
+/// A handle of the network that gave no connection, and why.
+#[derive(Drop)]
+pub(crate) struct Refused<C> {
+    pub handle: C,
+    pub error: Error,
+}
 
 /// The stream of an endpoint, begun over a connection of this handle.
 ///
@@ -60,5 +67,16 @@ pub(crate) fn begin_at_last<C: Connect + Drop>(
             let Refused { handle, error: _ } = refused;
             settle(begin_apart(alloc, handle, port, endpoint))
         }
+    }
+}
+
+// What was made at last, or why it was not.
+fn settle<C: Drop, V: Drop>(made: Result<Result<V, Failure>, Refused<C>>) -> Result<V, Lost>
+    ensures { Settles made result }
+{
+    match made {
+        Ok(Ok(value)) => Ok(value),
+        Ok(Err(failure)) => Err(Lost::Failed(failure)),
+        Err(refused) => Err(Lost::Unconnected(refused.error)),
     }
 }

@@ -8,46 +8,44 @@ ghost use Rattle.flight_proto.specs.Wanted.{rows_of};
 ghost use Rattle.client_calls.specs.Outcome.{Line};
 ghost use Rattle.command_ends.specs.Printing.{Said, said_of};
 ghost use Rattle.client_commands.specs.Lines.{CanCount};
-ghost use Rattle.client_commands.specs.inside.Relaying.{Ahead, PassesRuns, Relays, StreamsOrNot};
-ghost use Rattle.client_commands.specs.inside.Relaying.{TakesOver};
-ghost use Rattle.client_commands.specs.inside.Runs.{AreSent, IsOpen, PassesRun};
+ghost use Rattle.client_commands.specs.inside.Turns.{Ahead, BeginsNext, StreamsOrNot};
+ghost use Rattle.client_commands.specs.inside.Turns.{WritesAndBegins, WritesRuns};
+ghost use Rattle.client_commands.specs.inside.Runs.{AreSent, IsOpen, WritesRun};
 
-use crate::ahead::{begin_apart, begin_at_last};
-use crate::apart::Refused;
+use crate::ahead::{Refused, begin_apart, begin_at_last};
 use crate::asking::{Places, ask_places};
 use crate::beside::{Work, take_back, work_beside};
 use crate::lost::Lost;
 use crate::query::Querying;
-use crate::streaming::{Passing, Writing, begin_first, fit_next, pass_run};
+use crate::row_writer::RowWriter;
+use crate::streaming::{OpenStream, Writing, begin_first, check_columns, write_run};
 use client_calls::{Connection, Failure, Fetching};
 use command_ends::Connect;
 use flight_proto::FlightEndpoint;
 use grpc_frame::{Input, Output};
-use row_stream::StreamWriter;
 use std::alloc::Global;
 use std::thread::Threads;
 
-/// Writes the rows that a query answers as an Arrow IPC stream, batch by batch as they come: asks
-/// over the first connection where they are, and fetches the streams of the endpoints over it and
-/// over further ones, a run of them each, one run after the other. Each batch is written after
-/// dictionaries of its own texts, whatever dictionaries came.
+/// Writes the rows that a query answers, batch by batch as they come: asks over the first
+/// connection where they are, and fetches the streams of the endpoints over it and over further
+/// ones, a run of them each, one run after the other.
 ///
-/// While a run is passed on, the next connection is made, and its first stream is begun, in a
+/// While a run is written, the next connection is made, and its first stream is begun, in a
 /// thread of its own. What comes of it after its schema waits in the system's buffers: the server
-/// stops where they are full. So memory holds one payload at a time, and dictionaries. A connection
-/// is closed after the last stream of its run, before the next one is waited for.
+/// stops where they are full. So memory holds one payload at a time, dictionaries, and what a
+/// writer holds. A connection is closed after the last stream of its run, before the next one is
+/// waited for.
 ///
 /// # Errors
 ///
-/// The first failure, in the order of the endpoints. Where something was written, the stream breaks
-/// off in the middle of a message after some of the rows, so that no reader takes it for whole.
-/// Where a write failed, a beginning of the stream was written, which may end after a message.
-/// - `Lost::Failed`, as `ask_places`, `begin_first`, `pass_run` and `begin_at_last` give it. It
+/// The first failure, in the order of the endpoints. What is written breaks off after some of the
+/// rows. Where a write failed, a beginning of them was written.
+/// - `Lost::Failed`, as `ask_places`, `begin_first`, `write_run` and `begin_at_last` give it. It
 ///   comes once the stream that is begun ahead has said its schema, or has failed; nothing bounds
 ///   that time.
 /// - `Lost::Unconnected` where the streams of all endpoints before those of a further connection
-///   were passed on, and the network was asked twice for that one and gave none.
-pub(crate) fn stream_rows<T: Threads, C: Connect + Drop + Send, O: Output>(
+///   were written, and the network was asked twice for that one and gave none.
+pub(crate) fn stream_rows<T: Threads, C: Connect + Drop + Send, O: Output, F: RowWriter>(
     rt: &T,
     alloc: Global,
     network: &mut C,
@@ -62,9 +60,8 @@ where
     requires writes { CanFail (O.failures output.old) }
     ensures { (last : Line)
         × StreamsOrNot (λ old ends new. C.connects old query.entry.port ends new) C.shares
-        query.entry.streams
-        (rows_of query.entry.sql.now) network.old network.new result connection last
-        (said_of O.Output output.old) (said_of O.Output output.new) }
+        F.format query.entry.streams (rows_of query.entry.sql.now) network.old network.new result
+        connection last (said_of O.Output output.old) (said_of O.Output output.new) }
 {
     let Places { endpoints, handles } = ask_places(alloc, network, &mut connection, query)?;
     let writing = Writing {
@@ -72,11 +69,11 @@ where
         seed: query.seed,
         port: query.port,
     };
-    pass_runs(rt, writing, connection, handles, output, &endpoints)
+    write_runs::<_, _, _, F>(rt, writing, connection, handles, output, &endpoints)
 }
 
-// Passes the runs of the connections on, one after the other, and ends what is written.
-fn pass_runs<T: Threads, C: Connect + Drop + Send, O: Output>(
+// Writes the runs of the connections, one after the other, and ends what is written.
+fn write_runs<T: Threads, C: Connect + Drop + Send, O: Output, F: RowWriter>(
     rt: &T,
     writing: Writing,
     connection: Connection<C::Reader, C::Writer>,
@@ -90,21 +87,21 @@ where
     requires calls { CanCount connection }
     requires writes { CanFail (O.failures output.old) }
     requires fewer { length handles.items < length endpoints.now }
-    ensures { PassesRuns (λ old ends new. C.connects old writing.port ends new) connection
+    ensures { WritesRuns (λ old ends new. C.connects old writing.port ends new) F.format connection
         handles.items (map endpoint_said endpoints.now) result (said_of O.Output output.old)
         (said_of O.Output output.new) }
 {
     let mut left = handles.len();
     let (first, mut others, mut behind) = cut_run(endpoints, left.saturating_add(1));
-    let mut passing = begin_first(writing, connection, output, first)?;
+    let mut passing = begin_first::<_, _, _, F>(writing, connection, output, first)?;
     for handle in handles {
         let (next, more, rest) = cut_run(behind, left);
-        passing = relay(rt, writing, passing, output, others, handle, next)?;
+        passing = write_and_begin(rt, writing, passing, output, others, handle, next)?;
         others = more;
         behind = rest;
         left -= 1;
     }
-    let writer = pass_run(writing.alloc, passing, output, others)?;
+    let writer = write_run(writing.alloc, passing, output, others)?;
     Ok(writer.end(output)?)
 }
 
@@ -126,63 +123,70 @@ fn cut_run(
     }
 }
 
-// A run that is passed on to an output, and its other endpoints after the first one.
+// A run that is written to an output, and its other endpoints after the first one.
 #[derive(Drop)]
-struct Run<'a, R: Input, W: Output, O> {
+struct Run<'a, R: Input, W: Output, F: RowWriter, O> {
     alloc: Global,
-    passing: Passing<R, W>,
+    passing: OpenStream<R, W, F>,
     output: &'a mut O,
     others: &'a [FlightEndpoint],
 }
 
-impl<'a, R: Input + Drop, W: Output + Drop, O: Output> Work for Run<'a, R, W, O> {
-    type Out = (&'a mut O, Result<StreamWriter, Failure>);
+impl<'a, R, W, F, O> Work for Run<'a, R, W, F, O>
+where
+    R: Input + Drop,
+    W: Output + Drop,
+    F: RowWriter,
+    O: Output,
+{
+    type Out = (&'a mut O, Result<F, Failure>);
 
     ghost use Rattle.std.specs.Prelude.{◌≡◌, map, IfOk};
     ghost use Rattle.grpc_frame.specs.Ends.{CanFail};
     ghost use Rattle.flight_proto.specs.FlightInfo.{endpoint_said};
     ghost use Rattle.command_ends.specs.Printing.{said_of};
-    ghost use Rattle.client_commands.specs.inside.Runs.{PassesRun};
+    ghost use Rattle.client_commands.specs.inside.Runs.{WritesRun};
 
     ghost can_run = { λ run. CanFail (O.failures run.output.now) };
 
     ghost gives = { λ run r. (r.0.ghost_name ≡ run.output.ghost_name)
-        × PassesRun (λ writer. writer) r.1 run.passing (map endpoint_said run.others.now)
+        × WritesRun F.format F.state r.1 run.passing (map endpoint_said run.others.now)
         (said_of O.Output run.output.now) (said_of O.Output r.0.now)
         × IfOk r.1 (λ _. O.failures r.0.now ≡ O.failures run.output.now) };
 
-    fn run(self) -> (&'a mut O, Result<StreamWriter, Failure>) {
+    fn run(self) -> (&'a mut O, Result<F, Failure>) {
         let Run {
             alloc,
             passing,
             output,
             others,
         } = self;
-        let passed = pass_run(alloc, passing, output, others);
+        let passed = write_run(alloc, passing, output, others);
         (output, passed)
     }
 }
 
-// Passes a run on, and does what is ahead next to it.
-fn pass_beside<T, F, A, R, W, O>(
+// Writes a run, and does what is ahead next to it.
+fn write_beside<T, A, B, R, W, O, F>(
     rt: &T,
     alloc: Global,
-    ahead: F,
-    passing: Passing<R, W>,
+    ahead: A,
+    passing: OpenStream<R, W, F>,
     output: &mut O,
     others: &[FlightEndpoint],
-) -> (A, Result<StreamWriter, Failure>)
+) -> (B, Result<F, Failure>)
 where
     T: Threads,
-    F: FnOnce() -> A + Send,
-    A: Send,
+    A: FnOnce() -> B + Send,
+    B: Send,
     R: Input + Drop,
     W: Output + Drop,
     O: Output,
-    requires ahead { F.pre ahead }
+    F: RowWriter,
+    requires ahead { A.pre ahead }
     requires writes { CanFail (O.failures output.old) }
-    ensures ahead { F.post ahead result.0 }
-    ensures passes { PassesRun (λ writer. writer) result.1 passing (map endpoint_said others.now)
+    ensures ahead { A.post ahead result.0 }
+    ensures passes { WritesRun F.format F.state result.1 passing (map endpoint_said others.now)
         (said_of O.Output output.old) (said_of O.Output output.new) }
     ensures counts { IfOk result.1 (λ _. O.failures output.new ≡ O.failures output.old) }
 {
@@ -197,25 +201,25 @@ where
     (done, passed)
 }
 
-// Passes a run on. Next to it the connection of the handle is made, and the stream of the next
+// Writes a run. Next to it the connection of the handle is made, and the stream of the next
 // run's first endpoint is begun over it.
-fn relay<T: Threads, C: Connect + Drop + Send, O: Output>(
+fn write_and_begin<T: Threads, C: Connect + Drop + Send, O: Output, F: RowWriter>(
     rt: &T,
     writing: Writing,
-    passing: Passing<C::Reader, C::Writer>,
+    passing: OpenStream<C::Reader, C::Writer, F>,
     output: &mut O,
     others: &[FlightEndpoint],
     handle: C,
     next: &FlightEndpoint,
-) -> Result<Passing<C::Reader, C::Writer>, Lost>
+) -> Result<OpenStream<C::Reader, C::Writer, F>, Lost>
 where
     C::Reader: Send,
     C::Writer: Send,
     requires { CanFail (O.failures output.old) }
     ensures { (before : List StreamAt) (endpoint : EndpointSaid) (line : Line) (begun : Said) →
-        IsOpen before endpoint.ticket line begun passing (said_of O.Output output.old) →
-        Relays (λ old ends new. C.connects old writing.port ends new) (λ passing. passing)
-        (endpoint_said next.now) handle before
+        IsOpen F.format before endpoint.ticket line begun passing (said_of O.Output output.old) →
+        WritesAndBegins (λ old ends new. C.connects old writing.port ends new) F.format
+        (λ passing. passing) (endpoint_said next.now) handle before
         (endpoint ∷ map endpoint_said others.now) line begun result (said_of O.Output output.new) }
 {
     let Writing { alloc, port, .. } = writing;
@@ -223,32 +227,33 @@ where
         ensures { Ahead (λ old ends new. C.connects old port ends new) (λ fetching. fetching)
             (endpoint_said next.entry.now).ticket handle result }
     { begin_apart(alloc, handle, port, next) };
-    let (begun, passed) = pass_beside(rt, alloc, ahead, passing, output, others);
+    let (begun, passed) = write_beside(rt, alloc, ahead, passing, output, others);
     let writer = passed?;
-    take_over(writing, begun, writer, output, next)
+    begin_next_run(writing, begun, writer, output, next)
 }
 
 // The next run, whose first stream is begun, at last where it is not yet. Else what is written
 // breaks off.
-fn take_over<C: Connect + Drop, O: Output>(
+fn begin_next_run<C: Connect + Drop, O: Output, F: RowWriter>(
     writing: Writing,
     begun: Result<Result<Fetching<C::Reader, C::Writer>, Failure>, Refused<C>>,
-    mut writer: StreamWriter,
+    mut writer: F,
     output: &mut O,
     next: &FlightEndpoint,
-) -> Result<Passing<C::Reader, C::Writer>, Lost>
+) -> Result<OpenStream<C::Reader, C::Writer, F>, Lost>
     requires writes { CanFail (O.failures output.old) }
     requires made { (handle : C) × Ahead (λ old ends new. C.connects old writing.port ends new)
         (λ fetching. fetching) (endpoint_said next.now).ticket handle begun }
     ensures { (handle : C) (streams : List StreamAt) (said : Said) →
         Ahead (λ old ends new. C.connects old writing.port ends new) (λ fetching. fetching)
         (endpoint_said next.now).ticket handle begun →
-        AreSent streams said writer (said_of O.Output output.old) →
-        TakesOver (λ old ends new. C.connects old writing.port ends new) (λ passing. passing)
-        (endpoint_said next.now) handle streams said result (said_of O.Output output.new) }
+        AreSent F.format streams said (F.state writer) (said_of O.Output output.old) →
+        BeginsNext (λ old ends new. C.connects old writing.port ends new) F.format
+        (λ passing. passing) (endpoint_said next.now) handle streams said result
+        (said_of O.Output output.new) }
 {
     match begin_at_last(writing.alloc, begun, writing.port, next) {
-        Ok(fetching) => Ok(fit_next(fetching, writer, output)?),
+        Ok(fetching) => Ok(check_columns(fetching, writer, output)?),
         Err(lost) => {
             writer.break_off(output);
             Err(lost)

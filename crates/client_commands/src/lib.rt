@@ -3,13 +3,13 @@
 //!
 //! `specs/Told.antt` says how a command ends by what came of its calls, `specs/Fetching.antt` how
 //! rows are fetched over one connection, and `specs/Spread.antt` how over several.
-//! `specs/Streaming.antt` says how rows are written as they come, and `specs/InTurn.antt` how over
-//! several connections. `specs/RowsPut.antt` says how the rows of CSV are put, batch by batch.
-//! `specs/Commands.antt` and `specs/Queries.antt` say what each command does.
+//! `specs/Formats.antt` says what is written of rows in each format, `specs/Streaming.antt` how it
+//! is written as they come, and `specs/InTurn.antt` how over several connections.
+//! `specs/RowsPut.antt` says how the rows of CSV are put, batch by batch. `specs/Commands.antt` and
+//! `specs/Queries.antt` say what each command does.
 #![tactic(auto)]
 
 mod ahead;
-mod apart;
 mod asking;
 mod beside;
 mod connecting;
@@ -20,8 +20,11 @@ mod lost;
 mod names;
 pub mod put;
 pub mod query;
+mod row_writer;
 mod rows_put;
-mod spreading;
+mod stream_rows;
 mod streaming;
+mod table_rows;
 pub mod tables;
 mod telling;
+mod text_rows;

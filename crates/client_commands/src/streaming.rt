@@ -11,17 +11,17 @@ ghost use Rattle.client_calls.specs.Outcome.{Line};
 ghost use Rattle.client_calls.specs.Taking.{IsFetching, KeepsSchema, TakesNext};
 ghost use Rattle.command_ends.specs.Printing.{Said, said_of};
 ghost use Rattle.client_commands.specs.Lines.{CanCount, SameCounts};
-ghost use Rattle.client_commands.specs.inside.Passing.{BreaksAtFailure, FitsSchema, IsPassing};
-ghost use Rattle.client_commands.specs.inside.Passing.{PassesBatches};
-ghost use Rattle.client_commands.specs.inside.Runs.{AreSent, Fits, HavePassed, IsOpen, Opens};
-ghost use Rattle.client_commands.specs.inside.Runs.{Passes, PassesRun};
+ghost use Rattle.client_commands.specs.inside.OneStream.{BreaksAtFailure, FitsSchema, IsUnderWay};
+ghost use Rattle.client_commands.specs.inside.OneStream.{WritesBatches};
+ghost use Rattle.client_commands.specs.inside.Runs.{AreSent, ChecksColumns, HaveCome, IsOpen};
+ghost use Rattle.client_commands.specs.inside.Runs.{Opens, WritesNext, WritesRun};
 
+use crate::row_writer::RowWriter;
 use arrays::Batch;
 use client_calls::{Connection, Failure, Fetching};
 use flight_proto::FlightEndpoint;
 use grpc_frame::{Input, Output};
 use hash_seed::HashSeed;
-use row_stream::StreamWriter;
 use scan_base::Fault;
 use std::alloc::Global;
 use std::marker::Model;
@@ -37,141 +37,140 @@ pub(crate) struct Writing {
 }
 
 /// A stream that is begun and has the columns that are written, and who writes its rows. A contract
-/// sees a `PassingAt`.
+/// sees a `OpenAt`.
 #[derive(Drop)]
-pub(crate) struct Passing<R: Input, W: Output> {
+pub(crate) struct OpenStream<R: Input, W: Output, F: RowWriter> {
     fetching: Fetching<R, W>,
-    writer: StreamWriter,
+    writer: F,
 }
 
-impl<R: Input, W: Output> Model for Passing<R, W> {
+impl<R: Input, W: Output, F: RowWriter> Model for OpenStream<R, W, F> {
     ghost use Rattle.client_commands.specs.Lines.{CanCount};
-    ghost use Rattle.client_commands.specs.inside.Passing.{FitsSchema};
-    ghost use Rattle.client_commands.specs.inside.Runs.{PassingAt};
+    ghost use Rattle.client_commands.specs.inside.OneStream.{FitsSchema};
+    ghost use Rattle.client_commands.specs.inside.Runs.{OpenAt};
 
-    ghost Value = { PassingAt };
+    ghost Value = { OpenAt };
 
-    ghost view = { λ p. record { fetch = p.fetching; writer = p.writer } };
+    ghost view = { λ p. record { fetch = p.fetching; writer = F.state p.writer } };
 
-    ghost invariant = { λ p. FitsSchema p.fetching.state p.writer.schema
+    ghost invariant = { λ p. FitsSchema p.fetching.state (F.state p.writer).schema
         × CanCount p.fetching.line };
 }
 
 // What goes on from one stream to the next of a run: the connection, and who writes.
-struct Passed<R: Input, W: Output> {
+struct Handover<R: Input, W: Output, F: RowWriter> {
     connection: Connection<R, W>,
-    writer: StreamWriter,
+    writer: F,
 }
 
-impl<R: Input, W: Output> Model for Passed<R, W> {
+impl<R: Input, W: Output, F: RowWriter> Model for Handover<R, W, F> {
     ghost use Rattle.client_commands.specs.Lines.{CanCount};
-    ghost use Rattle.client_commands.specs.inside.Runs.{PassedAt};
+    ghost use Rattle.client_commands.specs.inside.Runs.{HandoverAt};
 
-    ghost Value = { PassedAt };
+    ghost Value = { HandoverAt };
 
-    ghost view = { λ p. record { line = p.connection; writer = p.writer } };
+    ghost view = { λ p. record { line = p.connection; writer = F.state p.writer } };
 
     ghost invariant = { λ p. CanCount p.connection };
 }
 
-/// Begins the stream of the first endpoint, and the stream that is written: its schema is written
-/// at once.
+/// Begins the stream of the first endpoint, and with its schema what is written.
 ///
 /// # Errors
 ///
 /// - `Failure::Answered` with the server's fault, and `Failure::Found` with one of this end, as
 ///   `Fetching::begin` gives them: F8 (`Fault::BadBatch`) where the stream ended without a schema.
-/// - F21 and F22 as `StreamWriter::begin` gives them.
-pub(crate) fn begin_first<R: Input + Drop, W: Output + Drop, O: Output>(
+/// - F21 and F22 as `RowWriter::begin` gives them.
+pub(crate) fn begin_first<R: Input + Drop, W: Output + Drop, O: Output, F: RowWriter>(
     writing: Writing,
     connection: Connection<R, W>,
     output: &mut O,
     endpoint: &FlightEndpoint,
-) -> Result<Passing<R, W>, Failure>
+) -> Result<OpenStream<R, W, F>, Failure>
     requires calls { CanCount connection }
     requires writes { CanFail (O.failures output.old) }
-    ensures { Opens (λ passing. passing) result [] (endpoint_said endpoint.now) connection
+    ensures { Opens F.format (λ passing. passing) result [] (endpoint_said endpoint.now) connection
         (said_of O.Output output.old) (said_of O.Output output.new) }
 {
     let fetching = Fetching::begin(writing.alloc, connection, &endpoint.ticket)?;
-    let writer = StreamWriter::begin(writing.alloc, writing.seed, output, fetching.schema())?;
-    Ok(Passing { fetching, writer })
+    let writer = F::begin(writing.alloc, writing.seed, output, fetching.schema())?;
+    Ok(OpenStream { fetching, writer })
 }
 
-/// Passes on the stream that is begun, and the streams of these endpoints, in turn over its
-/// connection, which is closed after the last one.
+/// Writes the rows of the stream that is begun, and of the streams of these endpoints, in turn over
+/// its connection, which is closed after the last one.
 ///
 /// # Errors
 ///
-/// The first failure. What is written breaks off in the middle of a message after some of the rows,
-/// so that no reader takes it for whole. Where a write failed, a beginning of the stream was
-/// written, which may end after a message.
+/// The first failure. What is written breaks off after some of the rows. Where a write failed, a
+/// beginning of them was written.
 /// - `Failure::Answered` with the server's fault, and `Failure::Found` with one of this end, as
 ///   `client_calls::fetch` gives them.
 /// - F8 (`Fault::BadBatch`) where a stream ended without a schema.
 /// - F11 (`Fault::SchemaMismatch`) where one has other columns than those that are written. None of
 ///   its rows is written.
-/// - F12 (`Fault::LimitReached`), F21 and F22 as `StreamWriter` gives them.
-pub(crate) fn pass_run<R: Input + Drop, W: Output + Drop, O: Output>(
+/// - F12 (`Fault::LimitReached`), F21 and F22 as `RowWriter` gives them.
+pub(crate) fn write_run<R: Input + Drop, W: Output + Drop, O: Output, F: RowWriter>(
     alloc: Global,
-    passing: Passing<R, W>,
+    passing: OpenStream<R, W, F>,
     output: &mut O,
     others: &[FlightEndpoint],
-) -> Result<StreamWriter, Failure>
+) -> Result<F, Failure>
     requires { CanFail (O.failures output.old) }
-    ensures passes { PassesRun (λ writer. writer) result passing (map endpoint_said others.now)
+    ensures passes { WritesRun F.format F.state result passing (map endpoint_said others.now)
         (said_of O.Output output.old) (said_of O.Output output.new) }
     ensures counts { IfOk result (λ _. O.failures output.new ≡ O.failures output.old) }
 {
-    let mut passed = pass_begun(alloc, passing, output)?;
+    let mut passed = write_begun(alloc, passing, output)?;
     for endpoint in others {
-        passed = pass_next(alloc, passed, output, endpoint)?;
+        passed = write_next(alloc, passed, output, endpoint)?;
     }
-    let Passed {
+    let Handover {
         connection: _,
         writer,
     } = passed;
     Ok(writer)
 }
 
-// Passes on the stream of one more endpoint.
-fn pass_next<R: Input + Drop, W: Output + Drop, O: Output>(
+// Writes the rows of the stream of one more endpoint.
+fn write_next<R: Input + Drop, W: Output + Drop, O: Output, F: RowWriter>(
     alloc: Global,
-    passed: Passed<R, W>,
+    passed: Handover<R, W, F>,
     output: &mut O,
     endpoint: &FlightEndpoint,
-) -> Result<Passed<R, W>, Failure>
+) -> Result<Handover<R, W, F>, Failure>
     requires { CanFail (O.failures output.old) }
     ensures passes { (before : List StreamAt) (front : List EndpointSaid) (line : Line)
-        (begun : Said) → HavePassed before front line begun passed (said_of O.Output output.old) →
-        Passes (λ passed. passed) result before front (endpoint_said endpoint.now) line begun
-        (said_of O.Output output.new) }
+        (begun : Said) →
+        HaveCome F.format before front line begun passed (said_of O.Output output.old) →
+        WritesNext F.format (λ passed. passed) result before front (endpoint_said endpoint.now)
+        line begun (said_of O.Output output.new) }
     ensures counts { IfOk result (λ _. O.failures output.new ≡ O.failures output.old) }
 {
     let passing = begin_next(alloc, passed, output, endpoint)?;
-    pass_begun(alloc, passing, output)
+    write_begun(alloc, passing, output)
 }
 
 // Begins the stream of one more endpoint, where it has the columns that are written.
-fn begin_next<R: Input + Drop, W: Output + Drop, O: Output>(
+fn begin_next<R: Input + Drop, W: Output + Drop, O: Output, F: RowWriter>(
     alloc: Global,
-    passed: Passed<R, W>,
+    passed: Handover<R, W, F>,
     output: &mut O,
     endpoint: &FlightEndpoint,
-) -> Result<Passing<R, W>, Failure>
+) -> Result<OpenStream<R, W, F>, Failure>
     requires { CanFail (O.failures output.old) }
     ensures opens { (streams : List StreamAt) (begun : Said) →
-        AreSent streams begun passed.writer (said_of O.Output output.old) →
-        Opens (λ passing. passing) result streams (endpoint_said endpoint.now) passed.line begun
-        (said_of O.Output output.new) }
+        AreSent F.format streams begun passed.writer (said_of O.Output output.old) →
+        Opens F.format (λ passing. passing) result streams (endpoint_said endpoint.now) passed.line
+        begun (said_of O.Output output.new) }
     ensures counts { IfOk result (λ _. O.failures output.new ≡ O.failures output.old) }
 {
-    let Passed {
+    let Handover {
         connection,
         mut writer,
     } = passed;
     match Fetching::begin(alloc, connection, &endpoint.ticket) {
-        Ok(fetching) => fit_next(fetching, writer, output),
+        Ok(fetching) => check_columns(fetching, writer, output),
         Err(failure) => {
             writer.break_off(output);
             Err(failure)
@@ -184,15 +183,15 @@ fn begin_next<R: Input + Drop, W: Output + Drop, O: Output>(
 /// # Errors
 ///
 /// F11 (`Fault::SchemaMismatch`) where it has others. What is written breaks off then.
-pub(crate) fn fit_next<R: Input + Drop, W: Output + Drop, O: Output>(
+pub(crate) fn check_columns<R: Input + Drop, W: Output + Drop, O: Output, F: RowWriter>(
     fetching: Fetching<R, W>,
-    mut writer: StreamWriter,
+    mut writer: F,
     output: &mut O,
-) -> Result<Passing<R, W>, Failure>
+) -> Result<OpenStream<R, W, F>, Failure>
     requires calls { CanCount fetching.line }
     requires writes { CanFail (O.failures output.old) }
-    ensures { Fits (λ passing. passing) result fetching writer (said_of O.Output output.old)
-        (said_of O.Output output.new) }
+    ensures { ChecksColumns F.format (λ passing. passing) result fetching (F.state writer)
+        (said_of O.Output output.old) (said_of O.Output output.new) }
 {
     let known = writer.schema().fields.as_slice();
     let same = same_fields(known, fetching.schema().fields.as_slice());
@@ -200,63 +199,63 @@ pub(crate) fn fit_next<R: Input + Drop, W: Output + Drop, O: Output>(
         writer.break_off(output);
         return Err(Failure::Found(Fault::SchemaMismatch));
     }
-    Ok(Passing { fetching, writer })
+    Ok(OpenStream { fetching, writer })
 }
 
-// Passes on a stream that is begun.
-fn pass_begun<R: Input + Drop, W: Output + Drop, O: Output>(
+// Writes the rows of a stream that is begun.
+fn write_begun<R: Input + Drop, W: Output + Drop, O: Output, F: RowWriter>(
     alloc: Global,
-    passing: Passing<R, W>,
+    passing: OpenStream<R, W, F>,
     output: &mut O,
-) -> Result<Passed<R, W>, Failure>
+) -> Result<Handover<R, W, F>, Failure>
     requires { CanFail (O.failures output.old) }
     ensures passes { (before : List StreamAt) (endpoint : EndpointSaid) (line : Line)
         (begun : Said) →
-        IsOpen before endpoint.ticket line begun passing (said_of O.Output output.old) →
-        Passes (λ passed. passed) result before [] endpoint line begun
+        IsOpen F.format before endpoint.ticket line begun passing (said_of O.Output output.old) →
+        WritesNext F.format (λ passed. passed) result before [] endpoint line begun
         (said_of O.Output output.new) }
     ensures counts { IfOk result (λ _. O.failures output.new ≡ O.failures output.old) }
 {
-    let Passing {
+    let OpenStream {
         mut fetching,
         mut writer,
     } = passing;
-    pass_batches(alloc, &mut fetching, &mut writer, output)?;
+    write_batches(alloc, &mut fetching, &mut writer, output)?;
     let (connection, _) = fetching.end();
-    Ok(Passed { connection, writer })
+    Ok(Handover { connection, writer })
 }
 
 // Writes the batches of a stream as they come, up to its end.
-fn pass_batches<R: Input + Drop, W: Output + Drop, O: Output>(
+fn write_batches<R: Input + Drop, W: Output + Drop, O: Output, F: RowWriter>(
     alloc: Global,
     fetching: &mut Fetching<R, W>,
-    writer: &mut StreamWriter,
+    writer: &mut F,
     output: &mut O,
 ) -> Result<(), Failure>
     requires reads { CanFail (fetching.old.line.incoming.failed) }
     requires writes { CanFail (O.failures output.old) }
-    requires fits { FitsSchema fetching.old.state writer.old.schema }
+    requires fits { FitsSchema fetching.old.state (F.state writer.old).schema }
     ensures passes { (ticket : Payload) (schema own : Schema) (rows : Rows)
         (start : Option (List ℕ)) (begun : Line) (stream : StreamAt) → stream.rows ≡ [] →
-        IsPassing ticket schema own rows start begun stream fetching.old
-        (said_of O.Output output.old) writer.old →
-        PassesBatches result ticket schema own rows start begun fetching.new
-        (said_of O.Output output.old) (said_of O.Output output.new) writer.new }
+        IsUnderWay F.format ticket schema own rows start begun stream fetching.old
+        (said_of O.Output output.old) (F.state writer.old) →
+        WritesBatches F.format result ticket schema own rows start begun fetching.new
+        (said_of O.Output output.old) (said_of O.Output output.new) (F.state writer.new) }
     ensures reads { IfOk result (λ _. SameCounts fetching.old.line fetching.new.line) }
     ensures writes { IfOk result (λ _. O.failures output.new ≡ O.failures output.old) }
 {
     while let Some(batch) = next_batch(alloc, fetching, writer, output)? {
-        writer.write_batch(output, &batch)?;
+        writer.write_batch(output, batch)?;
     }
     Ok(())
 }
 
-// Takes the next batch of a stream, as `Fetching::next` gives it. At a failure of that the stream
-// that is written breaks off.
-fn next_batch<R: Input + Drop, W: Output + Drop, O: Output>(
+// Takes the next batch of a stream, as `Fetching::next` gives it. At a failure of that what is
+// written breaks off.
+fn next_batch<R: Input + Drop, W: Output + Drop, O: Output, F: RowWriter>(
     alloc: Global,
     fetching: &mut Fetching<R, W>,
-    writer: &mut StreamWriter,
+    writer: &mut F,
     output: &mut O,
 ) -> Result<Option<Batch>, Failure>
     requires reads { CanFail (fetching.old.line.incoming.failed) }
@@ -269,7 +268,7 @@ fn next_batch<R: Input + Drop, W: Output + Drop, O: Output>(
     ensures quiet { IfOk result (λ _. SameCounts fetching.old.line fetching.new.line) }
     ensures fewer { IfOk result
         (λ batch. IfSome batch (λ _. fetching.new.work < fetching.old.work)) }
-    ensures written { BreaksAtFailure result writer.old writer.new
+    ensures written { BreaksAtFailure F.format result (F.state writer.old) (F.state writer.new)
         (said_of O.Output output.old) (said_of O.Output output.new) }
 {
     match fetching.next(alloc) {

@@ -12,14 +12,14 @@ use scan_base::{Fault, ValueRef};
 
 /// A value in a row: the number of its column, how many values the row has, and what it is.
 #[derive(Clone, Copy)]
-pub(crate) struct Cell<'a> {
+pub struct Cell<'a> {
     pub number: usize,
     pub count: usize,
     pub value: ValueRef<'a>,
 }
 
 /// How rows are written.
-pub(crate) trait RowFormat {
+pub trait RowFormat {
     // How they are.
     ghost format: { Self → Format };
 

@@ -5,9 +5,9 @@ use bytes::Bytes;
 use client_calls::{Connection, Failure, Target, fetch, info, put};
 use flight_client::{Rows, Stream, join};
 use flight_proto::{FlightEndpoint, Wanted};
-use grpc_frame::{Counted, MemoryOutput};
+use grpc_frame::{Counted, MemoryOutput, Outbox};
 use ipc_stream::ipc_messages;
-use row_text::write_rows;
+use row_text::{Lines, send_batch, send_names};
 use scan_base::{Fault, PutMode};
 use std::alloc::Global;
 use std::io;
@@ -136,8 +136,14 @@ pub(crate) fn add_lines(
     endpoints: &[FlightEndpoint],
 ) -> Result<(), Failure> {
     let rows = rows_of(alloc, wires, endpoints)?;
+    let fields = rows.schema().fields.as_slice();
     let mut output = MemoryOutput::new(alloc);
-    write_rows(alloc, rows.schema(), rows.batches(), &mut output)?;
+    let mut outbox = Outbox::new(alloc);
+    send_names(&Lines { fields }, &mut output, &mut outbox, fields)?;
+    for batch in rows.batches() {
+        send_batch(&Lines { fields }, &mut output, &mut outbox, batch)?;
+    }
+    outbox.flush(&mut output)?;
     push_text(told, output.as_slice())?;
     Ok(())
 }

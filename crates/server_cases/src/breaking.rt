@@ -1,5 +1,5 @@
-//! Queries as an Arrow IPC stream that stop, over answers in memory. What is written of each is
-//! read as a stream.
+//! Queries that stop, over answers in memory. What is written of an Arrow IPC stream is read as
+//! one.
 
 use crate::clients::network_of;
 use crate::side_by_side::{INFO, add_stream};
@@ -15,49 +15,82 @@ use std::io;
 use std::random::RandomSource;
 use std::thread::Threads;
 
-// A query of two endpoints: its name, how many streams come whole, and what comes after them.
+// A query of two endpoints: its name and format, how many streams come whole, and what comes after
+// them.
 pub(crate) struct Stopping {
     pub(crate) name: &'static str,
+    format: Format,
     streams: usize,
     rest: &'static [u8],
 }
 
-pub(crate) static STOPPING: [Stopping; 4] = [
+pub(crate) static STOPPING: [Stopping; 7] = [
     Stopping {
         name: "stream, whole",
+        format: Format::Arrow,
         streams: 2,
         rest: b"",
     },
     Stopping {
         name: "stream, its second fetch is refused",
+        format: Format::Arrow,
         streams: 1,
         rest: b"\x04\x05\x00\x12F19 VersionExpired",
     },
     Stopping {
         name: "stream, its connection ends",
+        format: Format::Arrow,
         streams: 1,
         rest: b"",
     },
     Stopping {
         name: "stream, its first fetch is refused",
+        format: Format::Arrow,
         streams: 0,
+        rest: b"\x04\x05\x00\x12F19 VersionExpired",
+    },
+    Stopping {
+        name: "lines, their second fetch is refused",
+        format: Format::Lines,
+        streams: 1,
+        rest: b"\x04\x05\x00\x12F19 VersionExpired",
+    },
+    Stopping {
+        name: "csv, its connection ends",
+        format: Format::Csv,
+        streams: 1,
+        rest: b"",
+    },
+    Stopping {
+        name: "table, its second fetch is refused",
+        format: Format::Table,
+        streams: 1,
         rest: b"\x04\x05\x00\x12F19 VersionExpired",
     },
 ];
 
 // Adds how many messages bytes are a stream of, or the fault of bytes that are none; and of no
 // bytes, that they are none.
-pub(crate) fn push_stream(
-    alloc: Global,
-    told: &mut String,
-    written: &[u8],
-) -> Result<(), AllocError> {
+fn push_stream(alloc: Global, told: &mut String, written: &[u8]) -> Result<(), AllocError> {
     if written.is_empty() {
         return told.push_str(" nothing");
     }
     match ipc_messages(alloc, &Bytes::copy_from_slice(alloc, written)?) {
         Ok(messages) => write!(told, " {} messages", messages.len()),
         Err(fault) => write!(told, " {}", fault.text().as_str()),
+    }
+}
+
+// Adds what is written in a format.
+pub(crate) fn push_written(
+    alloc: Global,
+    told: &mut String,
+    format: Format,
+    written: &[u8],
+) -> Result<(), AllocError> {
+    match format {
+        Format::Arrow => push_stream(alloc, told, written),
+        _ => push_text(told, written),
     }
 }
 
@@ -79,12 +112,12 @@ where
         port: 1,
         streams: 1,
         sql: "SELECT s FROM t",
-        format: Format::Arrow,
+        format: case.format,
         seed: HashSeed::new(rt)?,
     };
     let status = query(rt, alloc, &mut network, &mut written, &mut said, querying).number();
     let mut told = format!(in alloc; "{status}")?;
     push_text(&mut told, said.as_slice())?;
-    push_stream(alloc, &mut told, written.as_slice())?;
+    push_written(alloc, &mut told, case.format, written.as_slice())?;
     Ok(told)
 }

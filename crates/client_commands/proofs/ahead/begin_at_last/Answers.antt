@@ -4,12 +4,11 @@ use Rattle.flight_proto.specs.FlightInfo.{endpoint_said}
 use Rattle.client_calls.specs.declared.failure.Failure.{Failure}
 use Rattle.client_calls.specs.Taking.{BeginsFetch, FetchAt}
 use Rattle.command_ends.specs.Network.{Ends}
-use Rattle.client_commands.specs.declared.apart.Refused.{Refused}
+use Rattle.client_commands.specs.declared.ahead.Refused.{Refused}
 use Rattle.client_commands.specs.declared.lost.Lost.{Lost}
 use Rattle.client_commands.specs.Lines.{opened_line}
 use Rattle.client_commands.specs.Spread.{GivesAtLast, Giving}
-use Rattle.client_commands.specs.inside.Parts.{Settles}
-use Rattle.client_commands.specs.inside.Relaying.{Ahead, BeginsAtLast}
+use Rattle.client_commands.specs.inside.Turns.{Ahead, BeginsAtLast, Settles}
 use Rattle.client_commands.proofs.ahead.begin_at_last.Goals as goal
 
 module _ {N V : Type 0} (Gives : Giving N) (view : V → FetchAt) (ticket : Payload) (handle : N) where

@@ -14,5 +14,5 @@ returns-in_err-endpoints g c =
 pub returns : goal.returns
 returns g c = (
   c.ask_places.new.connection,
-  streams_by _ _ _ (rows_of c.args.query.sql.now) _ _ c.args.connection c.ask_places.new.connection _ _ _ _ _ _ (ap (map endpoint_said) c.deref.ensures.value) c.in_ok-endpoints.ensures.asked c.pass_runs.ensures,
+  streams_by g.F.RowWriter.format _ _ _ (rows_of c.args.query.sql.now) _ _ c.args.connection c.ask_places.new.connection _ _ _ _ _ _ (ap (map endpoint_said) c.deref.ensures.value) c.in_ok-endpoints.ensures.asked c.write_runs.ensures,
 )
