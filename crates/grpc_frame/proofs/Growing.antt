@@ -1,14 +1,10 @@
 -- Known bytes that grow.
-use Rattle.std.proofs.Common.{ℕ, ◌+◌, ◌-◌, ◌≤◌, List, [], ◌++◌, length, take, drop, Option, refl, sym, ◌∙◌, ap, append_assoc, take-add, subst}
+use Rattle.std.proofs.Common.{ℕ, ◌+◌, ◌-◌, ◌≤◌, List, [], ◌++◌, length, take, drop, Option, sym, ◌∙◌, ap, append_assoc, take-add, subst}
 use Rattle.std.specs.Io.KnownBytes.{Appends, Keeps}
-use Rattle.std.proofs.KnownBytes.{Appends-nil, Appends-trans, Appends-kept, Keeps-refl}
+use Rattle.std.proofs.KnownBytes.{Appends-trans, Appends-kept, Keeps-refl}
 use Rattle.std.proofs.lemmas.List.{take-append-drop, take_rest}
 use Rattle.std.specs.Prelude.{Result, Ok, Err}
 use Rattle.grpc_frame.specs.Ends.{AppendsBeginning, Writes}
-
--- nothing is a beginning
-pub no_beginning : (a : Option (List ℕ)) (bytes : List ℕ) → AppendsBeginning a a bytes
-no_beginning a bytes = record { front = []; rest = bytes; splits = refl; wrote = Appends-nil a }
 
 -- a beginning of the head is one of the head and the content
 pub beginning_of_head : (a b : Option (List ℕ)) (head content : List ℕ) → AppendsBeginning a b head → AppendsBeginning a b (head ++ content)
