@@ -1,7 +1,6 @@
 -- Texts that are short.
-use Rattle.std.proofs.Common.{◌≡◌, ◌≤◌, ◌<◌, ℕ, zero, suc, Bool as Truth, true, false, if◌then◌else◌, Option, List, [], ◌∷◌, All, length, map, take, get_or, refl, sym, ap, arith, length-append, length-take, subst}
-use Rattle.std.proofs.lemmas.List.{length-map, take-map, take_all}
-use Rattle.std.proofs.lemmas.List.Elements.{All-head, All-tail}
+use Rattle.std.proofs.Common.{◌≡◌, ◌≤◌, ◌<◌, ℕ, Bool as Truth, true, false, if◌then◌else◌, Option, List, [], length, map, take, get_or, refl, sym, arith, subst}
+use Rattle.std.proofs.lemmas.List.{length-map, take-map}
 use Rattle.arrow_schema.specs.declared.data_type.DataType.{DataType}
 use Rattle.arrow_schema.specs.declared.data_type.DataType.TheVariants as type
 use Rattle.scan_base.specs.declared.value.Value.{Value}
@@ -19,26 +18,6 @@ use Rattle.array_select.specs.Fitting.{AreShort, Fits, has_texts}
 use Rattle.array_select.specs.Room.{most_column_bytes}
 
 -- ---- fewer values
-
--- the first texts have no more bytes than all
-fewer_bytes : (n : ℕ) (values : List Value) → length (texts_joined (take n values)) ≤ length (texts_joined values)
-fewer_bytes zero values = omega arith
-fewer_bytes (suc n) [] = omega arith
-fewer_bytes (suc n) (value ∷ values) =
-    let some = length-append (text_bytes value) (texts_joined (take n values)) in
-    let all = length-append (text_bytes value) (texts_joined values) in
-    omega (arith, some, all, fewer_bytes n values)
-
--- fewer short texts are short
-pub shorter : (n : ℕ) (values : List Value) → AreShort values → AreShort (take n values)
-shorter n values short = record {
-  named = let less = fewer_bytes n values in omega (arith, less, short.named);
-  light = λ many.
-      let less = fewer_bytes n values in
-      let size = length-take n values in
-      let all = short.light (omega (arith, many, size)) in
-      omega (arith, less, all);
-}
 
 -- so many slots have room where their texts are short
 pub slots_fit : (slots : List SlotRef) (count : ℕ) → 0 < count → count ≤ length slots → length (texts_joined (map slot_value (take count slots))) ≤ most_column_bytes →
@@ -67,23 +46,3 @@ no_text type.Bool (layout.Bools cells) place plain of = no_text_where cells.vali
 no_text type.Utf8 known place plain of = cc
 no_text (type.Dictionary encoding) known place plain of = cc
 no_text data_type known place plain of = absurd of
-
-no_bytes : (values : List Value) → All (λ (value : Value). text_bytes value ≡ []) values → length (texts_joined values) ≡ 0
-no_bytes [] all = refl
-no_bytes (value ∷ values) all =
-    let here = ap length (All-head (λ (value : Value). text_bytes value ≡ []) value values all) in
-    let rest = no_bytes values (All-tail (λ (value : Value). text_bytes value ≡ []) value values all) in
-    let both = length-append (text_bytes value) (texts_joined values) in
-    omega (arith, here, rest, both)
-
--- such values are short
-pub plain_short : (values : List Value) → All (λ (value : Value). text_bytes value ≡ []) values → AreShort values
-plain_short values all = let none = no_bytes values all in record { named = omega (arith, none); light = λ many. omega (arith, none) }
-
--- all of them fit
-pub plain_fit : (values : List Value) → 0 < length values → All (λ (value : Value). text_bytes value ≡ []) values → Fits values (length values)
-plain_fit values some all = record {
-  some = some;
-  within = omega arith;
-  short = subst AreShort (sym (take_all (length values) values (omega arith))) (plain_short values all);
-}
