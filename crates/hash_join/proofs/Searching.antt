@@ -61,10 +61,6 @@ module _ (search : Search) (is : IsSearch search) where
       first_left (pairs_of (build_of search.rights.now) search.left.batch.now search.left.key.now) search.left.batch.now.rows row from h
       ∙ ap (λ first. first ++ ahead_of search (probe_at (row + 1) 0)) (sym (past_is row from))
 
-  -- none are left after the last left row
-  pub none_ahead : (row from : ℕ) → search.left.batch.now.rows ≤ row → ahead_of search (probe_at row from) ≡ []
-  none_ahead row from h = let e : search.left.batch.now.rows - row ≡ 0 = omega arith in rw e refl
-
   -- rows that join nothing leave what is ahead as it is
   passed_over : (n row : ℕ) → row + n ≤ search.left.batch.now.rows → ((other : ℕ) → row ≤ other → other < row + n → pairs_past (walk_at search other) 0 ≡ []) →
       ahead_of search (probe_at row 0) ≡ ahead_of search (probe_at (row + n) 0)

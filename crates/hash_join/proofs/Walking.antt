@@ -112,10 +112,6 @@ module _ (walk : Walk) (is : IsWalk walk) where
         few = omega (arith, length-append made (pair_of_row row), one_at_most row);
       }
 
-  -- the chain rises
-  pub next_rises : (row : ℕ) → row < length walk.rights.now.places.items → in_chain walk row ≡ true → row < get_or walk.chains.now.links.items row 0
-  next_rises row lt here = omega (arith, (next_leads row lt here).after)
-
   -- a left row without a bucket joins nothing
   pub none_joins : (from past : ℕ) → bucket_left walk ≡ None → length walk.rights.now.places.items ≤ past → pairs_past walk from ≡ pairs_past walk past
   none_joins from past null le =
