@@ -86,17 +86,6 @@ come_none : (rest : List EndpointSaid) (line : Line) → ComeSome rest [] line l
 come_none [] line = refl
 come_none (e ∷ es) line = refl
 
--- no read and no write failed
-pub quiet_each : (endpoints : List EndpointSaid) (streams : List StreamAt) (old new : Line) → FetchesEach endpoints streams old new
-    → (new.incoming.failed ≡ old.incoming.failed) × (new.outgoing.failed ≡ old.outgoing.failed)
-quiet_each [] [] old new same = (ap (λ (l : Line). l.incoming.failed) same, ap (λ (l : Line). l.outgoing.failed) same)
-quiet_each [] (s ∷ ss) old new same = absurd same
-quiet_each (e ∷ es) [] old new same = absurd same
-quiet_each (e ∷ es) (s ∷ ss) old new fetched =
-    let one = quiet e s old fetched.0 fetched.1 in
-    let others = quiet_each es ss fetched.0 new fetched.2 in
-    (others.0 ∙ one.0, others.1 ∙ one.1)
-
 -- ---- one batch more
 
 keeps_said : (stream : StreamAt) (before after : State) (batch : Option BatchAt) (own : Schema) → stream.state ≡ before → KeepsSchema before after → SaysSchema stream own → SaysSchema (with_batch stream after batch) own

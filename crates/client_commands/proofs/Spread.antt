@@ -1,21 +1,17 @@
 -- Streams that are fetched side by side.
-use Rattle.std.proofs.Common.{◌≡◌, ℕ, suc, ◌+◌, ◌<◌, arith, length, All, List, [], ◌∷◌, ◌++◌, map, Option, None, Result, Ok, Err, refl, subst, sym, ap, ◌∙◌, inl, inr}
+use Rattle.std.proofs.Common.{◌≡◌, ℕ, suc, ◌+◌, arith, length, All, List, [], ◌∷◌, ◌++◌, map, Option, None, Result, Ok, Err, refl, subst, sym, ap, ◌∙◌, inl, inr}
 use Rattle.std.specs.List.{flat_map}
 use Rattle.std.proofs.lemmas.List.{map-append, append-nil, append_assoc, length-append, length-map}
 use Rattle.std.proofs.lemmas.List.Elements.{All-append, All-from_recursion, All-weaker}
 use Rattle.std.proofs.lemmas.Grind.{flat_map-append}
 use Rattle.flight_proto.specs.FlightInfo.{EndpointSaid}
-use Rattle.flight_proto.specs.Wanted.{Wanted, wanted_bytes}
-use Rattle.grpc_frame.specs.Records.{Received}
+use Rattle.flight_proto.specs.Wanted.{Wanted}
 use Rattle.flight_client.specs.Stream.{StreamAt}
 use Rattle.client_calls.specs.declared.failure.Failure.{Failure}
-use Rattle.client_calls.specs.declared.call.Method.TheVariants.{GetFlightInfo}
-use Rattle.client_calls.specs.Answers.{Stop, AnswersOne}
-use Rattle.client_calls.specs.Commands.{ReadsEndpoints}
-use Rattle.client_calls.specs.Outcome.{Line, CallsAt}
+use Rattle.client_calls.specs.Outcome.{Line}
 use Rattle.command_ends.specs.Network.{Ends}
-use Rattle.client_commands.specs.Fetching.{Asks, FetchesEach, FetchStops}
-use Rattle.client_commands.specs.Lines.{CanCount, opened_line}
+use Rattle.client_commands.specs.Fetching.{FetchesEach, FetchStops}
+use Rattle.client_commands.specs.Lines.{opened_line}
 use Rattle.client_commands.specs.declared.apart.Refused.{Refused}
 use Rattle.client_commands.specs.declared.lost.Lost.{Lost}
 use Rattle.client_commands.specs.declared.lost.Lost.TheVariants.{Failed, Unconnected}
@@ -135,23 +131,6 @@ shares_more Shares (h ∷ hs) handle old middle new shared one = (shared.0, shar
 
 pub one_more : {A : Type 0} (items : List A) (item : A) (n : ℕ) → length items ≡ n → length (items ++ item ∷ []) ≡ n + 1
 one_more items item n is = omega (arith, length-append items (item ∷ []), is)
-
--- no call of a connection has failed that was opened
-pub opened_counts : (ends : Ends) → CanCount (opened_line ends)
-opened_counts ends = (omega arith, omega arith)
-
--- no read and no write failed of a call that gave endpoints
-pub asked_counts : (wanted : Wanted) (endpoints : List EndpointSaid) (old new : Line) → Asks wanted (Ok endpoints) old new → CanCount old → CanCount new
-asked_counts wanted endpoints old new asks can = by old.incoming.left asks
-  where
-    same : (n m : ℕ) → m ≡ n → n < 18446744073709551615 → m < 18446744073709551615
-    same n m is less = subst (λ (k : ℕ). k < 18446744073709551615) (sym is) less
-
-    by : (left : Result Received Stop)
-        → CallsAt left GetFlightInfo (wanted_bytes wanted ∷ []) (AnswersOne (ReadsEndpoints (λ (endpoints : List EndpointSaid). endpoints))) (Ok endpoints) old new → CanCount new
-    by (Ok left) (inl called) = (same _ _ called.answers.1.1.quiet can.0, same _ _ called.written.quiet can.1)
-    by (Ok left) (inr refused) = let e = refused.1 in absurd cc
-    by (Err stop) stopped = let e = stopped.0 in absurd cc
 
 -- ---- over the connections of handles
 
