@@ -6,9 +6,9 @@ use Rattle.std.proofs.lemmas.Grind.{flat_map-append}
 use Rattle.std.proofs.lemmas.List.{take-append-drop, take_more, drop_more}
 use Rattle.scan_base.specs.declared.fault.Fault.{Fault}
 use Rattle.scan_base.specs.declared.value.Value.{Value}
-use Rattle.scan_base.specs.Lists.{each, behind}
+use Rattle.scan_base.specs.Lists.{each}
+use Rattle.scan_base.proofs.ReadingLaws.{behind, numbers_more, numbers_stop}
 use Rattle.scan_base.specs.Reading.{◌>>=◌}
-use Rattle.scan_base.proofs.ReadingLaws.{numbers_more, numbers_stop}
 use Rattle.arrays.specs.Batch.{BatchAt, row_of, rows_of}
 use Rattle.client_commands.specs.Names.{name_in}
 use Rattle.client_commands.specs.inside.Naming.{AddsNames}

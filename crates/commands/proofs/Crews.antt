@@ -24,8 +24,43 @@ use Rattle.command_ends.specs.Network.{Accepting, Ends}
 use Rattle.command_ends.specs.Printing.{AnnouncedAt, Said, listening_line}
 use Rattle.commands.specs.Shown.{IsNewSeat, WasShown}
 use Rattle.commands.specs.Port.{IsDueAfter, IsFresh, IsServed, ServesPort, Sharing, SharesEach, SharesSome, listeners_of, most_of, options_of}
-use Rattle.commands.specs.Serve.{DrawsAll, Pays, Work, Worker, IsPartOf, ServesSideBySide, both, first_fault, made_by, made_by_each}
-use Rattle.commands.specs.inside.Gathering.{Begun, Gathered, HasDrawn, HasWorked, HiredWorker, IsAtRest, IsNew, IsWithin, MayServe, hired_listeners, seat_in, state_of, work_of}
+use Rattle.commands.specs.Serve.{DrawsAll, Pays, Work, Worker, IsPartOf, ServesSideBySide, both, first_fault, made_by, made_by_each, drawn_by}
+use Rattle.commands.specs.inside.Gathering.{HasDrawn, HasWorked, HiredWorker, IsAtRest, IsNew, IsWithin, MayServe, hired_listeners, seat_in, state_of, work_of}
+
+-- those after the ones that are left are done with: their seats are taken in, and the hub has all
+-- that they drew
+pub record Gathered {L : Type 0} (all left : List (HiredWorker L)) (seats : cell.GatheredAt)
+    (result : Result (Unit {0}) Fault) (name : TableId) (hub : DrawerAt) : Type 0 where
+  pub done : List (HiredWorker L)
+  pub whole : all ≡ left ++ done
+  pub others : All (HasDrawn name) left
+  pub within : All (IsWithin seats.log) done
+  pub many : seats.seats ≡ length done
+  pub made : seats.made ≡ made_by (map work_of done)
+  pub each : seats.each ≡ made_by_each (map work_of done)
+  pub first : result ≡ first_fault (map work_of done)
+  pub named : hub.name ≡ name
+  pub parts : hub.parts ≡ length done + 1
+  pub drawn : hub.drawn ≡ drawn_by (map work_of done)
+  pub ended : (0 < hub.ended) ⊎ All (λ work. IsErr work.result) (map work_of done)
+
+-- Workers were made for the seats that were taken, and the first drawer has a part for each that is
+-- left. The network, which was first this one and then that, gave each of them its listener.
+pub record Begun {L : Type 0} (shares : Sharing L) (at_rest : L → Type 0) (port_of : L → ℕ)
+    (rests known : L → RestAt → Type 0) (due : L → ℕ → Option (List ℕ) → Type 0) (handed : L → ℕ)
+    (heard network : L) (book : Book) (name : TableId) (hub : DrawerAt)
+    (workers : List (HiredWorker L)) (left : List cell.Seat) (count : ℕ) : Type 0 where
+  pub counted : length workers + length left ≡ count
+  pub given : SharesEach shares heard (hired_listeners workers) network
+  pub counts : handed network ≡ handed heard + length workers
+  pub port : port_of network ≡ port_of heard
+  pub knows : (shown : RestAt) → shown.book ≡ book → known network shown
+  pub dues : (port : ℕ) (held : Option (List ℕ)) → due heard port held → due network port held
+  pub fresh : All (λ hired. IsFresh (state_of hired)) workers
+  pub new : All (IsNew name) workers
+  pub may : All (IsAtRest at_rest port_of rests known due heard book) workers
+  pub seats : All (λ found. found ≡ cell.seat found.number [] [] 0 []) left
+  pub parts : hub ≡ drawer_at name (length left + 1) 0 0
 
 -- all that is of a history is of one that goes on from it
 within_more : {L : Type 0} (told history : Log) → Begins told history → (all : List (HiredWorker L)) → All (IsWithin told) all → All (IsWithin history) all

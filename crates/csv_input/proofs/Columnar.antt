@@ -13,7 +13,12 @@ use Rattle.arrays.specs.Column.{ColumnAt}
 use Rattle.arrays.specs.Typed.{IsValueOf}
 use Rattle.csv_columns.specs.Said.{cell_in}
 use Rattle.csv_input.specs.inside.Chunks.{ChunkAt, field_in}
-use Rattle.csv_input.specs.inside.Cells.{AreCells, AreColumnsIn, HasWrongColumn, IsColumnIn, SaysCells}
+use Rattle.csv_input.specs.inside.Cells.{AreCells, AreColumnsIn, HasWrongColumn, IsColumnIn}
+
+-- a record says a value in each of the first columns
+abbrev pub SaysCells : ChunkAt → List Field → ℕ → ℕ → Type 0
+SaysCells chunk columns row count =
+    (k : ℕ) (d : Field) → k < count → IsSome (cell_in (get_or columns k d) (field_in chunk row k))
 
 -- one value more
 pub cells_more : (chunk : ChunkAt) (column : Field) (number row : ℕ) (cells new : List ValueRef) (cell : ValueRef) → new ≡ cells ++ cell ∷ [] → cell_in column (field_in chunk row number) ≡ Some (value_of cell) →

@@ -16,11 +16,16 @@ use Rattle.arrays.specs.Column.{ColumnAt, slot_of, values_of}
 use Rattle.arrays.specs.Nulls.{null_count}
 use Rattle.dictionary_answers.specs.Firsts.{AreLed, Leads}
 use Rattle.dictionary_answers.specs.Coded.{held, no_place}
-use Rattle.dictionary_answers.specs.inside.Packed.{numbers_in, shown, ArePacked, AreValidWhereSome}
+use Rattle.dictionary_answers.specs.inside.Packed.{numbers_in, ArePacked, AreValidWhereSome}
 use Rattle.dictionary_answers.proofs.Indexed.{none_null}
 use Rattle.dictionary_answers.proofs.IndicesMade.{led_at, plain}
 use Rattle.dictionary_answers.proofs.Numbers.{length-numbers, get_or-numbers, numbers_packed}
 use Rattle.dictionary_answers.proofs.Adding.{held_some}
+use Rattle.std.specs.Prelude.{if◌then◌else◌}
+
+-- a number in a list of places, as it is packed
+abbrev pub shown : ℕ → ℕ
+shown number = if nat_eq number no_place then 0 else number
 
 -- a number is a place where it is not the mark
 pub held_where : (number : ℕ) → is_some (held number) ≡ not (nat_eq number no_place)

@@ -8,7 +8,14 @@ use Rattle.hash_join.specs.declared.pair.Pair.{Pair}
 use Rattle.hash_join.specs.declared.search.Search.{Search}
 use Rattle.hash_join.specs.Pairs.{pairs_of}
 use Rattle.hash_join.specs.Walks.{joins_at, pair_at, pairs_past, IsWalk}
-use Rattle.hash_join.specs.Searches.{build_of, ahead_of, probe_at, walk_at, IsSearch, Searches}
+use Rattle.hash_join.specs.Searches.{build_of, ahead_of, probe_at, walk_at, IsSearch}
+use Rattle.hash_join.specs.declared.build.Probe.{Probe}
+
+-- the pairs that are found, and those that are still to be found, are all
+pub record Searches (search : Search) (probe : Probe) (made whole : List Pair)
+    (most : ℕ) : Type 0 where
+  pub all : made ++ ahead_of search probe ≡ whole
+  pub few : length made ≤ most
 
 module _ (pairs : ℕ → ℕ → List Pair) where
   -- rows after the left one look from the first right row on

@@ -14,8 +14,15 @@ use Rattle.hash_join.specs.KeyRows.{key_of}
 use Rattle.hash_join.specs.Rights.{place_at, key_at, bucket_at}
 use Rattle.hash_join.specs.Hashes.{last_of}
 use Rattle.hash_join.specs.Chains.{stands, Leads}
-use Rattle.hash_join.specs.Walks.{joins_at, pair_at, pairs_past, bucket_left, in_chain, IsWalk, JoinsChain, Follows}
+use Rattle.hash_join.specs.Walks.{joins_at, pair_at, pairs_past, bucket_left, in_chain, IsWalk, JoinsChain}
 use Rattle.hash_join.proofs.EqualKeys.{two_buckets, standing}
+
+-- the pairs that are found, and those that are still to be found with right rows from a row of the
+-- chain on, are all
+pub record Follows (walk : Walk) (at : ℕ) (made whole : List Pair) (most : ℕ) : Type 0 where
+  pub all : made ++ pairs_past walk at ≡ whole
+  pub there : at < length walk.rights.now.places.items → in_chain walk at ≡ true
+  pub few : length made ≤ most
 
 -- items that do not pass are left out
 skip : {X : Type 0} (p : X → Bool) (xs : List X) (d : X) (k a : ℕ) →
