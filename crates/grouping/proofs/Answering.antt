@@ -23,7 +23,7 @@ use Rattle.grouping.specs.Fed.{AreTyped, batch_at}
 use Rattle.array_select.specs.Fitting.{has_texts}
 use Rattle.grouping.specs.inside.Answering.{first_cell, sum_or_none}
 use Rattle.grouping.proofs.Feeding.{as_many}
-use Rattle.array_select.proofs.Short.{no_text}
+use Rattle.array_select.proofs.Light.{no_text}
 
 -- a count, as a number of a column
 abbrev pub count_or_none : ℕ → Option ℤ

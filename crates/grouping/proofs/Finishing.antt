@@ -37,11 +37,10 @@ use Rattle.grouping.specs.Answered.{cell_at, row_at, answer_rows}
 use Rattle.grouping.specs.Answers.{keys_at, row_in}
 use Rattle.grouping.specs.Fed.{GroupsAt}
 use Rattle.grouping.specs.Found.{key_in}
-use Rattle.array_select.specs.Room.{text_bytes_of}
-use Rattle.batch_room.specs.Light.{Fits}
-use Rattle.batch_room.specs.Room.{most_batch_cells, share_among, HasRoom}
-use Rattle.batch_room.proofs.Light.{plain_fit}
-use Rattle.batch_room.proofs.Shares.{fewer_cells, shared_texts}
+use Rattle.array_select.specs.Room.{text_bytes_of, most_batch_cells, share_among, HasRoom}
+use Rattle.array_select.specs.Fitting.{Fits}
+use Rattle.array_select.proofs.Light.{plain_fit}
+use Rattle.array_select.proofs.Shares.{fewer_cells, shared_texts}
 use Rattle.grouping.specs.inside.Answering.{first_cell}
 use Rattle.grouping.specs.inside.Finishing.{groups_in, CanAnswer, item_cells, AllFit, IsItemColumn, IsBatchOf, IsNextOf}
 use Rattle.grouping.proofs.Batching.{ranged_any, rows_of_cells}

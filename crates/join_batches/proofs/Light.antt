@@ -7,10 +7,9 @@ use Rattle.std.proofs.lemmas.List.Elements.{All-push, All-weaker}
 use Rattle.scan_base.specs.declared.value.Value.{Value}
 use Rattle.scan_base.specs.Predicate.{cell_in}
 use Rattle.arrays.specs.Written.{texts_joined}
-use Rattle.array_select.specs.Fitting.{has_texts}
-use Rattle.batch_room.specs.Light.{AreLight}
-use Rattle.batch_room.specs.Room.{allowed, most_batch_texts}
-use Rattle.batch_room.proofs.Light.{few_light, lighter}
+use Rattle.array_select.specs.Fitting.{has_texts, AreLight}
+use Rattle.array_select.specs.Room.{allowed, most_batch_texts}
+use Rattle.array_select.proofs.Light.{few_light, lighter}
 use Rattle.hash_join.specs.declared.pair.Pair.{Pair}
 use Rattle.join_batches.specs.declared.sides.Sides.{Sides}
 use Rattle.join_batches.specs.Rows.{pair_row}
