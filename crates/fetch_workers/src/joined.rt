@@ -13,12 +13,10 @@ use crate::part::Part;
 use fetch_stream::{Morsels, Parcel, Payloads};
 use row_sources::{Looking, Patience, Turn};
 use scan_base::Fault;
+use scan_exec::MAX_ANSWER_ROWS;
 use scan_workers::{Answers, NextAnswer};
 use std::alloc::Global;
 use std::marker::Model;
-
-// How many rows an answer has at most.
-const MAX_ANSWER_ROWS: usize = 67_108_864;
 
 // How many morsels may end without a row in one turn. A turn of each of them has patience for as
 // many parts of the rows.

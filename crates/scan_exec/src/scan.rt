@@ -29,8 +29,8 @@ use std::sync::Arc;
 use typed_plan::TypedPlan;
 use work_watch::{Unwatched, Watches};
 
-// How many rows an answer has at most.
-const MAX_ANSWER_ROWS: usize = 67_108_864;
+/// How many rows an answer has at most.
+pub const MAX_ANSWER_ROWS: usize = 67_108_864;
 
 /// What a plan gives of a range of its first place's rows, still to be given, batch by batch. A
 /// contract sees these rows, each with the batch of the first place of which it comes; which
