@@ -19,8 +19,8 @@ use command_ends::{Connect, ExitStatus};
 use command_line::Format;
 use flight_client::Rows;
 use grpc_frame::Output;
-use hash_seed::HashSeed;
 use row_text::{write_csv, write_rows, write_table};
+use scan_base::HashSeed;
 use std::alloc::Global;
 use std::thread::Threads;
 

@@ -23,8 +23,8 @@ use crate::indices::{Block, IndexColumn, IndexElement, is_valid, valid_index};
 use crate::packed::{put_number, zeros};
 use arrays::{Cells, Column, Indices, Layout};
 use arrow_schema::IntegerType;
-use hash_seed::HashSeed;
 use indexmap::IndexMap;
+use scan_base::HashSeed;
 use std::alloc::Global;
 
 // For each slot of a column, its dictionary may have so many values for a table of them to be made:

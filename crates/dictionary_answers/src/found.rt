@@ -15,9 +15,8 @@ use crate::coding::{NO_PLACE, Stop};
 use crate::indices::{Block, IndexElement};
 use crate::packed::put_number;
 use arrays::{Cells, Dictionary};
-use hash_seed::HashSeed;
 use indexmap::{IndexMap, IndexSet};
-use scan_base::ValueRef;
+use scan_base::{HashSeed, ValueRef};
 use std::alloc::Global;
 use std::marker::Model;
 

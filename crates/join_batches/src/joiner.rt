@@ -19,7 +19,7 @@ use array_select::{MOST_BATCH_ROWS, next_most, tried_rows};
 use arrays::Batch;
 use arrow_schema::DataType;
 use hash_join::{Build, Probe, RightSide};
-use hash_seed::HashSeed;
+use scan_base::HashSeed;
 use std::alloc::{AllocError, Global};
 use std::marker::Model;
 use std::sync::Arc;

@@ -14,8 +14,7 @@ use arrays::laws::values_are_of_their_type;
 use arrays::{Batch, Cells, Column, Layout, Slots};
 use arrow_schema::{DataType, DictionaryEncoding, Field, IntegerType, Schema};
 use dictionary_answers::code_batch;
-use hash_seed::HashSeed;
-use scan_base::{Items, Text};
+use scan_base::{HashSeed, Items, Text};
 use std::alloc::{AllocError, Global};
 
 // The texts of a row have fewer bytes.
