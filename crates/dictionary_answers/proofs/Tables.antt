@@ -3,7 +3,7 @@ use Rattle.std.proofs.Common.{◌≡◌, ℕ, List, get_or, Option, Some, cond, 
 use Rattle.std.proofs.lemmas.Bool.{cases_eq, eq-eqb, ne_eqb}
 use Rattle.scan_base.specs.declared.value.Value.{Value}
 use Rattle.scan_base.specs.declared.value.Value.TheVariants.{Null}
-use Rattle.dictionary_answers.specs.Coded.{held, FoundAt}
+use Rattle.dictionary_answers.specs.inside.Coded.{held, FoundAt}
 use Rattle.dictionary_answers.specs.inside.Coding.{Finds}
 use Rattle.dictionary_answers.specs.inside.Table.{AreMet}
 use Rattle.dictionary_answers.proofs.Places.{leads_behind}

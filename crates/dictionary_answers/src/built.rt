@@ -10,7 +10,7 @@ ghost use Rattle.arrays.specs.Texts.{texts_values};
 ghost use Rattle.arrays.specs.Written.{offsets_from, texts_joined};
 ghost use Rattle.dictionary_answers.specs.Firsts.{bytes_in, AreLed};
 ghost use Rattle.dictionary_answers.specs.Answer.{LiesOver};
-ghost use Rattle.dictionary_answers.specs.Coded.{held};
+ghost use Rattle.dictionary_answers.specs.inside.Coded.{held};
 ghost use Rattle.dictionary_answers.specs.inside.Packed.{numbers_in, AreValidWhereSome};
 
 use crate::coding::NO_PLACE;

@@ -11,7 +11,7 @@ ghost use Rattle.arrays.specs.Number.{byte_width};
 ghost use Rattle.arrays.specs.declared.layout.Layout.TheVariants as layout;
 ghost use Rattle.dictionary_answers.specs.declared.coding.Stop.TheVariants.{OutOfRoom};
 ghost use Rattle.dictionary_answers.specs.Firsts.{bytes_in, firsts, firsts_behind};
-ghost use Rattle.dictionary_answers.specs.Coded.{AreCoded, coded_at};
+ghost use Rattle.dictionary_answers.specs.inside.Coded.{AreCoded, coded_at};
 ghost use Rattle.dictionary_answers.specs.inside.Coding.{Finds, room_of};
 ghost use Rattle.dictionary_answers.specs.inside.Blocks.{AreCodedTo, IsBlock};
 ghost use Rattle.dictionary_answers.specs.inside.Packed.{numbers_in};

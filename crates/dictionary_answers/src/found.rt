@@ -29,7 +29,7 @@ pub(crate) struct Found<'t> {
 
 impl<'t> Model for Found<'t> {
     ghost use Rattle.std.specs.Prelude.{map};
-    ghost use Rattle.dictionary_answers.specs.Coded.{FoundAt};
+    ghost use Rattle.dictionary_answers.specs.inside.Coded.{FoundAt};
 
     ghost Value = { FoundAt };
 

@@ -1,7 +1,7 @@
 //! Numbers of 32 bits in bytes, four bytes each, the lowest first.
 
 ghost use Rattle.std.specs.Prelude.{◌≡◌, ◌≤◌, ◌<◌, ◌+◌, ◌*◌, IfOk, length, map, set};
-ghost use Rattle.dictionary_answers.specs.Coded.{held};
+ghost use Rattle.dictionary_answers.specs.inside.Coded.{held};
 ghost use Rattle.dictionary_answers.specs.inside.Packed.{numbers_in, AreValidWhereSome, ArePacked};
 
 use crate::coding::NO_PLACE;
