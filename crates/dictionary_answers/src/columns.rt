@@ -34,9 +34,9 @@ const VALUES_FOR_EACH_SLOT: usize = 16;
 // How many slots are copied before it is asked whether the table had met all their indices.
 const BLOCK_SLOTS: usize = 1_024;
 
-/// The texts of a column, each once, and which of them each slot holds, as places of four
-/// bytes each. No text is copied. Where slots are indices, one text is looked up for each index that
-/// is met.
+/// The texts of a column, each once, and which of them each slot holds, as places of four bytes
+/// each. No text is copied. Where slots are indices, one text is looked up for each index that is
+/// met.
 ///
 /// # Errors
 ///
