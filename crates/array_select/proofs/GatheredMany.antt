@@ -1,8 +1,8 @@
 -- Slots of several columns that are gathered at places.
-use Rattle.std.proofs.Common.{◌≡◌, ◌≤◌, ◌<◌, ◌+◌, ◌-◌, ◌*◌, ℕ, zero, suc, ℤ, Bool, true, false, if◌then◌else◌, not, ◌||◌, nat_lt, List, [], ◌∷◌, ◌++◌, All, length, map, take, drop, get_or, Option, None, Some, inl, inr, refl, sym, ap, ◌∙◌, subst, arith, length-append}
+use Rattle.std.proofs.Common.{◌≡◌, ◌≤◌, ◌<◌, ◌+◌, ◌-◌, ◌*◌, ℕ, zero, suc, ℤ, Bool, true, false, if◌then◌else◌, not, ◌||◌, nat_lt, List, [], ◌∷◌, ◌++◌, All, length, map, take, drop, get_or, Option, None, inl, inr, refl, sym, ap, ◌∙◌, subst, arith, length-append}
 use Rattle.std.specs.List.{filter}
 use Rattle.std.proofs.lemmas.Bool.{cases_lt, lt-ltb}
-use Rattle.std.proofs.lemmas.List.{get_or-map, length-map, length-drop, get_or_append_left, get_or-append-add, take_all, take_more, map-append}
+use Rattle.std.proofs.lemmas.List.{get_or-map, length-map, length-drop, get_or_append_left, get_or-append-add, take_all, map-append}
 use Rattle.std.proofs.lemmas.List.FromFn.{get_or-map-range_with_len, length-map-range_with_len}
 use Rattle.std.proofs.Math.Nat.{mul-le-mul_left}
 use Rattle.byteorder.specs.Endian.{little_from}
@@ -269,22 +269,6 @@ all_valid columns places none there = record {
       let some = none_null (values_of column) place (none number _ is.column) (omega (arith, wide, is.slot)) in
       sym (ap (λ (v : Value). not (is_null v)) (value ∙ sym slot) ∙ ap not some);
 }
-
--- one bit more
-pub bits_more : (flag : Value → Bool) (values : List Value) (i : ℕ) (bits new : List Bool) (next : Bool) → i < length values → new ≡ bits ++ next ∷ [] → next ≡ flag (get_or values i Null) →
-    bits ≡ map flag (take i values) → new ≡ map flag (take (i + 1) values)
-bits_more flag values i bits new next low e is so_far =
-    e ∙ ap (λ (some : List Bool). some ++ next ∷ []) so_far ∙ ap (λ (b : Bool). map flag (take i values) ++ b ∷ []) is
-    ∙ sym (ap (map flag) (take_more values i Null low) ∙ map-append flag (take i values) (get_or values i Null ∷ []))
-
--- all bits are those of the values
-pub bits_valid : (values : List Value) (i : ℕ) (bits new : List Bool) → length values ≤ i → new ≡ bits → bits ≡ map (λ value. not (is_null value)) (take i values) → AreValidUnlessNull (Some new) values
-bits_valid values i bits new all e so_far =
-    let is : new ≡ map (λ value. not (is_null value)) values = e ∙ so_far ∙ ap (map (λ (value : Value). not (is_null value))) (take_all i values all) in
-    record {
-      long = ap length is ∙ length-map values (λ value. not (is_null value));
-      each = λ k low. ap (λ (xs : List Bool). get_or xs k false) is ∙ get_or-map (λ value. not (is_null value)) values k Null false low;
-    }
 
 -- the validity bits are those of all places
 pub valid_long : (columns : List ColumnAt) (places : List SlotPlace) (validity : Option (List Bool)) → AreValidUnlessNull validity (map (value_in columns) places) → IsLong validity (length places)

@@ -18,5 +18,8 @@ pub use crate::at_places::gather;
 pub use crate::built::{column_of_bools, column_of_decimals, column_of_int64s, column_of_texts};
 pub use crate::many_places::{SlotPlace, gather_many, texts_fit_many};
 pub use crate::of_slots::{SlotRef, column_of_slots, texts_fit};
-pub use crate::room::{MOST_BATCH_ROWS, MOST_COLUMN_BYTES, fitting, has_texts};
+pub use crate::room::{
+    MOST_BATCH_ROWS, MOST_OFFSET, fitting, has_texts, next_most, share_among, text_share,
+    tried_rows,
+};
 pub use crate::selection::Selection;

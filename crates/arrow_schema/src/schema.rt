@@ -8,10 +8,10 @@ use crate::data_type::DataType;
 use scan_base::{Items, Text};
 use std::alloc::{AllocError, Global};
 
-/// The most columns of a schema.
+/// The most columns of a table, and of a query's result.
 pub const MAX_COLUMNS: usize = 64;
 
-/// The bytes of a column's name are at least 1 and at most these.
+/// The bytes of the name of a column, or of a table, are at least 1 and at most these.
 pub const MAX_NAME_BYTES: usize = 64;
 
 /// A column of a schema: its name, whether a cell may be null, and the type of its values.

@@ -52,14 +52,6 @@ impl MeasuredBatch {
         &self.batch
     }
 
-    /// The batch without its statistics.
-    pub fn into_batch(self) -> Batch
-        ensures { result ≡ self }
-    {
-        let MeasuredBatch { batch, stats: _ } = self;
-        batch
-    }
-
     /// How many rows there are.
     pub fn rows(&self) -> usize
         ensures { result ≡ self.now.rows }

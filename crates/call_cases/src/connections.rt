@@ -10,8 +10,7 @@ use commands::words::read_words;
 use flight_calls::{Executor, Options, Setting};
 use flight_proto::FlightData;
 use grpc_frame::{Inbox, MemoryInput, MemoryOutput, Record};
-use hash_seed::HashSeed;
-use scan_base::Fault;
+use scan_base::{Fault, HashSeed};
 use std::alloc::{AllocError, Global};
 
 /// The seed of each `pipe`, and who makes the payloads of its fetches.

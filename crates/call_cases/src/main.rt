@@ -36,8 +36,7 @@ use crate::puts::Puts;
 use crate::words::{Names, halves};
 use fetch_workers::Workers;
 use flight_calls::Executor;
-use hash_seed::HashSeed;
-use scan_base::Fault;
+use scan_base::{Fault, HashSeed};
 use std::alloc::Global;
 use std::io;
 

@@ -6,8 +6,7 @@ use bytes::Bytes;
 use flight_client::Rows;
 use flight_core::{Alone, Event, OneWorker, Plain, Reply, reply_to};
 use flight_proto::FlightData;
-use hash_seed::HashSeed;
-use scan_base::Fault;
+use scan_base::{Fault, HashSeed};
 use std::alloc::{AllocError, Global};
 
 /// The log of the puts so far.

@@ -3,8 +3,7 @@
 ghost use Rattle.version_cell.specs.Blanks.{IsNamed};
 
 use crate::rows::{one_row, put_one};
-use hash_seed::HashSeed;
-use scan_base::Fault;
+use scan_base::{Fault, HashSeed};
 use std::alloc::Global;
 use std::sync::Wait;
 use version_cell::{Blank, Brand, CellName, Opened, Putter, Scanner, open};

@@ -4,8 +4,7 @@ ghost use Rattle.std.specs.Prelude.{◌≡◌, ◌<◌, ◌≤◌, ◌+◌, leng
 ghost use Rattle.scan_base.specs.Limits.{most_commits};
 
 use crate::rows::{one_row, rows_of};
-use hash_seed::HashSeed;
-use scan_base::{Fault, Text};
+use scan_base::{Fault, HashSeed, Text};
 use std::alloc::Global;
 use table_versions::apply;
 use version_log::VersionIndex;

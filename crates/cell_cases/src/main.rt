@@ -8,8 +8,7 @@ mod rows;
 mod several;
 mod told;
 
-use hash_seed::HashSeed;
-use scan_base::Fault;
+use scan_base::{Fault, HashSeed};
 use std::alloc::{AllocError, Global};
 use std::io;
 

@@ -3,8 +3,7 @@
 ghost use Rattle.version_cell.specs.Blanks.{IsNamed};
 
 use crate::rows::{put_one, put_through, rows_of};
-use hash_seed::HashSeed;
-use scan_base::{Fault, Text};
+use scan_base::{Fault, HashSeed, Text};
 use std::alloc::{AllocError, Global};
 use std::sync::Wait;
 use std::sync::atomic::{AtomicU64, Ordering};

@@ -4,8 +4,7 @@ ghost use Rattle.std.specs.Prelude.{◌≡◌};
 ghost use Rattle.version_cell.specs.Blanks.{IsNamed};
 
 use crate::rows::{put_through, rows_of};
-use hash_seed::HashSeed;
-use scan_base::{Fault, Text};
+use scan_base::{Fault, HashSeed, Text};
 use std::alloc::Global;
 use std::sync::Wait;
 use version_cell::{Blank, Brand, CellName, Opened, Scanner, SharedPutter, open};

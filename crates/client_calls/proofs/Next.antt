@@ -88,13 +88,6 @@ pub keeps_both : (before middle after : State) → KeepsSchema before middle →
 keeps_both None middle after p q = tt
 keeps_both (Some known) middle after p q = let r = rw p.1 at q in (r.0, r.1, r.2 ∙ p.2)
 
-keeps_same : (state : State) → KeepsSchema state state
-keeps_same None = tt
-keeps_same (Some known) = (known, refl, refl)
-
-pub keeps_unread : (before after : State) → after ≡ before → KeepsSchema before after
-keeps_unread before after same = rw same (keeps_same before)
-
 -- ---- a connection
 
 by_parts : (incoming : Incoming) (y : ℕ) (left : Received) → y ≡ incoming.failed → incoming.left ≡ Ok left → incoming_of incoming.input y (Ok left) ≡ incoming

@@ -1,6 +1,5 @@
 -- The messages of a put.
 use Rattle.std.proofs.Common.{◌≡◌, ℕ, ◌+◌, ◌<◌, List, [], ◌∷◌, ◌++◌, length, map, take, drop, get_or, Some, None, refl, sym, ap, ◌∙◌, append_assoc, append-nil}
-use Rattle.std.specs.Prelude.{slice_get}
 use Rattle.std.proofs.lemmas.List.{map-append, take_more}
 use Rattle.proto_wire.specs.Writing.{spelling}
 use Rattle.proto_wire.specs.Calls.{chunk_entry}
@@ -12,7 +11,7 @@ use Rattle.flight_info.specs.Payloads.{Payload}
 use Rattle.ipc_stream.specs.declared.message.IpcMessage.{IpcMessage}
 use Rattle.client_calls.specs.declared.putting.Target.{Target}
 use Rattle.client_calls.specs.Commands.{put_descriptor, put_payloads, carried_in}
-use Rattle.client_calls.specs.inside.Heads.{put_command_bytes, first_payload}
+use Rattle.client_calls.specs.inside.Heads.{first_payload}
 
 -- a head and the body after it
 pub head_and_body : (front head header body : List ℕ) → head ≡ front ++ data_head header (length body)
@@ -43,11 +42,6 @@ one_more start old new messages i message payload inside is said before after =
     step = ap (λ (p : Payload). later_payloads (take i messages) ++ p ∷ []) said
         ∙ sym (map-append (λ (m : IpcMessage). data_bytes None (carried_in m)) (take i messages) (message ∷ []))
         ∙ ap later_payloads (sym (take_more messages i message inside ∙ ap (λ (m : IpcMessage). take i messages ++ m ∷ []) (sym is)))
-
--- the first, by its place
-pub first_is : (target : Target) (messages : List IpcMessage) (message : IpcMessage) → slice_get messages 0 ≡ Some message → first_payload target messages ≡ put_command_bytes target ++ data_bytes None (carried_in message)
-first_is target [] message is = absurd cc
-first_is target (first ∷ others) message is = let e : Some first ≡ Some message = is in let same : first ≡ message = cc in rw same refl
 
 -- the first, and then the others
 pub first_and_others : (target : Target) (messages : List IpcMessage) → first_payload target messages ∷ later_payloads (drop 1 messages) ≡ put_payloads target messages

@@ -26,9 +26,6 @@ use Rattle.client_calls.specs.inside.Parts.{incoming_of}
 
 -- ---- records in front
 
-pub fronts_none : (all : Received) → all.place ≡ InAnswer → Fronts [] all all
-fronts_none all place = record { whole = refl; fits = All-nil IsRecord; place = place }
-
 -- more bytes came
 pub fronts_then : (all left : Received) (records : List Record) (more : List ℕ) → Fronts records all left → Fronts records (with_more all more) (with_more left more)
 fronts_then all left records more p = record {

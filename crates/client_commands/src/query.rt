@@ -16,8 +16,8 @@ use crate::text_rows::{LineText, RecordText, TextWriter};
 use command_ends::{Connect, ExitStatus};
 use command_line::Format;
 use grpc_frame::Output;
-use hash_seed::HashSeed;
 use row_stream::StreamWriter;
+use scan_base::HashSeed;
 use std::alloc::Global;
 use std::thread::Threads;
 

@@ -3,8 +3,7 @@
 use arrays::Batch;
 use arrow_schema::Schema;
 use grpc_frame::Output;
-use hash_seed::HashSeed;
-use scan_base::Fault;
+use scan_base::{Fault, HashSeed};
 use std::alloc::Global;
 
 /// Rows of one schema, while they are written in a format.

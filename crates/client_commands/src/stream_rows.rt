@@ -4,9 +4,8 @@ use crate::row_writer::RowWriter;
 use arrays::Batch;
 use arrow_schema::Schema;
 use grpc_frame::Output;
-use hash_seed::HashSeed;
 use row_stream::StreamWriter;
-use scan_base::Fault;
+use scan_base::{Fault, HashSeed};
 use std::alloc::Global;
 
 impl RowWriter for StreamWriter {

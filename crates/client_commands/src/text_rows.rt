@@ -4,9 +4,8 @@ use crate::row_writer::RowWriter;
 use arrays::Batch;
 use arrow_schema::{Field, Schema};
 use grpc_frame::{Outbox, Output};
-use hash_seed::HashSeed;
 use row_text::{Lines, Records, send_batch, send_names};
-use scan_base::Fault;
+use scan_base::{Fault, HashSeed};
 use std::alloc::Global;
 use std::marker::PhantomData;
 

@@ -6,8 +6,7 @@ ghost use Rattle.arrays.specs.Batch.{BatchAt};
 ghost use Rattle.coded_keys.specs.Numbers.{AreFree, AreNumbers, IsNumber, value_in};
 
 use crate::key_part::KeyPart;
-use hash_seed::HashSeed;
-use scan_base::ValueRef;
+use scan_base::{HashSeed, ValueRef};
 use std::alloc::{AllocError, Global};
 use std::hash::{BuildHasher, Hasher};
 

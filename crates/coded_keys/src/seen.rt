@@ -4,7 +4,7 @@ ghost use Rattle.std.specs.Prelude.{◌≡◌, ◌≤◌, ◌<◌, length};
 ghost use Rattle.coded_keys.specs.Keys.{key_at};
 
 use crate::rows::KeyRows;
-use hash_seed::HashSeed;
+use scan_base::HashSeed;
 use std::alloc::{AllocError, Global};
 use std::hash::{BuildHasher, DefaultHasher};
 

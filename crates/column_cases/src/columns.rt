@@ -19,8 +19,7 @@ use crate::columns::turns::column_of_turns;
 use anyhow::{Result, bail};
 use array_buffers::{append_buffer, buffer_count, buffer_length, texts_length};
 use arrays::{Batch, Cells, Column};
-use hash_seed::HashSeed;
-use scan_base::ValueRef;
+use scan_base::{HashSeed, ValueRef};
 use std::alloc::{AllocError, Global};
 use told_rows::push_value;
 

@@ -1,6 +1,6 @@
 -- Workers side by side.
 use native.Mathlib.Omega.{arith}
-use Rattle.std.proofs.Common.{◌≡◌, ◌≤◌, ◌<◌, ◌⊎◌, inl, inr, ℕ, zero, suc, List, [], ◌∷◌, ◌++◌, ◌+◌, ◌-◌, All, IfOk, IsErr, Option, Some, None, Result, Ok, Err, length, map, take, drop, refl, sym, subst, ap, ◌∙◌, append_assoc, append-nil}
+use Rattle.std.proofs.Common.{◌≡◌, ◌≤◌, ◌<◌, ◌⊎◌, inl, inr, ℕ, zero, suc, List, [], ◌∷◌, ◌++◌, ◌+◌, ◌-◌, All, IfOk, IsErr, Option, Some, Result, Ok, Err, length, map, take, drop, refl, sym, subst, ap, ◌∙◌, append_assoc, append-nil}
 use Rattle.std.specs.Prelude.{slice_index_or}
 use Rattle.std.proofs.lemmas.List.Elements.{All-nil, All-cons, All-head, All-tail, All-pop, All-push}
 use Rattle.std.proofs.lemmas.List.{length-append, length-map, map-append}
@@ -23,9 +23,44 @@ use Rattle.command_line.specs.declared.request.Serving.{Serving}
 use Rattle.command_ends.specs.Network.{Accepting, Ends}
 use Rattle.command_ends.specs.Printing.{AnnouncedAt, Said, listening_line}
 use Rattle.commands.specs.Shown.{IsNewSeat, WasShown}
-use Rattle.commands.specs.Port.{IsDueAfter, IsFresh, IsServed, RefusesOne, ServesPort, Sharing, SharesEach, SharesSome, listeners_of, most_of, options_of}
-use Rattle.commands.specs.Serve.{DrawsAll, Pays, Work, Worker, IsPartOf, ServesSideBySide, both, first_fault, made_by, made_by_each}
-use Rattle.commands.specs.inside.Gathering.{Begun, Gathered, HasDrawn, HasWorked, HiredWorker, IsAtRest, IsNew, IsWithin, MayServe, hired_listeners, seat_in, state_of, work_of}
+use Rattle.commands.specs.Port.{IsDueAfter, IsFresh, IsServed, ServesPort, Sharing, SharesEach, SharesSome, listeners_of, most_of, options_of}
+use Rattle.commands.specs.Serve.{DrawsAll, Pays, Work, Worker, IsPartOf, ServesSideBySide, both, first_fault, made_by, made_by_each, drawn_by}
+use Rattle.commands.specs.inside.Gathering.{HasDrawn, HasWorked, HiredWorker, IsAtRest, IsNew, IsWithin, MayServe, hired_listeners, seat_in, state_of, work_of}
+
+-- those after the ones that are left are done with: their seats are taken in, and the hub has all
+-- that they drew
+pub record Gathered {L : Type 0} (all left : List (HiredWorker L)) (seats : cell.GatheredAt)
+    (result : Result (Unit {0}) Fault) (name : TableId) (hub : DrawerAt) : Type 0 where
+  pub done : List (HiredWorker L)
+  pub whole : all ≡ left ++ done
+  pub others : All (HasDrawn name) left
+  pub within : All (IsWithin seats.log) done
+  pub many : seats.seats ≡ length done
+  pub made : seats.made ≡ made_by (map work_of done)
+  pub each : seats.each ≡ made_by_each (map work_of done)
+  pub first : result ≡ first_fault (map work_of done)
+  pub named : hub.name ≡ name
+  pub parts : hub.parts ≡ length done + 1
+  pub drawn : hub.drawn ≡ drawn_by (map work_of done)
+  pub ended : (0 < hub.ended) ⊎ All (λ work. IsErr work.result) (map work_of done)
+
+-- Workers were made for the seats that were taken, and the first drawer has a part for each that is
+-- left. The network, which was first this one and then that, gave each of them its listener.
+pub record Begun {L : Type 0} (shares : Sharing L) (at_rest : L → Type 0) (port_of : L → ℕ)
+    (rests known : L → RestAt → Type 0) (due : L → ℕ → Option (List ℕ) → Type 0) (handed : L → ℕ)
+    (heard network : L) (book : Book) (name : TableId) (hub : DrawerAt)
+    (workers : List (HiredWorker L)) (left : List cell.Seat) (count : ℕ) : Type 0 where
+  pub counted : length workers + length left ≡ count
+  pub given : SharesEach shares heard (hired_listeners workers) network
+  pub counts : handed network ≡ handed heard + length workers
+  pub port : port_of network ≡ port_of heard
+  pub knows : (shown : RestAt) → shown.book ≡ book → known network shown
+  pub dues : (port : ℕ) (held : Option (List ℕ)) → due heard port held → due network port held
+  pub fresh : All (λ hired. IsFresh (state_of hired)) workers
+  pub new : All (IsNew name) workers
+  pub may : All (IsAtRest at_rest port_of rests known due heard book) workers
+  pub seats : All (λ found. found ≡ cell.seat found.number [] [] 0 []) left
+  pub parts : hub ≡ drawer_at name (length left + 1) 0 0
 
 -- all that is of a history is of one that goes on from it
 within_more : {L : Type 0} (told history : Log) → Begins told history → (all : List (HiredWorker L)) → All (IsWithin told) all → All (IsWithin history) all
@@ -36,23 +71,6 @@ within_more {L} told history more (hired ∷ all) parts =
     (within_more told history more all (All-tail (IsWithin told) hired all parts))
 
 -- ---- workers that begin
-
-pub none_begun : {L : Type 0} (shares : Sharing L) (at_rest : L → Type 0) (port_of : L → ℕ) (rests known : L → RestAt → Type 0) (due : L → ℕ → Option (List ℕ) → Type 0) (handed : L → ℕ) (heard : L) (book : Book) (name : TableId) (hub : DrawerAt) (left : List cell.Seat) → All (λ found. found ≡ cell.seat found.number [] [] 0 []) left → hub ≡ drawer_at name (length left + 1) 0 0
-    → ((shown : RestAt) → shown.book ≡ book → known heard shown)
-    → Begun shares at_rest port_of rests known due handed heard heard book name hub [] left (length left)
-none_begun {L} shares at_rest port_of rests known due handed heard book name hub left seats parts knows = record {
-  counted = omega arith;
-  given = refl;
-  counts = omega arith;
-  port = refl;
-  knows = knows;
-  dues = λ port held is. is;
-  fresh = All-nil (λ (hired : HiredWorker L). IsFresh (state_of hired));
-  new = All-nil (IsNew name);
-  may = All-nil (IsAtRest at_rest port_of rests known due heard book);
-  seats = seats;
-  parts = parts;
-}
 
 -- one listener more was given
 one_shared : {L : Type 0} (shares : Sharing L) (given : List L) (listener old middle new : L) → SharesEach shares old given middle → shares middle (Some listener) new
@@ -243,14 +261,6 @@ pub all_gathered : {L : Type 0} (all : List (HiredWorker L)) (seats : cell.Gathe
     → AllGathered all seats result
 all_gathered {L} all seats result name hub gathered = rw gathered.whole (record { first = gathered.first; within = gathered.within; many = gathered.many; made = gathered.made; each = gathered.each })
 
--- the hub has every part
-pub all_parts : {L : Type 0} (all : List (HiredWorker L)) (seats : cell.GatheredAt) (result : Result (Unit {0}) Fault) (name : TableId) (hub : DrawerAt) (parts : ℕ) → Gathered all [] seats result name hub → parts ≡ length all + 1
-    → hub.parts ≡ parts
-all_parts {L} all seats result name hub parts gathered whole =
-    let same : length all ≡ length gathered.done = ap length gathered.whole in
-    let held = gathered.parts in
-    omega (arith, same, held, whole)
-
 -- so all was drawn, or each worker failed
 pub all_drawn : {L : Type 0} (all : List (HiredWorker L)) (seats : cell.GatheredAt) (result : Result (Unit {0}) Fault) (name : TableId) (hub : DrawerAt) (most : ℕ) → Gathered all [] seats result name hub
     → hub.drawn ≤ most → (0 < hub.ended → hub.drawn ≡ most) → DrawsAll most (map work_of all)
@@ -354,20 +364,7 @@ port_served {L} accepts shares serving result heard new out out' all printed qui
       served = served;
     })
 
--- it gave no listener
-pub shares_none : {L : Type 0} (shares : Sharing L) (heard : L) → SharesSome shares heard heard
-shares_none shares heard = ([], refl)
-
--- it gave those of workers
-pub shares_some : {L : Type 0} (shares : Sharing L) (heard new : L) (given : List L) → SharesEach shares heard given new → SharesSome shares heard new
-shares_some shares heard new given each = (given, each)
-
 -- it gave some, and then one more
 pub shares_more : {L : Type 0} (shares : Sharing L) (given : List L) (listener heard middle new : L)
     → SharesEach shares heard given middle → shares middle (Some listener) new → SharesSome shares heard new
 shares_more shares given listener heard middle new each shared = (given ++ listener ∷ [], one_shared shares given listener heard middle new each shared)
-
--- it gave some, and refused the next one
-pub refuses_one : {L : Type 0} (shares : Sharing L) (given : List L) (heard middle new : L)
-    → SharesEach shares heard given middle → shares middle None new → RefusesOne shares heard new
-refuses_one shares given heard middle new each refused = (middle, (given, each), refused)

@@ -10,7 +10,7 @@ ghost use Rattle.commands.specs.Pipe.{Pipes};
 use command_ends::{ExitStatus, end_by_fault};
 use flight_calls::{Executor, Setting, serve_alone};
 use grpc_frame::{Input, Output};
-use hash_seed::HashSeed;
+use scan_base::HashSeed;
 
 /// Serves one connection, from the reader to the writer, on a catalog that is empty at first, of
 /// whose values hashes begin with the seed. It is done at the input's end. A fault of this end is

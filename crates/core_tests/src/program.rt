@@ -12,7 +12,7 @@ use commands::arguments::refuse_arguments;
 use commands::pipe::pipe;
 use flight_calls::{OneWorker, Options, Setting};
 use grpc_frame::{Input, MemoryInput, MemoryOutput, Output};
-use hash_seed::HashSeed;
+use scan_base::HashSeed;
 use std::alloc::{AllocError, Global};
 use std::io;
 use std::io::ErrorKind;

@@ -7,7 +7,7 @@ use flight_core::laws::{
     runs_meet_headline,
 };
 use flight_core::{Event, OneWorker, Reply, run};
-use hash_seed::HashSeed;
+use scan_base::HashSeed;
 use std::alloc::{AllocError, Global};
 use std::test::Fail;
 

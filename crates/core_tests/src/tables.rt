@@ -5,8 +5,7 @@ use crate::first_run::{joined, part, rest};
 use crate::steps::{FIRST, SECOND};
 use bytes::Bytes;
 use flight_core::read_put;
-use hash_seed::HashSeed;
-use scan_base::{Fault, Text};
+use scan_base::{Fault, HashSeed, Text};
 use std::alloc::{AllocError, Global};
 use std::sync::Arc;
 use std::test::Fail;
@@ -14,7 +13,7 @@ use table_versions::laws::{
     accepted_puts_are_few, accepted_puts_keep_databases, batches_are_rows, logs_grow,
     logs_hold_accepted_puts, names_are_in_order, tables_are_found, versions_are_databases,
 };
-use table_versions::{CatalogVersion, MAX_ROWS, Put, Snapshot, apply, refusal};
+use table_versions::{CatalogVersion, MAX_ROWS, Put, Snapshot, apply};
 
 // The first payload of a put into a table of a name of one byte: an append that may create it, or a
 // replace.
@@ -131,8 +130,7 @@ fn appends(rt: HostRuntime) -> Result<(), Fail> {
     Ok(())
 }
 
-// The fault of a put of so many rows at a version, by an append or a replace, which is known
-// without memory too.
+// The fault of a put of so many rows at a version, by an append or a replace.
 fn fault_of(
     alloc: Global,
     snapshot: &Snapshot,
@@ -140,13 +138,7 @@ fn fault_of(
     rows: usize,
 ) -> Result<Option<Fault>, Fault> {
     let put = put(alloc, first(alloc, b't', is_append)?, zeros(alloc, rows)?)?;
-    let known = refusal(snapshot, &put);
-    let fault = apply(alloc, snapshot, put).err();
-    if known == fault {
-        Ok(fault)
-    } else {
-        Err(Fault::BadBatch)
-    }
+    Ok(apply(alloc, snapshot, put).err())
 }
 
 // The version of a table of the most rows.
@@ -178,8 +170,8 @@ fn most_rows(rt: HostRuntime) -> Result<(), Fail> {
 fn most_commits(rt: HostRuntime) -> Result<(), Fail> {
     let before = bare(rt.alloc(), HashSeed::new(&rt)?, 65_535)?;
     let last = after(rt.alloc(), &before, two(rt.alloc(), b't')?)?;
-    let past = refusal(&last, &two(rt.alloc(), b't')?);
-    assert!(rt; past == Some(Fault::LimitReached));
+    let past = apply(rt.alloc(), &last, two(rt.alloc(), b't')?);
+    assert!(rt; past.err() == Some(Fault::LimitReached));
     Ok(())
 }
 

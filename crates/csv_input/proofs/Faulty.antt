@@ -1,13 +1,13 @@
 -- The first record that is wrong.
 use Rattle.std.proofs.Common.{◌≡◌, ◌<◌, ◌+◌, ℕ, List, [], ◌∷◌, ◌++◌, length, get_or, sym, ap, subst, ◌∙◌, arith, inl, inr, append-nil, append_assoc}
-use Rattle.std.specs.Prelude.{IsSome, None}
+use Rattle.std.specs.Prelude.{IsSome}
 use Rattle.std.proofs.lemmas.Bool.{cases_lt}
 use Rattle.std.proofs.lemmas.List.{get_or-append-add, get_or_append_left, get_or_default, length-append}
 use Rattle.std.proofs.lemmas.List.Elements.{All-append, All-nil, All-cons}
 use Rattle.arrow_schema.specs.declared.schema.Field.{Field}
 use Rattle.csv_columns.specs.Said.{cell_in}
 use Rattle.csv_input.specs.declared.outcome.Wrong.{Wrong}
-use Rattle.csv_input.specs.Rows.{AreRight, IsFirstWrong, IsRight, IsWrong, IsWrongCell, SaysCell}
+use Rattle.csv_input.specs.Rows.{AreRight, IsFirstWrong, IsRight, IsWrong, SaysCell}
 
 -- ---- one record
 
@@ -25,15 +25,6 @@ first_more columns fields number column inside is some so = λ k low d. elim (ca
       subst (λ (n : ℕ). IsSome (cell_in (get_or columns n d) (get_or fields n []))) same
       (subst (λ (c : Field). IsSome (cell_in c (get_or fields number []))) (is ∙ get_or_default columns number column d inside) some)
 ]
-
--- or it does not
-pub wrong_at : (columns : List Field) (fields : List (List ℕ)) (number : ℕ) (column : Field) → number < length columns → column ≡ get_or columns number column → cell_in column (get_or fields number []) ≡ None →
-    SayFirst columns fields number → IsWrongCell columns fields number
-wrong_at columns fields number column inside is none so = record {
-  there = inside;
-  none = λ d. subst (λ (c : Field). cell_in c (get_or fields number []) ≡ None) (is ∙ get_or_default columns number column d inside) none;
-  before = so;
-}
 
 -- ---- all records
 

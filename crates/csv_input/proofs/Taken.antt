@@ -13,9 +13,9 @@ use Rattle.csv_columns.specs.Left.{records_in}
 use Rattle.csv_columns.specs.Said.{cell_in}
 use Rattle.csv_input.specs.Rows.{AreRight, IsNext, IsRight, sent_in}
 use Rattle.csv_input.specs.inside.Batches.{HasTaken, IsBatchOf, IsNextBatch}
-use Rattle.csv_input.specs.inside.Cells.{HasWrongColumn, SaysCells}
+use Rattle.csv_input.specs.inside.Cells.{HasWrongColumn}
+use Rattle.csv_input.proofs.Columnar.{SaysCells, wrong_says}
 use Rattle.csv_input.specs.inside.Chunks.{ChunkAt, Holds}
-use Rattle.csv_input.proofs.Columnar.{wrong_says}
 use Rattle.csv_input.proofs.Joined.{ArePlain, more_said, rows_joined}
 use Rattle.csv_input.proofs.Placed.{holds_more, holds_none}
 use Rattle.csv_input.proofs.Transposed.{batch_types, rows_are}

@@ -6,7 +6,7 @@ use Rattle.std.proofs.lemmas.Option.{slice_get_within}
 use Rattle.scan_base.specs.declared.value.Value.{Value}
 use Rattle.scan_base.specs.declared.value.Value.TheVariants.{Null, Text}
 use Rattle.dictionary_answers.specs.Firsts.{with_text, bytes_in, Leads}
-use Rattle.dictionary_answers.specs.Coded.{held, no_place, FoundAt}
+use Rattle.dictionary_answers.specs.inside.Coded.{held, no_place, FoundAt}
 use Rattle.dictionary_answers.specs.inside.Coding.{Finds}
 use Rattle.dictionary_answers.proofs.Places.{led_stays, few_with}
 

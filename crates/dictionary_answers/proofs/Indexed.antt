@@ -77,10 +77,6 @@ valid_where cells slot some = by (is_valid cells.validity slot) refl
     by true e = e
     by false e = absurd (let is : is_null Null ≡ false = rw e at some in let no : ⊥ = cc in no)
 
--- a slot whose validity bit is 0 is null
-pub null_where : (cells : IndicesAt) (slot : ℕ) → is_valid cells.validity slot ≡ false → layout_slot (layout.Indices cells) slot ≡ Null
-null_where cells slot e = rw e refl
-
 -- where no slot is counted as null, none is
 pub none_null : (f : ℕ → Value) (a n k : ℕ) → length (filter is_null (map f (range_with_len a n))) ≡ 0 → k < n → is_null (f (a + k)) ≡ false
 none_null f a zero k none low = absurd (omega arith)

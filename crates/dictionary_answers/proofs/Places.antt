@@ -13,7 +13,7 @@ use Rattle.scan_base.specs.declared.value.Value.{Value}
 use Rattle.scan_base.specs.declared.value.Value.TheVariants.{Null, Bool as Flag, Int, Text}
 use Rattle.arrays.specs.Written.{text_bytes}
 use Rattle.dictionary_answers.specs.Firsts.{text_in, with_text, firsts, firsts_behind, bytes_in, Leads, AreLed}
-use Rattle.dictionary_answers.specs.Coded.{AreCoded, held, FoundAt, coded_at}
+use Rattle.dictionary_answers.specs.inside.Coded.{AreCoded, held, FoundAt, coded_at}
 use Rattle.dictionary_answers.specs.inside.Coding.{Finds}
 
 pub any_map : {A : Type 0} (f : A → List ℕ) (p : List ℕ → Bool) (xs : List A) → list_any p (map f xs) ≡ list_any (λ x. p (f x)) xs

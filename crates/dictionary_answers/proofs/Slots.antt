@@ -6,7 +6,7 @@ use Rattle.std.proofs.lemmas.List.FromFn.{length-map-range_with_len, get_or-map-
 use Rattle.scan_base.specs.declared.value.Value.{Value}
 use Rattle.scan_base.specs.declared.value.Value.TheVariants.{Null}
 use Rattle.dictionary_answers.specs.Firsts.{firsts, firsts_behind, bytes_in}
-use Rattle.dictionary_answers.specs.Coded.{CodedAt, AreCoded, FoundAt, coded_at}
+use Rattle.dictionary_answers.specs.inside.Coded.{CodedAt, AreCoded, FoundAt, coded_at}
 use Rattle.arrays.specs.Column.{ColumnAt, slot_of}
 use Rattle.dictionary_answers.specs.inside.Blocks.{AreCodedTo}
 use Rattle.dictionary_answers.specs.inside.Coding.{Finds, room_of}

@@ -4,3 +4,4 @@ pub mod Table
 pub mod Packed
 pub mod Blocks
 pub mod Written
+pub mod Coded

@@ -16,7 +16,7 @@ use crate::coding::Stop;
 use crate::columns::code_packed;
 use arrays::{Batch, Cells, Column, Texts};
 use arrow_schema::{DataType, Field, Schema};
-use hash_seed::HashSeed;
+use scan_base::HashSeed;
 use std::alloc::{AllocError, Global};
 
 /// The number of a column, counted from 0, and the texts over which it lies.

@@ -10,11 +10,11 @@ ghost use Rattle.arrays.specs.Texts.{texts_values};
 ghost use Rattle.arrays.specs.Written.{offsets_from, texts_joined};
 ghost use Rattle.dictionary_answers.specs.Firsts.{bytes_in, AreLed};
 ghost use Rattle.dictionary_answers.specs.Answer.{LiesOver};
-ghost use Rattle.dictionary_answers.specs.Coded.{held};
+ghost use Rattle.dictionary_answers.specs.inside.Coded.{held};
 ghost use Rattle.dictionary_answers.specs.inside.Packed.{numbers_in, AreValidWhereSome};
 
 use crate::coding::NO_PLACE;
-use crate::packed::{clear_marks, pack_numbers, unpack_numbers};
+use crate::packed::{clear_marks, unpack_numbers};
 use arrays::{Cells, Column, Dictionary, Nulls, Slots, Texts, Validity, Values};
 use arrow_schema::IntegerType;
 use bitmap::BitsBuilder;
@@ -29,28 +29,6 @@ use std::sync::Arc;
 /// # Errors
 ///
 /// `AllocError` where memory is refused.
-pub fn column_of_indices(
-    alloc: Global,
-    places: &[u32],
-    texts: &[&str],
-) -> Result<(Column, Texts), AllocError>
-    requires led { (values : List Value)
-        × AreLed (map (λ text. text.now) texts.now) (map held places.now) values }
-    requires few { length texts.now ≤ most_values }
-    requires short { bytes_in (map (λ text. text.now) texts.now) < 2 ^ 31 }
-    ensures values { IfOk result (λ made. AreLed (map (λ text. text.now) texts.now)
-        (map held places.now) (values_of made.0)) }
-    ensures over { IfOk result (λ made. LiesOver (map (λ text. text.now) texts.now) made.0) }
-    ensures long { IfOk result (λ made. made.0.len ≡ length places.now) }
-    ensures part { IfOk result
-        (λ made. texts_values made.1 ≡ map Text (map (λ text. text.now) texts.now)) }
-{
-    let validity = places_validity(alloc, places)?;
-    let packed = pack_numbers(alloc, places)?;
-    column_over(alloc, validity, packed, texts)
-}
-
-/// The same, where the validity is made already, and the places stand in four bytes each.
 pub(crate) fn column_over(
     alloc: Global,
     validity: Validity,

@@ -11,20 +11,20 @@ ghost use Rattle.arrays.specs.Number.{byte_width};
 ghost use Rattle.arrays.specs.declared.layout.Layout.TheVariants as layout;
 ghost use Rattle.dictionary_answers.specs.declared.coding.Stop.TheVariants.{OutOfRoom};
 ghost use Rattle.dictionary_answers.specs.Firsts.{bytes_in, firsts, firsts_behind};
-ghost use Rattle.dictionary_answers.specs.Coded.{AreCoded, coded_at};
+ghost use Rattle.dictionary_answers.specs.inside.Coded.{AreCoded, coded_at};
 ghost use Rattle.dictionary_answers.specs.inside.Coding.{Finds, room_of};
 ghost use Rattle.dictionary_answers.specs.inside.Blocks.{AreCodedTo, IsBlock};
 ghost use Rattle.dictionary_answers.specs.inside.Packed.{numbers_in};
 ghost use Rattle.dictionary_answers.specs.inside.Table.{AreMet, IsTable};
 
-use crate::coding::{Coded, NO_PLACE, Stop};
+use crate::coding::{NO_PLACE, Stop};
 use crate::found::Found;
 use crate::indices::{Block, IndexColumn, valid_index};
-use crate::packed::{put_number, unpack_numbers, zeros};
+use crate::packed::{put_number, zeros};
 use arrays::{Cells, Code, Column, Indices, Layout};
 use arrow_schema::IntegerType;
-use hash_seed::HashSeed;
 use indexmap::IndexMap;
+use scan_base::HashSeed;
 use std::alloc::Global;
 
 // For each slot of a column, its dictionary may have so many values for a table of them to be made:
@@ -34,32 +34,15 @@ const VALUES_FOR_EACH_SLOT: usize = 16;
 // How many slots are copied before it is asked whether the table had met all their indices.
 const BLOCK_SLOTS: usize = 1_024;
 
-/// The texts of a column, each once, and which of them each slot holds. No text is copied. Where
-/// slots are indices, one text is looked up for each index that is met.
+/// The texts of a column, each once, and which of them each slot holds, as places of four bytes
+/// each. No text is copied. Where slots are indices, one text is looked up for each index that is
+/// met.
 ///
 /// # Errors
 ///
 /// - `Stop::OutOfRoom` where the texts have more than `room` bytes. It comes at the text with which
 ///   they have.
 /// - `Stop::OutOfMemory` where memory is refused.
-pub fn code_column<'t>(
-    alloc: Global,
-    seed: HashSeed,
-    column: &'t Column,
-    room: usize,
-) -> Result<Coded<'t>, Stop>
-    requires small { column.now.len < 2 ^ 31 }
-    requires texts { All IsTextOrNull (values_of column.now) }
-    ensures coded { IfOk result (AreCoded (values_of column.now) room) }
-    ensures full { IfErr result
-        (λ stop. stop ≡ OutOfRoom → room < bytes_in (firsts (values_of column.now))) }
-{
-    let (found, packed) = code_packed(alloc, seed, column, room)?;
-    let places = unpack_numbers(alloc, &packed)?;
-    Ok(Coded::new(found, places))
-}
-
-/// The same, where the places stand in four bytes each.
 pub(crate) fn code_packed<'t>(
     alloc: Global,
     seed: HashSeed,

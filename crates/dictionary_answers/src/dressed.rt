@@ -14,8 +14,8 @@ use crate::{CodedBatch, ColumnDictionary, code_batch};
 use arrays::laws::values_are_of_their_type;
 use arrays::{Batch, Cells, Column};
 use arrow_schema::Schema;
-use hash_seed::HashSeed;
 use ipc_batch::{WrittenMessage, write_dictionary};
+use scan_base::HashSeed;
 use std::alloc::{AllocError, Global};
 
 /// A batch whose columns of dictionaries lie over their own texts, and the messages of these

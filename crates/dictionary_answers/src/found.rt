@@ -15,9 +15,8 @@ use crate::coding::{NO_PLACE, Stop};
 use crate::indices::Block;
 use crate::packed::put_number;
 use arrays::{Cells, Code, Dictionary};
-use hash_seed::HashSeed;
 use indexmap::{IndexMap, IndexSet};
-use scan_base::ValueRef;
+use scan_base::{HashSeed, ValueRef};
 use std::alloc::Global;
 use std::marker::Model;
 
@@ -30,7 +29,7 @@ pub(crate) struct Found<'t> {
 
 impl<'t> Model for Found<'t> {
     ghost use Rattle.std.specs.Prelude.{map};
-    ghost use Rattle.dictionary_answers.specs.Coded.{FoundAt};
+    ghost use Rattle.dictionary_answers.specs.inside.Coded.{FoundAt};
 
     ghost Value = { FoundAt };
 

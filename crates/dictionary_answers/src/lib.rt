@@ -3,16 +3,13 @@
 #![tactic(auto)]
 
 pub mod batches;
-pub mod built;
-pub mod coding;
-pub mod columns;
+mod built;
+mod coding;
+mod columns;
 pub mod dressed;
 mod found;
 mod indices;
 mod packed;
 
 pub use crate::batches::{CodedBatch, ColumnDictionary, code_batch};
-pub use crate::built::column_of_indices;
-pub use crate::coding::{Coded, NO_PLACE, Stop};
-pub use crate::columns::code_column;
 pub use crate::dressed::{DressedBatch, dress};

@@ -1,9 +1,7 @@
 //! Numbers of 32 bits in bytes, four bytes each, the lowest first.
 
 ghost use Rattle.std.specs.Prelude.{◌≡◌, ◌≤◌, ◌<◌, ◌+◌, ◌*◌, IfOk, length, map, set};
-ghost use Rattle.std.specs.List.{flat_map};
-ghost use Rattle.byteorder.specs.Endian.{little_bytes};
-ghost use Rattle.dictionary_answers.specs.Coded.{held};
+ghost use Rattle.dictionary_answers.specs.inside.Coded.{held};
 ghost use Rattle.dictionary_answers.specs.inside.Packed.{numbers_in, AreValidWhereSome, ArePacked};
 
 use crate::coding::NO_PLACE;
@@ -19,15 +17,6 @@ pub(crate) fn zeros(alloc: Global, count: usize) -> Result<Vec<u8>, AllocError>
         return Err(AllocError);
     };
     Ok(vec![in alloc; 0; room]?)
-}
-
-/// The bytes of numbers.
-pub(crate) fn pack_numbers(alloc: Global, numbers: &[u32]) -> Result<Vec<u8>, AllocError>
-    ensures { IfOk result (λ bytes. bytes.items ≡ flat_map (little_bytes 4) numbers.now) }
-{
-    let mut bytes = zeros(alloc, numbers.len())?;
-    LittleEndian::write_u32_into(numbers, &mut bytes);
-    Ok(bytes)
 }
 
 /// The numbers of bytes.

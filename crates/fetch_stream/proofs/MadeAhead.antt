@@ -100,11 +100,6 @@ refused_ahead schema rows given (made ∷ more) before after fault all gives =
 
 -- ---- what is given
 
--- the first parcel that was made
-pub gives_first_made : (patience : Patience) (schema : Schema) (rows : List Row) (given : ℕ) (first : Made) (more : List Made) (rest : Option RunningAt) → AreAhead schema rows given (first ∷ more) rest
-    → GivesMade patience schema rows given (Ok (Given first)) more rest
-gives_first_made patience schema rows given first more rest all = all
-
 -- or that of the rest
 pub gives_rest : (patience : Patience) (schema : Schema) (rows : List Row) (given : ℕ) (before after : RunningAt) (result : Result (Turn Made) Fault) → AreAhead schema rows given [] (Some before)
     → MakesNext patience before.stream result after.stream → GivesMade patience schema rows given result [] (Some after)
@@ -141,10 +136,6 @@ gives_behind patience schema rows given made more rest before after result same 
     let there : AreAhead schema rows given made (Some before) = subst (λ (r : Option RunningAt). AreAhead schema rows given made r) is all in
     let begins : AreAhead schema rows given [] (Some before) = subst (λ (m : List Made). AreAhead schema rows given m (Some before)) (same ∙ empty) there in
     subst (λ (m : List Made). GivesMade patience schema rows given result m (Some after)) (sym empty) (gives_rest patience schema rows given before after result begins makes)
-
--- none is made at the beginning
-pub begins_ahead : (schema : Schema) (rows : List Row) (made : List Made) (rest : RunningAt) → made ≡ [] → rest.stream ≡ behind schema rows 0 → AreAhead schema rows 0 made (Some rest)
-begins_ahead schema rows made rest none same = subst (λ (m : List Made). AreAhead schema rows 0 m (Some rest)) (sym none) (inl same)
 
 -- ---- morsels of a scan
 

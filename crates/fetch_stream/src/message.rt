@@ -23,9 +23,8 @@ use arrow_schema::{Schema, write_schema};
 use bytes::Bytes;
 use dictionary_answers::{DressedBatch, dress};
 use flight_proto::{put_flight_data, put_flight_data_head};
-use hash_seed::HashSeed;
 use ipc_batch::{SizedBatch, WrittenMessage};
-use scan_base::Fault;
+use scan_base::{Fault, HashSeed};
 use std::alloc::{AllocError, Global};
 
 // The most bytes of the bodies of a batch and of its dictionaries. Those of one row have fewer: at

@@ -3,7 +3,6 @@ use Rattle.std.proofs.Common.{◌≡◌, ◌≢◌, ◌≤◌, ◌<◌, ◌+◌,
 use Rattle.std.specs.List.{flat_map}
 use Rattle.std.proofs.lemmas.List.{drop_more, drop_all}
 use Rattle.scan_base.specs.declared.fault.Fault.{Fault}
-use Rattle.scan_base.specs.declared.fault.Fault.TheVariants.{ResultTooLarge}
 use Rattle.scan_base.specs.Limits.{most_answer_rows}
 use Rattle.arrow_schema.specs.declared.schema.Schema.{Schema}
 use Rattle.row_sources.specs.declared.turn.Patience.{Patience}
@@ -23,32 +22,6 @@ abbrev rest_of : MorselsAt → ℕ → List Row
 rest_of morsels answered = flat_map (λ (rows : List Row). rows) (drop answered morsels.rows)
 
 -- ---- a morsel, counted
-
--- where so many rows were taken
-pub counts_parcel : (patience other : Patience) (before after : StreamAt) (parcel : Parcel) (done taken : ℕ) → GivesTurn other before (Ok (Given parcel)) after → after.given ≤ taken → done + taken ≤ most_answer_rows
-    → GivesCounted patience before done (Ok (Given parcel)) after
-counts_parcel patience other before after parcel done taken gives there few = (gave before after parcel gives, omega (arith, there, few))
-
--- where there are too many
-pub counts_too_many : (patience other : Patience) (before after : StreamAt) (parcel : Parcel) (done taken : ℕ) → GivesTurn other before (Ok (Given parcel)) after → taken ≤ after.given + length after.left → most_answer_rows < done + taken
-    → GivesCounted patience before done (Err ResultTooLarge) after
-counts_too_many patience other before after parcel done taken gives there many =
-    let parcel_gives = gave before after parcel gives in
-    inr (refl, omega (arith, there, many, parcel_gives.counted, ap length parcel_gives.left, length-append parcel_gives.rows after.left))
-
--- where none of the rows is given that were looked at
-pub counts_working : (patience other : Patience) (before after : StreamAt) (done : ℕ) → GivesTurn other before (Ok Working) after → (patience ≡ Endless → other ≡ Endless) → GivesCounted patience before done (Ok Working) after
-counts_working patience other before after done gives endless = (gives.1, λ e. gives.2 (endless e))
-
-pub counts_end : (patience other : Patience) (before after : StreamAt) (done : ℕ) → GivesTurn other before (Ok End) after → GivesCounted patience before done (Ok End) after
-counts_end patience other before after done gives = let end = ended before after gives in (end.1, end.2)
-
-pub counts_refusal : (patience other : Patience) (before after : StreamAt) (done : ℕ) (fault : Fault) → before.refused ≡ None → GivesTurn other before (Err fault) after → GivesCounted patience before done (Err fault) after
-counts_refusal patience other before after done fault none gives = by (was_refused before after fault none gives)
-  where
-    by : MayRefuse before fault → GivesCounted patience before done (Err fault) after
-    by (inl memory) = inl memory
-    by (inr large) = inr (large.0, omega (arith, large.2))
 
 -- ---- one parcel
 
@@ -108,10 +81,6 @@ none_present morsels answered done present none = by present.left present.given 
 -- ---- the present morsel
 
 module _ (patience : Patience) (morsels : MorselsAt) (answered done : ℕ) where
-  -- none is present
-  pub present_none : (present next : Option StreamAt) → present ≡ None → next ≡ None → done + given_of present ≤ most_answer_rows → GivesPresent patience morsels answered present done (Ok End) next done
-  present_none present next none too few = rw (none, too) (refl, omega (arith, rw none at few), refl)
-
   -- what it gives, unless that is its end
   pub present_turned : (present after : StreamAt) (turned : Turn Parcel) → (turned ≡ End → ⊥) → Goes morsels.schema (Some present) → GivesCounted patience present done (Ok turned) after
       → GivesPresent patience morsels answered (Some present) done (Ok turned) (Some after) done
@@ -119,17 +88,6 @@ module _ (patience : Patience) (morsels : MorselsAt) (answered done : ℕ) where
       (gives_present morsels answered done present after parcel goes gives.0 gives.1, still_goes morsels.schema present after parcel goes gives.0, gives.1)
   present_turned present after Working more goes gives = (ap (λ (s : StreamAt). Some s) gives.0, refl, gives.1)
   present_turned present after End more goes gives = absurd (more refl)
-
-  -- its end
-  pub present_ended : (present after : StreamAt) (all : ℕ) → done + present.given ≤ most_answer_rows → GivesCounted patience present done (Ok End) after → all ≡ done + after.given
-      → GivesPresent patience morsels answered (Some present) done (Ok End) None all
-  present_ended present after all few gives is =
-      let same : all ≡ done + present.given = is ∙ ap (λ (s : StreamAt). done + s.given) gives.1 in
-      rw same (refl, few, none_present morsels answered done present gives.0)
-
-  -- it is refused
-  pub present_refused : (present after : StreamAt) (fault : Fault) (next : Option StreamAt) (all : ℕ) → GivesCounted patience present done (Err fault) after → GivesPresent patience morsels answered (Some present) done (Err fault) next all
-  present_refused present after fault next all gives = refuses_counted patience morsels answered done present fault gives
 
 -- ---- the next morsel
 
@@ -234,33 +192,3 @@ module _ (patience : Patience) (morsels : MorselsAt) (first : ℕ) (one : Option
 
 -- ---- a call
 
--- no morsel was answered, and no parcel given
-pub begins : (morsels : MorselsAt) → joined_stream morsels 0 morsels.begun None 0 None ≡ whole_stream morsels
-begins morsels = refl
-
--- the first parcel
-pub first_joined : (patience : Patience) (morsels : MorselsAt) (answered done : ℕ) (begun : Bool) (present : Option StreamAt) (given : Turn Parcel) → begun ≡ false → done + given_of present ≡ 0 → GivesFirst morsels.schema (Ok given)
-    → GivesTurn patience (joined_stream morsels answered begun present done None) (Ok given) (joined_stream morsels answered true present done None)
-first_joined patience morsels answered done begun present Working first zero says = absurd says
-first_joined patience morsels answered done begun present End first zero says = absurd says
-first_joined patience morsels answered done true present (Given parcel) first zero says = absurd cc
-first_joined patience morsels answered done false present (Given parcel) first zero says = by (done + given_of present) zero
-  where
-    by : (count : ℕ) → count ≡ 0 → GivesParcel (record { schema = morsels.schema; begun = false; left = left_of present ++ rest_of morsels answered; given = count; refused = None }) parcel
-        (record { schema = morsels.schema; begun = true; left = left_of present ++ rest_of morsels answered; given = count; refused = None })
-    by count none = rw (none, says.1) (says.2 (left_of present ++ rest_of morsels answered))
-
--- a later one
-pub next_joined : (patience : Patience) (morsels : MorselsAt) (answered done now all : ℕ) (begun : Bool) (present next : Option StreamAt) (given : Turn Parcel) → begun ≡ true → GivesJoined patience morsels answered present done (Ok given) now next all
-    → GivesTurn patience (joined_stream morsels answered begun present done None) (Ok given) (joined_stream morsels now true next all None)
-next_joined patience morsels answered done now all false present next given on gives = absurd cc
-next_joined patience morsels answered done now all true present next (Given parcel) on gives = gives.0
-next_joined patience morsels answered done now all true present next Working on gives = (refl, gives.0, gives.3)
-next_joined patience morsels answered done now all true present next End on gives = (refl, gives.0, gives.1)
-
--- where a stream stands after a call
-pub stands_on : (patience : Patience) (morsels : MorselsAt) (answered done now all : ℕ) (present next : Option StreamAt) (given : Turn Parcel) (refused : Option Fault) → GivesJoined patience morsels answered present done (Ok given) now next all
-    → IsJoined morsels true next all refused
-stands_on patience morsels answered done now all present next (Given parcel) refused gives = record { goes = λ e. gives.1; few = λ e. gives.2; first = λ e. absurd cc }
-stands_on patience morsels answered done now all present next Working refused gives = record { goes = λ e. gives.1; few = λ e. gives.2; first = λ e. absurd cc }
-stands_on patience morsels answered done now all present next End refused gives = record { goes = λ e. gives.2; few = λ e. gives.3; first = λ e. absurd cc }

@@ -18,7 +18,7 @@ use Rattle.row_sources.proofs.rows.Rows.TheLaws.TheKnot as knot
 use Rattle.row_sources.proofs.place.PlaceRows.TheSendSync as places
 use Rattle.row_sources.proofs.rows.Joining.TheSendSync as joining
 use Rattle.scan_exec.specs.contracts.grouped.Wanted as wanted
-use Rattle.hash_seed.proofs.seed.HashSeed.TheSendSync as seed
+use Rattle.scan_base.proofs.seed.HashSeed.TheSendSync as seed
 use Rattle.arrow_schema.proofs.data_type.DataType.TheSendSync as data_type
 use Rattle.typed_plan.proofs.plan.Aggregate.TheSendSync as aggregate
 use Rattle.scan_exec.specs.contracts.grouped.GroupedRows as groups

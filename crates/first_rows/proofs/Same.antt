@@ -12,7 +12,8 @@ use Rattle.first_rows.specs.declared.key.RowKey.{RowKey}
 use Rattle.first_rows.specs.declared.numbered.NumberedKey.{NumberedKey}
 use Rattle.first_rows.specs.declared.texts.TextNumbers.{TextNumbers}
 use Rattle.first_rows.specs.Firsts.{AreNumbered, HasNumber, IsNumbered}
-use Rattle.first_rows.specs.Keys.{either_way, key_self, key_sound}
+use Rattle.first_rows.specs.Keys.{either_way}
+use Rattle.first_rows.proofs.Keys.{key_self, key_sound}
 use Rattle.first_rows.specs.Parts.{parts_self, parts_sound, same_parts}
 use Rattle.first_rows.specs.Numbered.{Puts, blanked, coded, first_of, rest, rest_of}
 use Rattle.first_rows.specs.Numbers.{IsNumber, Stay}

@@ -12,8 +12,8 @@ use crate::key::RowKey;
 use crate::numbered::NumberedKey;
 use crate::texts::TextNumbers;
 use coded_keys::SeenNumbers;
-use hash_seed::HashSeed;
 use indexmap::IndexSet;
+use scan_base::HashSeed;
 use std::alloc::{AllocError, Global};
 use std::marker::Model;
 

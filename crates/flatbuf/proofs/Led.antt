@@ -28,21 +28,6 @@ pub absent_table : (t : TableAt) (slot : ℕ) → field_of t slot ≡ Ok None �
 unfolding table_of
 absent_table t slot e = rw e refl
 
--- and to no vector of tables
-pub absent_vector : (t : TableAt) (slot : ℕ) → field_of t slot ≡ Ok None → vector_of t slot ≡ Ok None
-unfolding vector_of
-absent_vector t slot e = rw e refl
-
--- and to no text
-pub absent_text : (t : TableAt) (slot : ℕ) → field_of t slot ≡ Ok None → text_of t slot ≡ Ok None
-unfolding text_of
-absent_text t slot e = rw e refl
-
--- and to no structs
-pub absent_structs : (t : TableAt) (slot width : ℕ) → field_of t slot ≡ Ok None → structs_of width t slot ≡ Ok None
-unfolding structs_of
-absent_structs t slot width e = rw e refl
-
 -- the count and the items of a block stand 4 and 8 bytes after its first
 items_stand : (count : ℕ) (items bytes : List ℕ) (at : ℕ) → Stands (items_part count items).bytes bytes at →
     Stands (little 4 count) bytes (at + 4) × Stands items bytes (at + 8)

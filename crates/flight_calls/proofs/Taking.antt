@@ -227,12 +227,6 @@ first_cut a b old new between some q = (
         received bytes place = record { bytes = bytes; place = place }
 
 module _ (a b c : Tape) (old mid new : Received) (path : List ℕ) (between : old.place ≡ BetweenCalls) (p : Since a b old mid (Ok (Some (Open path)))) where
-  pub call_is_open : mid.place ≡ InsideCall
-  call_is_open = by mid.place (rw between at p.arrives.moves)
-    where
-      by : (next : Place) → place_after BetweenCalls (Open path) ≡ Some next → next ≡ InsideCall
-      by next e = cc
-
   abbrev together : List ℕ → List ℕ
   together more = p.came ++ more
 

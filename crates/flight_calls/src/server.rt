@@ -12,8 +12,7 @@ use crate::setting::Setting;
 use fetch_stream::Executor;
 use flight_core::{Alone, Backend, Plain};
 use grpc_frame::{Inbox, Input, Output, Sender};
-use hash_seed::HashSeed;
-use scan_base::Fault;
+use scan_base::{Fault, HashSeed};
 
 /// Serves a connection over a backend: answers its calls one after another, up to the end of its
 /// input.

@@ -4,7 +4,7 @@ use Rattle.std.specs.List.{flat_map}
 use Rattle.std.proofs.lemmas.List.{map-append}
 use Rattle.scan_base.specs.declared.fault.Fault.{Fault}
 use Rattle.scan_base.specs.declared.fault.Fault.TheVariants.{BadBatch}
-use Rattle.scan_base.specs.Reading.{◌>>=◌, wanted, RefusesFirst}
+use Rattle.scan_base.specs.Reading.{◌>>=◌, wanted}
 use Rattle.scan_base.specs.Lists.{each}
 use Rattle.arrow_schema.specs.declared.header.HeaderKind.{HeaderKind}
 use Rattle.arrow_schema.specs.declared.header.HeaderKind.TheVariants as header
@@ -76,11 +76,6 @@ glance_stops state payload fault e = by (data_of payload) refl e
         → (read >>= λ carried. news_of state (message_in carried)) ≡ Err fault
     by (Ok carried) is e = glances_come_first state (message_in carried) fault e
     by (Err one) is e = let same : one ≡ fault = cc in ap (λ (x : Fault). Err x) same
-
--- what was read is not refused at a glance, whatever is answered after that
-pub glance_passed : {A X : Type 0} (read : Result A Fault) (x : A) (result : Result X Fault) (glance : Result (Unit {0}) Fault) → read ≡ Ok x → RefusesFirst read glance → RefusesFirst result glance
-glance_passed read x result (Ok done) is first = tt
-glance_passed read x result (Err fault) is first = absurd cc
 
 -- what a stream of these batches is
 abbrev pub stream_of : State → List BatchAt → Option (Result (Unit {0}) Fault) → StreamAt

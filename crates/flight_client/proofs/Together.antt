@@ -9,9 +9,9 @@ use Rattle.std.proofs.lemmas.List.Elements.{All-head, All-tail}
 use Rattle.scan_base.specs.declared.fault.Fault.{Fault}
 use Rattle.scan_base.specs.declared.fault.Fault.TheVariants.{BadBatch, SchemaMismatch}
 use Rattle.scan_base.specs.Reading.{◌>>=◌, wanted}
-use Rattle.scan_base.specs.Lists.{each, behind}
+use Rattle.scan_base.specs.Lists.{each}
+use Rattle.scan_base.proofs.ReadingLaws.{behind, behind_more}
 use Rattle.scan_base.specs.Value.{same_flag}
-use Rattle.scan_base.proofs.ReadingLaws.{behind_more}
 use Rattle.arrow_schema.specs.declared.data_type.DataType.{DataType}
 use Rattle.arrow_schema.specs.declared.data_type.DataType.TheVariants.{Integer, Utf8, Bool, Decimal128, Date, Dictionary}
 use Rattle.arrow_schema.specs.declared.schema.Field.{Field}

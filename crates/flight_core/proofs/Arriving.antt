@@ -3,7 +3,7 @@ use Rattle.std.proofs.Common.{◌≡◌, ◌≢◌, ◌==◌, length, if◌then�
 use Rattle.scan_base.specs.declared.fault.Fault.{Fault}
 use Rattle.scan_base.specs.declared.fault.Fault.TheVariants.{UnknownCommand, BadBatch, OutOfMemory}
 use Rattle.std.specs.Prelude.{IfErr}
-use Rattle.scan_base.specs.Reading.{◌>>=◌, wanted, Gives, RefusesFirst}
+use Rattle.scan_base.specs.Reading.{◌>>=◌, wanted, Gives}
 use Rattle.flight_proto.specs.FlightData.{DataSaid, data_of}
 use Rattle.flight_proto.specs.Ingest.{IngestSaid, ingest_of}
 use Rattle.ipc_batch.specs.State.{State}
@@ -189,17 +189,6 @@ refused_is (Err cause) read fault stops is other = stops cause refl ∙ ap Err (
 next_refused : (begun : Option BegunAt) (payload : Payload) (fault : Fault) → RefusedFor (glance_next begun payload) (said_next begun payload) fault
     → fault ≢ OutOfMemory → said_next begun payload ≡ Err fault
 next_refused begun payload fault is other = refused_is (glance_next begun payload) (said_next begun payload) fault (next_stops begun payload) is other
-
--- a refusal that comes first, for the fault of what is read or because memory was refused
-pub refused_first : {X Y Z : Type 0} (result : Result X Fault) (glance : Result Y Fault) (read : Result Z Fault) (fault : Fault) → result ≡ Err fault → RefusesFirst result glance → (fault ≢ OutOfMemory → read ≡ Err fault) → RefusedFor glance read fault
-refused_first result (Ok seen) read fault short first is = is
-refused_first result (Err cause) read fault short first is = let same : fault ≡ cause = cc in same
-
--- a payload whose message was read is not refused, want of memory apart
-pub refused_behind : (begun : BegunAt) (payload : Payload) (news : News) (fault : Fault) → news_in_payload begun.told.state payload ≡ Ok news → fault ≡ OutOfMemory → RefusedFor (message_glance begun.told.state payload) (after_payload begun payload) fault
-refused_behind begun payload news fault read short =
-    behind (message_glance begun.told.state payload) (after_payload begun payload) fault
-    (passed (message_glance begun.told.state payload) (news_in_payload begun.told.state payload) news (message_stops begun.told.state payload) read) (λ other. absurd (other short))
 
 -- a reader with a fault
 abbrev refusal : Fault → Result (Option BegunAt) Fault

@@ -22,8 +22,7 @@ use crate::put::read_put;
 use crate::steps::step;
 use fetch_stream::Executor;
 use flight_info::Reply;
-use hash_seed::HashSeed;
-use scan_base::Fault;
+use scan_base::{Fault, HashSeed};
 use std::alloc::Global;
 
 // What an event asks. The payloads of a put are read.

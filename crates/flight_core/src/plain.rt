@@ -12,8 +12,7 @@ ghost use Rattle.table_versions.specs.Database.{after};
 ghost use Rattle.table_versions.specs.Stored.{put_of, tables_of};
 ghost use Rattle.table_versions.specs.Valid.{IsPut};
 
-use hash_seed::HashSeed;
-use scan_base::Fault;
+use scan_base::{Fault, HashSeed};
 use std::alloc::Global;
 use std::marker::Model;
 use std::sync::Arc;

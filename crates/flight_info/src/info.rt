@@ -297,21 +297,6 @@ pub fn answer_tables(alloc: Global, snapshot: &Snapshot, payload: &[u8], parts: 
     answer_read(alloc, snapshot, payload, read_tables(payload), parts)
 }
 
-/// The answer to a GetFlightInfo at a version of the catalog, of a query or of the list of tables:
-/// that of [`answer_info`] or of [`answer_tables`], by what the payload wants, which is read once.
-///
-/// # Errors
-///
-/// The reply's fault, and then no payload: the faults of `flight_proto::read_wanted`; then those of
-/// the call that is due, but for its F5.
-pub fn answer_wanted(alloc: Global, snapshot: &Snapshot, payload: &[u8], parts: u32) -> Reply
-    ensures info { InfoAt (tables_of snapshot.now.catalog) snapshot.now.number payload.now parts
-        (schema_wanted payload.now) result.payloads result.fault }
-    ensures fits { FitMessages result.payloads }
-{
-    answer_read(alloc, snapshot, payload, read_wanted(payload), parts)
-}
-
 // The schema of a query's result, in IPC form.
 fn query_form(alloc: Global, snapshot: &Snapshot, text: &str) -> Result<Vec<u8>, Fault>
     ensures form { IfOk result

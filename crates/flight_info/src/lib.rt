@@ -9,7 +9,7 @@ pub mod planned;
 pub mod reply;
 pub mod tables;
 
-pub use crate::info::{answer_info, answer_schema, answer_tables, answer_wanted};
+pub use crate::info::{answer_info, answer_schema, answer_tables};
 pub use crate::planned::{Planned, plan_text};
 pub use crate::reply::{Reply, payload_of};
 pub use crate::tables::{tables_batch, tables_schema};

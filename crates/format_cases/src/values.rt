@@ -18,7 +18,7 @@ use std::alloc::Global;
 fn copied(alloc: Global, bytes: &[u8]) -> Result<String, Fault> {
     let text = read_text(bytes, Fault::BadProto)?;
     let value = Value::Text(Text::new(alloc, text)?.clone()?).copy()?;
-    let is_same = value.same(&ValueRef::Text(text).to_value(alloc)?);
+    let is_same = value == Value::Text(Text::new(alloc, text)?);
     let word = match value.borrowed() {
         ValueRef::Text(copy) => Word::Text(copy),
         _ => Word::Text("no text"),

@@ -17,9 +17,9 @@ use Rattle.group_slots.specs.declared.slots.Entries.{Entries}
 use Rattle.group_slots.specs.declared.tally.Tally.{Tally}
 use Rattle.group_slots.specs.Tallies.{summed}
 use Rattle.group_slots.specs.Counting.{IsSmall}
-use Rattle.group_slots.specs.Slots.{AreSlots, HaveRoom, entry_cell, number_or_null, slot_cell, slot_is_valid, slot_number}
+use Rattle.group_slots.specs.Slots.{HaveRoom, entry_cell, number_or_null, slot_cell, slot_is_valid, slot_number}
 use Rattle.group_slots.specs.declared.slots.Slots.{Slots}
-use Rattle.arrays.specs.Batch.{AreLong, BatchAt, row_of}
+use Rattle.arrays.specs.Batch.{row_of}
 use Rattle.arrays.specs.Column.{ColumnAt, slot_of}
 use Rattle.scan_base.specs.declared.value.Value.{Value}
 use Rattle.scan_base.specs.declared.value.Value.TheVariants.{Null}
@@ -49,14 +49,6 @@ pub cell_slot : (columns : List ColumnAt) (row key : ℕ) (d : ColumnAt) → key
     cell_in (row_of columns row) key ≡ slot_of (get_or columns key d) row
 cell_slot columns row key d there =
     unwrap_or-slice_get (row_of columns row) key Null ∙ get_or-map (λ (c : ColumnAt). slot_of c row) columns key d Null there
-
--- a cell of a row, by the slots of its column
-pub are_slots : (slots : Slots) (column : ℕ) (found : ColumnAt) (batch : BatchAt) → found ≡ get_or batch.columns column found → column < length batch.columns →
-    AreLong batch.rows batch.columns → HaveRoom slots found.len → ((row : ℕ) → slot_of found row ≡ slot_cell slots row) → AreSlots slots column batch
-are_slots slots column found batch is there long room cells = record {
-  room = subst (HaveRoom slots) (ap (λ (c : ColumnAt). c.len) is ∙ long column found there) room;
-  cells = λ row. cell_slot batch.columns row column found there ∙ ap (λ (c : ColumnAt). slot_of c row) (sym is) ∙ cells row;
-}
 
 -- the buffers of a column have room for its rows
 pub room_of : (integer : IntegerType) (validity : Option (List Bool)) (values : List ℕ) (len first count : ℕ) (slots : Slots) →

@@ -21,9 +21,13 @@ use Rattle.grouping.specs.declared.key.Place.{Place}
 use Rattle.grouping.specs.Answers.{IsThere}
 use Rattle.grouping.specs.Fed.{AreTyped, batch_at}
 use Rattle.array_select.specs.Fitting.{has_texts}
-use Rattle.grouping.specs.inside.Answering.{count_or_none, first_cell, sum_or_none}
+use Rattle.grouping.specs.inside.Answering.{first_cell, sum_or_none}
 use Rattle.grouping.proofs.Feeding.{as_many}
-use Rattle.array_select.proofs.Short.{no_text}
+use Rattle.array_select.proofs.Light.{no_text}
+
+-- a count, as a number of a column
+abbrev pub count_or_none : ℕ → Option ℤ
+count_or_none count = Some (pos count)
 
 pub if_ok : {T E : Type 0} (P Q : T → Type 0) → ((x : T) → P x → Q x) → (r : Result T E) → IfOk r P → IfOk r Q
 if_ok P Q f (Ok x) h = f x h

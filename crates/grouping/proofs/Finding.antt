@@ -16,7 +16,7 @@ use Rattle.first_rows.specs.declared.key.RowKey.{RowKey}
 use Rattle.grouping.specs.declared.table.Chosen.{Chosen}
 use Rattle.grouping.specs.Fed.{batch_at}
 use Rattle.grouping.specs.Found.{key_in, place_in, found_then}
-use Rattle.first_rows.specs.Keys.{key_self}
+use Rattle.first_rows.proofs.Keys.{key_self}
 use Rattle.grouping.specs.inside.Placing.{ArePlaced, IsFinding, IsFirst, found_by}
 use Rattle.first_rows.specs.RowKeys.{key_of, same_first}
 

@@ -4,7 +4,7 @@ use Rattle.std.specs.Prelude.{◌==◌}
 use Rattle.std.specs.List.{range_with_len}
 use Rattle.std.proofs.lemmas.List.{get_or-map, get_or-take, get_or-drop, get_or_default, get_or_append_left, get_or_push, length-take-le, length-drop, length-map}
 use Rattle.std.proofs.lemmas.List.FromFn.{get_or-map-range_with_len, length-map-range_with_len}
-use Rattle.std.proofs.lemmas.List.Elements.{All-map, All-take, All-drop}
+use Rattle.std.proofs.lemmas.List.Elements.{All-map}
 use Rattle.std.proofs.lemmas.Option.{unwrap_or-slice_get}
 use borrow.Author.Tests.{ltb-true, ltb-false}
 use Rattle.std.specs.declared.alloc.AllocError.{AllocError}
@@ -34,14 +34,13 @@ use Rattle.group_slots.proofs.Stepping.{one_within}
 use Rattle.grouping.specs.declared.batches.Answer.{Answer}
 use Rattle.grouping.specs.declared.key.Place.{Place}
 use Rattle.grouping.specs.Answered.{cell_at, row_at, answer_rows}
-use Rattle.grouping.specs.Answers.{IsThere, keys_at, row_in}
+use Rattle.grouping.specs.Answers.{keys_at, row_in}
 use Rattle.grouping.specs.Fed.{GroupsAt}
 use Rattle.grouping.specs.Found.{key_in}
-use Rattle.array_select.specs.Room.{text_bytes_of}
-use Rattle.batch_room.specs.Light.{Fits}
-use Rattle.batch_room.specs.Room.{most_batch_cells, share_among, HasRoom}
-use Rattle.batch_room.proofs.Light.{plain_fit}
-use Rattle.batch_room.proofs.Shares.{fewer_cells, shared_texts}
+use Rattle.array_select.specs.Room.{text_bytes_of, most_batch_cells, share_among, HasRoom}
+use Rattle.array_select.specs.Fitting.{Fits}
+use Rattle.array_select.proofs.Light.{plain_fit}
+use Rattle.array_select.proofs.Shares.{fewer_cells, shared_texts}
 use Rattle.grouping.specs.inside.Answering.{first_cell}
 use Rattle.grouping.specs.inside.Finishing.{groups_in, CanAnswer, item_cells, AllFit, IsItemColumn, IsBatchOf, IsNextOf}
 use Rattle.grouping.proofs.Batching.{ranged_any, rows_of_cells}
@@ -205,12 +204,6 @@ first_column answer item place from to part column key is ordered within cut val
       typed = subst (λ (item : Aggregate). IsOfType (copied_type (item_type keys answer.types.now item)) column.layout) (sym is) typed;
       long = long ∙ ap length cut ∙ part_long firsts from (to - from) inside;
     }
-
--- part of the first rows are there
-pub part_there : (batches : List BatchAt) (firsts part : List Place) (from many : ℕ) → part ≡ take many (drop from firsts) → All (IsThere batches) firsts →
-    All (IsThere batches) part
-part_there batches firsts part from many cut there =
-    subst (λ (part : List Place). All (IsThere batches) part) (sym cut) (All-take (IsThere batches) many (drop from firsts) (All-drop (IsThere batches) from firsts there))
 
 -- ---- items that give no key
 

@@ -22,10 +22,6 @@ use Rattle.grouping.proofs.Held.{held_answers}
 
 -- ---- how many groups there are
 
-pub keys_long : (batches : List BatchAt) (keys : List ℕ) (firsts : List Place) → length (keys_at batches keys firsts) ≡ group_count keys (length firsts)
-keys_long batches [] firsts = refl
-keys_long batches (key ∷ keys) firsts = length-map firsts (λ (first : Place). key_in (key ∷ keys) (row_in batches first))
-
 pub found_long : (keys : List ℕ) (firsts : List RowKey) → length (found_by keys firsts) ≡ group_count keys (length (map place_of firsts))
 found_long [] firsts = refl
 found_long (key ∷ keys) firsts = length-map firsts key_of ∙ sym (length-map firsts place_of)

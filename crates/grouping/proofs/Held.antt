@@ -16,7 +16,7 @@ use Rattle.group_slots.specs.declared.tally.Tally.{Tally}
 use Rattle.group_slots.specs.Tallies.{no_rows, added, counted, summed, tally_of, item_value}
 use Rattle.grouping.specs.Answered.{cell_at, row_at, HeldAnswersAreGroups}
 use Rattle.grouping.specs.Found.{key_in, place_in, found_in, first_found, share}
-use Rattle.first_rows.specs.Keys.{same_key_laws}
+use Rattle.first_rows.proofs.Keys.{same_key_laws}
 use Rattle.grouping.proofs.Finding.{found_more, place_inserted}
 use Rattle.grouping.proofs.Sharing.{share_more, share_kept, share_none, all_found}
 use borrow.Author.Tests.{eq-eqb, ne_eqb, eqb-true, eqb-false}

@@ -16,7 +16,7 @@ use Rattle.grouping.specs.Fed.{batch_at}
 use Rattle.typed_plan.specs.Grouped.{same_key}
 use Rattle.first_rows.specs.declared.key.RowKey.{RowKey}
 use Rattle.grouping.specs.Found.{key_in, place_in, found_in, found_then, first_found}
-use Rattle.first_rows.specs.Keys.{key_sound}
+use Rattle.first_rows.proofs.Keys.{key_sound}
 use Rattle.first_rows.specs.RowKeys.{key_of, same_first}
 use Rattle.grouping.specs.inside.Merging.{AreJoined, FirstsJoin}
 use Rattle.grouping.specs.inside.Placing.{IsFirst, found_by}

@@ -1,16 +1,12 @@
 -- Texts of an item that are light, of fewer groups too.
-use Rattle.std.proofs.Common.{◌≤◌, ◌<◌, ℕ, ◌+◌, length, subst, arith, below_more}
+use Rattle.std.proofs.Common.{◌≤◌, ℕ, ◌+◌, length, subst, arith, below_more}
 use Rattle.std.proofs.lemmas.List.FromFn.{take-map-range_with_len, length-map-range_with_len}
-use Rattle.batch_room.specs.Light.{AreLight, Fits}
-use Rattle.batch_room.specs.Room.{share_among}
-use Rattle.batch_room.proofs.Light.{lighter}
+use Rattle.array_select.specs.Fitting.{AreLight, Fits}
+use Rattle.array_select.specs.Room.{share_among}
+use Rattle.array_select.proofs.Light.{lighter}
 use Rattle.grouping.specs.Answered.{cell_at}
 use Rattle.grouping.specs.Fed.{GroupsAt}
 use Rattle.grouping.specs.inside.Finishing.{AllFit, AreLightIn, item_cells}
-
--- of no item all fit
-pub none_fit : (groups : GroupsAt) (from most : ℕ) → 0 < most → AllFit groups from most 0 most
-none_fit groups from most some = record { some = some; within = omega arith; light = λ item low. absurd (omega (arith, low)) }
 
 -- one item more, which may leave fewer groups
 pub fit_more : (groups : GroupsAt) (from most items count fewer : ℕ) → AllFit groups from most items count →

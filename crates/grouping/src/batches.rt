@@ -4,8 +4,8 @@ ghost use Rattle.std.specs.Prelude.{◌≡◌, ◌≤◌, ◌<◌, ◌-◌, ◌+
 ghost use Rattle.std.specs.Prelude.{take, drop};
 ghost use Rattle.array_select.specs.OfSlots.{slot_value, IsSlotOf};
 ghost use Rattle.arrays.specs.Written.{texts_joined};
-ghost use Rattle.batch_room.specs.Light.{Fits};
-ghost use Rattle.batch_room.specs.Room.{most_batch_cells, share_among};
+ghost use Rattle.array_select.specs.Fitting.{Fits};
+ghost use Rattle.array_select.specs.Room.{most_batch_cells, share_among};
 ghost use Rattle.typed_plan.specs.Typed.{type_at};
 ghost use Rattle.grouping.specs.Answers.{IsThere};
 ghost use Rattle.grouping.specs.inside.Answering.{first_cell};
@@ -14,10 +14,9 @@ ghost use Rattle.grouping.specs.inside.Finishing.{IsBatchOf, IsNextOf, item_cell
 
 use crate::answer::{count_column, sum_column};
 use crate::key::Place;
-use array_select::{SlotRef, column_of_slots, has_texts};
+use array_select::{SlotRef, column_of_slots, fitting, has_texts, share_among};
 use arrays::{Batch, Column};
 use arrow_schema::DataType;
-use batch_room::{fitting, share_among};
 use group_slots::ItemTallies;
 use std::alloc::{AllocError, Global};
 use typed_plan::Aggregate;

@@ -11,7 +11,7 @@ ghost use Rattle.grouping.specs.inside.Knowing.{AreKnown, AreNothing, AreTagged,
 use crate::table::{Chosen, group_of};
 use first_rows::{FirstRows, RowKey};
 use group_slots::{NOTHING, Tag, Tags};
-use hash_seed::HashSeed;
+use scan_base::HashSeed;
 use std::alloc::AllocError;
 use std::hash::{BuildHasher, Hasher};
 

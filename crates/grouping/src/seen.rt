@@ -7,7 +7,7 @@ ghost use Rattle.coded_keys.specs.Numbers.{AreNumbers};
 ghost use Rattle.grouping.specs.Fed.{batch_at};
 
 use coded_keys::SeenNumbers;
-use hash_seed::HashSeed;
+use scan_base::HashSeed;
 use std::alloc::Global;
 
 /// The numbers of long texts that were seen in the batch of a number.

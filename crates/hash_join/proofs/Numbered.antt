@@ -5,9 +5,8 @@ use Rattle.std.proofs.lemmas.List.{get_or_read}
 use Rattle.arrays.specs.Batch.{BatchAt, row_of}
 use Rattle.hash_join.specs.declared.rights.Rights.{Rights}
 use Rattle.hash_join.specs.Pairs.{key_in, row_at}
-use Rattle.hash_join.specs.Places.{IsPlace}
+use Rattle.hash_join.proofs.Places.{IsPlace, place_there}
 use Rattle.hash_join.specs.Rights.{place_at, key_at, key_from, AreRights}
-use Rattle.hash_join.proofs.Places.{place_there}
 
 -- no columns and no rows
 abbrev pub nothing : BatchAt

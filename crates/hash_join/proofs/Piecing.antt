@@ -10,8 +10,8 @@ use Rattle.hash_join.specs.declared.pair.Pair.{Pair}
 use Rattle.hash_join.specs.declared.pieces.Start.{Start}
 use Rattle.hash_join.specs.declared.search.Search.{Search}
 use Rattle.hash_join.specs.Walks.{pairs_past}
-use Rattle.hash_join.specs.Searches.{ahead_of, first_left, probe_at, start_at, walk_at, AreHeads, AreStarts, IsSearch, IsStart, Passes, Searches}
-use Rattle.hash_join.proofs.Searching.{can_walk, passed, skipped, stopped}
+use Rattle.hash_join.specs.Searches.{ahead_of, first_left, probe_at, start_at, walk_at, AreHeads, AreStarts, IsSearch, IsStart, Passes}
+use Rattle.hash_join.proofs.Searching.{Searches, can_walk, passed, skipped, stopped}
 use Rattle.hash_join.proofs.Walking.{lead_same}
 
 module _ (passes : ℕ → Bool) where

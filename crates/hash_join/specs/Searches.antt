@@ -1,5 +1,5 @@
 -- Inside: a left batch whose rows look for their partners.
-use Rattle.std.specs.Prelude.{◌≡◌, ◌≤◌, ◌<◌, ◌+◌, ◌^◌, ◌++◌, ℕ, ℤ, Bool, true, false, List, [], ◌∷◌}
+use Rattle.std.specs.Prelude.{◌≡◌, ◌≤◌, ◌<◌, ◌+◌, ◌^◌, ℕ, ℤ, Bool, true, false, List, [], ◌∷◌}
 use Rattle.std.specs.Prelude.{Option, Some, None, IsTrue, length, get_or, nat_lt}
 use Rattle.std.specs.List.{list_all}
 use Rattle.hash_join.specs.declared.build.Probe.{Probe}
@@ -137,9 +137,3 @@ pub record AreKeysOf (search : Search) (cells : IntegersAt) (first : ℕ) : Type
       get_or search.left.batch.now.columns (get_or search.left.key.now 0 0) other
       ≡ record { layout = layout.Integers cells; first = first; len = search.left.batch.now.rows }
   pub there : first + search.left.batch.now.rows ≤ cells.len
-
--- the pairs that are found, and those that are still to be found, are all
-pub record Searches (search : Search) (probe : Probe) (made whole : List Pair)
-    (most : ℕ) : Type 0 where
-  pub all : made ++ ahead_of search probe ≡ whole
-  pub few : length made ≤ most

@@ -1,5 +1,5 @@
 -- Inside: a left row that looks for its partners along a chain.
-use Rattle.std.specs.Prelude.{◌≡◌, ◌≤◌, ◌<◌, ◌^◌, ◌++◌, ℕ, Bool, true, List, Option, length, map}
+use Rattle.std.specs.Prelude.{◌≡◌, ◌<◌, ◌^◌, ℕ, Bool, true, List, Option, length, map}
 use Rattle.std.specs.Prelude.{drop}
 use Rattle.std.specs.List.{filter}
 use Rattle.hash_join.specs.declared.pair.Pair.{Pair}
@@ -49,10 +49,3 @@ pub record IsWalk (walk : Walk) : Type 0 where
   pub alike : length walk.left.key.now ≡ length walk.rights.now.key.items
   pub small : walk.left.row < 2 ^ 32
   pub few : walk.left.batch.now.rows < 2 ^ 32
-
--- the pairs that are found, and those that are still to be found with right rows from a row of the
--- chain on, are all
-pub record Follows (walk : Walk) (at : ℕ) (made whole : List Pair) (most : ℕ) : Type 0 where
-  pub all : made ++ pairs_past walk at ≡ whole
-  pub there : at < length walk.rights.now.places.items → in_chain walk at ≡ true
-  pub few : length made ≤ most

@@ -14,7 +14,7 @@ use crate::pair::Pair;
 use crate::rights::Rights;
 use crate::search::Search;
 use arrays::Batch;
-use hash_seed::HashSeed;
+use scan_base::HashSeed;
 use std::alloc::{AllocError, Global};
 use std::marker::Model;
 use work_watch::{Watches, tell};

@@ -3,7 +3,7 @@
 ghost use Rattle.std.specs.Prelude.{◌≡◌, ◌≤◌, ◌<◌, IfSome};
 
 use crate::key_row::KeyRow;
-use hash_seed::HashSeed;
+use scan_base::HashSeed;
 use std::hash::{BuildHasher, DefaultHasher, Hasher};
 
 // Buckets by the first bits of a sum: of the products of a number's halves with two secret numbers.

@@ -25,7 +25,7 @@ use crate::right_rows::RightRows;
 use crate::seen::{SeenRows, Wanted};
 use crate::spans::Span;
 use arrays::Batch;
-use hash_seed::HashSeed;
+use scan_base::HashSeed;
 use std::alloc::{AllocError, Global};
 use std::hash::BuildHasher;
 

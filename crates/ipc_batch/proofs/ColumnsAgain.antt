@@ -13,7 +13,6 @@ use Rattle.arrow_schema.specs.declared.data_type.IntegerType.{IntegerType}
 use Rattle.arrow_schema.specs.declared.data_type.DataType.{DataType}
 use Rattle.arrow_schema.specs.declared.data_type.DataType.TheVariants.{Integer, Utf8, Bool, Decimal128, Date, Dictionary}
 use Rattle.arrow_schema.specs.declared.schema.Field.{Field}
-use Rattle.arrow_schema.specs.Written.{encoding_of}
 use Rattle.arrays.specs.declared.layout.Layout.{Layout}
 use Rattle.arrays.specs.declared.layout.Layout.TheVariants as layout
 use Rattle.arrays.specs.Texts.{TextsAt, texts_of}
@@ -277,20 +276,6 @@ wanted_again (field ∷ fields) (column ∷ columns) of =
     let step : buffers_wanted (field ∷ fields) ≡ buffer_count field.data_type + buffers_wanted fields = sum_by-cons (λ (x : Field). buffer_count x.data_type) field fields in
     let all = length-append (column_written column) (buffers_written columns) in
     (omega (arith, more.0), omega (arith, step, all, more.1, column_buffers field.data_type column of.0))
-
--- where no field is a dictionary, nothing leads anywhere
-pub plain_led : (fields : List Field) (dictionaries : Dictionaries) (columns : List ColumnAt) → AllByRecursion (λ (field : Field). encoding_of field.data_type ≡ None) fields → AreLedBy fields dictionaries columns
-plain_led [] dictionaries columns plain = tt
-plain_led (field ∷ fields) dictionaries [] plain = tt
-plain_led (field ∷ fields) dictionaries (column ∷ columns) plain = (by field.data_type plain.0, plain_led fields dictionaries columns plain.1)
-  where
-    by : (data_type : DataType) → encoding_of data_type ≡ None → IsLedBy data_type (values_led_to data_type dictionaries) column.layout column
-    by (Integer integer) none = tt
-    by Utf8 none = tt
-    by Bool none = tt
-    by Decimal128 none = tt
-    by Date none = tt
-    by (Dictionary encoding) none = absurd (let no : ⊥ = cc in no)
 
 -- and no more than three
 pub few_buffers : (columns : List ColumnAt) → length (buffers_written columns) ≤ 3 * length columns

@@ -2,7 +2,7 @@
 use Rattle.std.proofs.Common.{◌≡◌, ℕ, zero, suc, ◌+◌, ◌<◌, List, [], ◌∷◌, ◌++◌, length, drop, get_or, All, Result, Ok, Err, refl, sym, ap, ◌∙◌, arith, append_assoc, drop-cons, add-one}
 use Rattle.std.proofs.lemmas.List.Elements.{All-append}
 use Rattle.scan_base.specs.declared.fault.Fault.{Fault}
-use Rattle.scan_base.specs.Lists.{behind}
+use Rattle.scan_base.proofs.ReadingLaws.{behind}
 use Rattle.scan_base.specs.Reading.{◌>>=◌}
 use Rattle.arrow_schema.specs.declared.schema.Field.{Field}
 use Rattle.arrays.specs.Column.{ColumnAt, whole}

@@ -34,10 +34,6 @@ unfolding word_at little
 stands_word n bytes at small s =
     sym (little_from-at at 8 bytes) ∙ ap (little_from 0 8) (stands_drop (little 8 n) bytes at s) ∙ little_number-reads_back 8 n s.after small
 
--- a struct of two numbers
-pair_bytes : ℕ → ℕ → List ℕ
-pair_bytes a b = little 8 a ++ little 8 b
-
 length-pair : (a b : ℕ) → length (little 8 a ++ little 8 b) ≡ 16
 length-pair a b =
     let e = length-append (little 8 a) (little 8 b) in

@@ -3,14 +3,13 @@ use Rattle.std.proofs.Common.{◌≡◌, ◌≤◌, ◌<◌, ◌^◌, ℕ, ◌+�
 use Rattle.std.specs.declared.alloc.AllocError.{AllocError}
 use Rattle.std.proofs.lemmas.Bool.{leb-true}
 use Rattle.std.proofs.lemmas.List.{length-map, take-map, take-take}
-use Rattle.std.proofs.lemmas.List.Elements.{All-nil, All-push, All-weaker}
+use Rattle.std.proofs.lemmas.List.Elements.{All-push, All-weaker}
 use Rattle.scan_base.specs.declared.value.Value.{Value}
 use Rattle.scan_base.specs.Predicate.{cell_in}
 use Rattle.arrays.specs.Written.{texts_joined}
-use Rattle.array_select.specs.Fitting.{has_texts}
-use Rattle.batch_room.specs.Light.{AreLight}
-use Rattle.batch_room.specs.Room.{allowed, most_batch_texts}
-use Rattle.batch_room.proofs.Light.{few_light, lighter}
+use Rattle.array_select.specs.Fitting.{has_texts, AreLight}
+use Rattle.array_select.specs.Room.{allowed, most_batch_texts}
+use Rattle.array_select.proofs.Light.{few_light, lighter}
 use Rattle.hash_join.specs.declared.pair.Pair.{Pair}
 use Rattle.join_batches.specs.declared.sides.Sides.{Sides}
 use Rattle.join_batches.specs.Rows.{pair_row}
@@ -78,10 +77,6 @@ one_fits sides share pairs number count is some named =
       within = omega (arith, some);
       light = record { named = named; light = λ many. absurd (omega (arith, many, size, few)) };
     })
-
--- of no column all do
-pub none_fit : (sides : Sides) (share : ℕ) (pairs : List Pair) → 0 < length pairs → AllFit sides share pairs [] (length pairs)
-none_fit sides share pairs some = record { some = some; within = omega arith; light = All-nil (AreLightIn sides share (take (length pairs) pairs)) }
 
 -- offsets name each byte of their texts
 pub all_named : (sides : Sides) (share : ℕ) (pairs : List Pair) (shown : List ℕ) → All (AreLightIn sides share pairs) shown →

@@ -2,7 +2,7 @@
 use Rattle.std.proofs.Common.{◌≡◌, ◌≤◌, ◌<◌, ℕ, suc, ◌+◌, ◌*◌, List, [], ◌∷◌, ◌++◌, All, Result, Ok, Err, IfOk, length, map, get_or, take, refl, sym, ap, ◌∙◌, subst, arith, length-take}
 use Rattle.std.specs.List.{AllZip, range_with_len, sum_by}
 use Rattle.std.specs.declared.alloc.AllocError.{AllocError}
-use Rattle.batch_room.proofs.Shares.{fewer_cells}
+use Rattle.array_select.proofs.Shares.{fewer_cells}
 use Rattle.std.proofs.lemmas.List.{get_or-map, length-map, length-take-le, take-take}
 use Rattle.std.proofs.lemmas.List.Elements.{All-nil, All-cons, All-head, All-tail, All-map, All-take, All-weaker}
 use Rattle.std.proofs.lemmas.List.Sums.{sum_by-cons}
@@ -20,9 +20,8 @@ use Rattle.hash_join.specs.declared.pair.Pair.{Pair}
 use Rattle.join_batches.specs.declared.sides.Sides.{Sides}
 use Rattle.join_batches.specs.Joiner.{shown_cells}
 use Rattle.join_batches.specs.Rows.{pair_row, IsPair}
-use Rattle.array_select.specs.Room.{text_bytes_of}
-use Rattle.batch_room.specs.Light.{AreLight}
-use Rattle.batch_room.specs.Room.{allowed, most_batch_cells, most_batch_texts, HasRoom}
+use Rattle.array_select.specs.Room.{text_bytes_of, allowed, most_batch_cells, most_batch_texts, HasRoom}
+use Rattle.array_select.specs.Fitting.{AreLight}
 use Rattle.join_batches.specs.Sides.{copied_at, type_in, width_of, AreSides, ArePairs, AllFit, IsColumnOf, IsBatchOf, rows_at, cells_of}
 use Rattle.join_batches.proofs.Cells.{row_wide}
 use Rattle.join_batches.proofs.Typed.{taken_more}

@@ -10,9 +10,8 @@ use Rattle.arrays.specs.declared.layout.Layout.TheVariants as layout
 use Rattle.arrays.specs.Column.{ColumnAt}
 use Rattle.arrays.specs.Written.{text_bytes}
 use Rattle.array_select.specs.Fitting.{has_texts}
-use Rattle.array_select.proofs.Short.{no_text}
-use Rattle.batch_room.proofs.Light.{plain_light}
-use Rattle.batch_room.specs.Room.{allowed}
+use Rattle.array_select.proofs.Light.{no_text, plain_light}
+use Rattle.array_select.specs.Room.{allowed}
 use Rattle.hash_join.specs.declared.pair.Pair.{Pair}
 use Rattle.join_batches.specs.declared.sides.Sides.{Sides}
 use Rattle.join_batches.specs.Rows.{batch_at, pair_row, IsPair}

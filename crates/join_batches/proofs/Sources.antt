@@ -21,32 +21,12 @@ use Rattle.join_batches.proofs.Cells.{left_cell, right_cell, same_at}
 use Rattle.join_batches.proofs.Plain.{none}
 use Rattle.join_batches.proofs.Typed.{typed_long, typed_at}
 
--- one place more
-pub places_more : (place_of : Pair → SlotPlace) (pairs : List Pair) (i : ℕ) (pair : Pair) (places new : List SlotPlace) (place : SlotPlace) → i < length pairs → pair ≡ get_or pairs i pair →
-    new ≡ places ++ place ∷ [] → place ≡ place_of pair → places ≡ map place_of (take i pairs) → new ≡ map place_of (take (i + 1) pairs)
-places_more place_of pairs i pair places new place low is e here so_far =
-    e ∙ ap (λ (some : List SlotPlace). some ++ place ∷ []) so_far ∙ ap (λ (p : SlotPlace). map place_of (take i pairs) ++ p ∷ []) (here ∙ ap place_of is)
-    ∙ sym (ap (map place_of) (take_more pairs i pair low) ∙ map-append place_of (take i pairs) (get_or pairs i pair ∷ []))
-
 -- the side of a column
 pub left_side : (sides : Sides) (number : ℕ) (pair : Pair) → number < length sides.left_types.now → place_for sides number pair ≡ left_place pair
 left_side sides number pair h = ap (λ (left : Bool). if left then left_place pair else right_place pair) (lt-ltb number (length sides.left_types.now) h)
 
 pub right_side : (sides : Sides) (number : ℕ) (pair : Pair) → length sides.left_types.now ≤ number → place_for sides number pair ≡ right_place pair
 right_side sides number pair h = ap (λ (left : Bool). if left then left_place pair else right_place pair) (le-ltb number (length sides.left_types.now) h)
-
--- all places are those of one side
-same_places : {X Y : Type 0} (f g : X → Y) (xs : List X) → ((x : X) → f x ≡ g x) → map f xs ≡ map g xs
-same_places f g [] same = refl
-same_places f g (x ∷ xs) same = ap (λ y. y ∷ map f xs) (same x) ∙ ap (λ ys. g x ∷ ys) (same_places f g xs same)
-
-pub left_places_for : (sides : Sides) (number : ℕ) (pairs : List Pair) (places : List SlotPlace) → number < length sides.left_types.now → places ≡ map left_place pairs →
-    places ≡ map (place_for sides number) pairs
-left_places_for sides number pairs places h e = e ∙ same_places left_place (place_for sides number) pairs (λ pair. sym (left_side sides number pair h))
-
-pub right_places_for : (sides : Sides) (number : ℕ) (pairs : List Pair) (places : List SlotPlace) → length sides.left_types.now ≤ number → places ≡ map right_place pairs →
-    places ≡ map (place_for sides number) pairs
-right_places_for sides number pairs places h e = e ∙ same_places right_place (place_for sides number) pairs (λ pair. sym (right_side sides number pair h))
 
 -- a left column has the cells
 pub left_has : (sides : Sides) (number : ℕ) (column : ColumnAt) (columns : List ColumnAt) → AreSides sides → columns ≡ sides.left.now.columns → AreLong sides.left.now.rows columns →

@@ -10,8 +10,7 @@ use Rattle.scan_base.specs.declared.value.Value.{Value}
 use Rattle.scan_base.specs.Predicate.{cell_in}
 use Rattle.arrays.specs.Batch.{BatchAt, rows_of}
 use Rattle.arrays.specs.Typed.{AreOf}
-use Rattle.array_select.specs.Room.{most_batch_rows}
-use Rattle.batch_room.specs.Room.{HasRoom}
+use Rattle.array_select.specs.Room.{most_batch_rows, HasRoom}
 use Rattle.hash_join.specs.Pairs.{key_in, keys_join}
 
 -- The types of the columns of both sides, the numbers of those that are the key, the rows of the

@@ -14,8 +14,8 @@ use Rattle.array_select.specs.OfSlots.{slot_value, IsSlotOf}
 use Rattle.array_select.specs.declared.many_places.SlotPlace.{SlotPlace}
 use Rattle.array_select.specs.GatherMany.{value_in, IsPlaceIn}
 use Rattle.arrays.specs.Typed.{AreOf, IsOfType}
-use Rattle.batch_room.specs.Light.{AreLight}
-use Rattle.batch_room.specs.Room.{allowed, HasRoom}
+use Rattle.array_select.specs.Fitting.{AreLight}
+use Rattle.array_select.specs.Room.{allowed, HasRoom}
 use Rattle.hash_join.specs.declared.pair.Pair.{Pair}
 use Rattle.join_batches.specs.declared.placed.Placed.{Placed}
 use Rattle.join_batches.specs.declared.sides.Sides.{Sides}

@@ -15,12 +15,11 @@ ghost use Rattle.join_batches.specs.Joiner.{JoinsNext, JoinsShown, joined_of, jo
 
 use crate::left::LeftPairs;
 use crate::sides::Sides;
-use array_select::MOST_BATCH_ROWS;
+use array_select::{MOST_BATCH_ROWS, next_most, tried_rows};
 use arrays::Batch;
 use arrow_schema::DataType;
-use batch_room::{next_most, tried_rows};
 use hash_join::{Build, Probe, RightSide};
-use hash_seed::HashSeed;
+use scan_base::HashSeed;
 use std::alloc::{AllocError, Global};
 use std::marker::Model;
 use std::sync::Arc;

@@ -6,7 +6,7 @@ ghost use Rattle.std.specs.List.{AllZip};
 ghost use Rattle.arrow_schema.specs.Answer.{copied_type};
 ghost use Rattle.arrays.specs.Typed.{AreOf, IsOfType};
 ghost use Rattle.arrays.specs.Written.{texts_joined};
-ghost use Rattle.batch_room.specs.Room.{most_batch_cells, most_batch_texts};
+ghost use Rattle.array_select.specs.Room.{most_batch_cells, most_batch_texts};
 ghost use Rattle.join_batches.specs.Sides.{AllFit, AreSides, ArePairs, ArePlaced, AreSources};
 ghost use Rattle.join_batches.specs.Sides.{HoldCells, place_for};
 ghost use Rattle.join_batches.specs.Sides.{AreWithin, FitsIn, IsBatchOf, IsColumnOf, copied_at};
@@ -14,11 +14,11 @@ ghost use Rattle.join_batches.specs.Sides.{cells_of, rows_at, type_in, types_of,
 
 use crate::placed::{Placed, left_places, right_places};
 use array_select::{
-    SlotPlace, SlotRef, column_of_slots, gather_many, has_texts, texts_fit, texts_fit_many,
+    MOST_OFFSET, SlotPlace, SlotRef, column_of_slots, gather_many, has_texts, text_share,
+    texts_fit, texts_fit_many,
 };
 use arrays::{Batch, Column};
 use arrow_schema::DataType;
-use batch_room::{MOST_OFFSET, text_share};
 use hash_join::Pair;
 use std::alloc::{AllocError, Global};
 

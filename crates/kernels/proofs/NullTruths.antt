@@ -8,20 +8,12 @@ use Rattle.scan_base.specs.declared.value.Value.{Value}
 use Rattle.scan_base.specs.declared.value.Value.TheVariants.{Null}
 use Rattle.scan_base.specs.Truth.{truth_from}
 use Rattle.scan_base.specs.Value.{is_null}
-use Rattle.arrays.specs.Validity.{is_valid, where_valid}
+use Rattle.arrays.specs.Validity.{is_valid}
 use Rattle.kernels.specs.Nulls.{null_truth}
 use Rattle.kernels.specs.Words.{bit, by_bits, row_in}
 use Rattle.kernels.proofs.Bits.{xor, xor_bit, xor_true, bit_of_all}
 
 -- ---- nulls
-
-pub null_where : (validity : Option (List Bool)) (value : ℕ → Value) (place : ℕ) → is_null (value place) ≡ false →
-    is_null (where_valid validity value place) ≡ not (is_valid validity place)
-null_where validity value place some = by (is_valid validity place)
-  where
-    by : (b : Bool) → is_null (if b then value place else Null) ≡ not b
-    by true = some
-    by false = refl
 
 null_bits : (null : Bool) → by_bits null true ≡ truth_from null
 null_bits true = refl

@@ -98,11 +98,6 @@ others_are catalog first joins (table ∷ tables) are =
     subst (AreTablesOf catalog (map (λ join. join.place) joins))
     (sym (take_all (length (table ∷ tables) - 1) tables (omega arith))) tail
 
-pub some_tables : (catalog : CatalogAt) (first : Place) (joins : List Join) (tables : List TableAt) →
-    AreTablesOf catalog (places_of first joins) tables → 1 ≤ length tables
-some_tables catalog first joins [] are = cc
-some_tables catalog first joins (table ∷ tables) are = omega arith
-
 -- what is found after the places is what is found
 pub fault_is : (query : Sentence) (catalog : CatalogAt) (first : TableAt) (others : List TableAt) →
     is_left_out_whole query ≡ false → table_at catalog query.first.table ≡ Some first →

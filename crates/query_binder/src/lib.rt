@@ -12,6 +12,3 @@ mod scope;
 mod selection;
 
 pub use crate::binding::bind;
-
-/// How many columns a result may have.
-pub const MAX_COLUMNS: usize = 64;

@@ -13,11 +13,10 @@ ghost use Rattle.query_binder.specs.Over.{output_fault};
 ghost use Rattle.query_binder.specs.Planned.{number_of_item, output_for};
 ghost use Rattle.query_binder.specs.ResultSchema.{item_field, list_fields, select_fields};
 
-use crate::MAX_COLUMNS;
 use crate::answer::answer_field;
 use crate::grouped::bind_groups;
 use crate::scope::Scope;
-use arrow_schema::{Field, Schema};
+use arrow_schema::{Field, MAX_COLUMNS, Schema};
 use scan_base::{Fault, Items};
 use sql_query::{Expression, Query, Select, SelectItem};
 use std::alloc::Global;

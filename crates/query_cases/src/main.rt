@@ -11,8 +11,7 @@ mod sentences;
 mod texts;
 mod written;
 
-use hash_seed::HashSeed;
-use scan_base::Fault;
+use scan_base::{Fault, HashSeed};
 use std::alloc::Global;
 use std::io;
 use std::sync::Arc;

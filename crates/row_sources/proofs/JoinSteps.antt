@@ -189,9 +189,6 @@ module _ (left : RowsAt) (joiner : JoinerAt) (number : ℕ) (piece : Piece) (aft
   pub fed_none : FindsNone (joined_at left joiner number) (joined_at after fed piece.number)
   fed_none = record { same = fed_next; looked = omega (arith, fed_looked); on = fed_on }
 
-  pub fed_joined : left.types ≡ joiner.left_types → IsJoined after fed piece.number
-  fed_joined typed = record { typed = finds.on.types ∙ typed; front = finds.on.opened; latest = inr finds.latest }
-
   -- fewer left rows are to come
   pub fed_fewer : length after.ahead < length left.ahead
   fed_fewer =
@@ -212,22 +209,6 @@ module _ (left : RowsAt) (joiner : JoinerAt) (number : ℕ) (after : RowsAt) (no
     depth = ap (λ (n : ℕ). n + 1) on.depth;
     opening = on.opening;
     opened = on.opened;
-  }
-
-  pub left_joined : left.types ≡ joiner.left_types → GoesOn left after → IsJoined after joiner number
-  left_joined typed on = record { typed = on.types ∙ typed; front = on.opened; latest = inl none }
-
-  nothing : (some : RowsAt) → some.ahead ≡ [] → (joined_at some joiner number).ahead ≡ []
-  nothing some empty =
-      ap (λ (rows : List Row). map (λ row. (number, row)) rows ++ numbered_joined joiner some.ahead) none
-      ∙ ap (numbered_joined joiner) empty
-
-  pub left_ends : Ends left after → Ends (joined_at left joiner number) (joined_at after joiner number)
-  left_ends ends = record {
-    none = nothing left ends.none;
-    still = nothing after ends.still;
-    all = ends.all;
-    on = left_on ends.on;
   }
 
   left_same : left.ahead ≡ after.ahead → (joined_at left joiner number).ahead ≡ (joined_at after joiner number).ahead

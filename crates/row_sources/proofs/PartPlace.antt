@@ -173,9 +173,6 @@ module _ (table : TableAt) (cursor : Cursor) (is : IsPlaced table cursor) (i : �
       at_first : cursor.at ≡ cursor.from
       at_first = is.fresh (omega (arith, is.opened, ap length unopened))
 
-      pub to_few : cursor.to ≤ length (table_of table).rows
-      to_few = is.few (omega (arith, at_first, here.3))
-
       part_rows : of_number i (rows_ahead table cursor) ≡ with_number i (rows_between (begin_in table cursor i) (end_in table cursor i) (rows_of batch))
       part_rows =
           ap (λ (n : ℕ). of_number i (numbered_rows (numbered_parts n cursor.to batches))) at_first
@@ -218,9 +215,6 @@ module _ (table : TableAt) (cursor : Cursor) (is : IsPlaced table cursor) (i : �
 
   found_batch : (batch : BatchAt) × (slice_get table.batches i ≡ Some batch)
   found_batch = there_at table.batches i part_there
-
-  pub part_few : batches_in cursor.from cursor.at table.batches ≡ [] → cursor.to ≤ length (table_of table).rows
-  part_few unopened = to_few table cursor is i part_there found_batch.0 found_batch.1 unopened
 
   module _ (made : TableAt) (made_is : made ≡ record table { batches = option_to_list (slice_get table.batches i) }) (from to : ℕ)
       (from_is : from ≡ begin_in table cursor i) (to_is : to ≡ end_in table cursor i) where

@@ -67,9 +67,6 @@ module _ (left : RowsAt) (joiner : JoinerAt) (at : ℕ) (is : IsJoined left join
       (sym (each_renamed (joined_with joiner) 0 (of_number number left.ahead))
       ∙ ap renamed (sym (each_number (joined_with joiner) number left.ahead) ∙ ap (of_number number) (sym ahead_is)))
 
-  pub still_joined : (number unseen : ℕ) → IsJoined (part_of number unseen left) (record joiner { ahead = [] }) 0
-  still_joined number unseen = record { typed = is.typed; front = refl; latest = inl refl }
-
 pub joined_in_order : (left : RowsAt) (joiner : JoinerAt) (at : ℕ) → IsJoined left joiner at → ComeInOrder left → ComeInOrder (joined_at left joiner at)
 joined_in_order left joiner at is order none =
     let all = each_order (joined_with joiner) left.ahead left.batches (order none) in

@@ -20,16 +20,6 @@ item_at [] i h = absurd (omega (arith, h))
 item_at (x ∷ xs) zero h = (x, refl)
 item_at (x ∷ xs) (suc i) h = item_at xs i (omega (arith, h))
 
--- a column for each number
-pub columns_wide : (numbers : List ℕ) (columns : List ColumnAt) → are_within (length columns) numbers ≡ true →
-    length (columns_at numbers columns) ≡ length numbers
-columns_wide [] columns h = refl
-columns_wide (number ∷ numbers) columns h =
-    let parts = and_parts (nat_lt number (length columns)) (are_within (length columns) numbers) h in
-    let there = item_at columns number (ltb-true number (length columns) parts.0) in
-    ap (λ (found : Option ColumnAt). length (listed found ++ columns_at numbers columns)) there.1
-    ∙ ap suc (columns_wide numbers columns parts.1)
-
 -- the cells of chosen columns
 pub columns_cells : (numbers : List ℕ) (columns : List ColumnAt) (j : ℕ) → are_within (length columns) numbers ≡ true →
     row_of (columns_at numbers columns) j ≡ map (cell_in (row_of columns j)) numbers

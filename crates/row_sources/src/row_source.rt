@@ -23,7 +23,7 @@ use crate::opened_table::OpenedTable;
 use crate::picker::Picker;
 use crate::rows::Rows;
 use arrow_schema::DataType;
-use hash_seed::HashSeed;
+use scan_base::HashSeed;
 use std::alloc::{AllocError, Global};
 use std::marker::Model;
 use typed_plan::{Columns, Output, Plan};

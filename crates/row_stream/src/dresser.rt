@@ -5,8 +5,7 @@ ghost use Rattle.arrow_schema.specs.Schema.{IsSchema};
 ghost use Rattle.row_stream.specs.Stream.{numbered_schema};
 
 use arrow_schema::Schema;
-use hash_seed::HashSeed;
-use scan_base::Items;
+use scan_base::{HashSeed, Items};
 use std::alloc::{AllocError, Global};
 use std::marker::Model;
 

@@ -16,8 +16,7 @@ use crate::sending::{break_off, send_batch, write_frame, write_last};
 use arrays::Batch;
 use arrow_schema::Schema;
 use grpc_frame::{Outbox, Output};
-use hash_seed::HashSeed;
-use scan_base::Fault;
+use scan_base::{Fault, HashSeed};
 use std::alloc::Global;
 use std::marker::Model;
 

@@ -83,11 +83,6 @@ batch_more data_type number start widest next i batches batch column inside at w
     ∙ ap (λ (l : List BatchAt). greatest widest (batches_widths data_type number l)) (sym (drop_more batches i batch inside))
     ∙ all
 
--- as many widths as fields
-pub widths_long : (fields : List Field) (number : ℕ) (rows : List (List Value)) → length (widths_from fields number rows) ≡ length fields
-widths_long [] number rows = refl
-widths_long (field ∷ fields) number rows = ap (λ (n : ℕ). suc n) (widths_long fields (number + 1) rows)
-
 -- the width of one column more
 pub width_more : (fields : List Field) (i : ℕ) (field : Field) (rows : List (List Value)) (made new all : List ℕ) (width : ℕ) → i < length fields → field ≡ get_or fields i field
     → new ≡ made ++ width ∷ [] → width ≡ column_width field (column_of rows i) → made ++ widths_from (drop i fields) i rows ≡ all → new ++ widths_from (drop (i + 1) fields) (i + 1) rows ≡ all

@@ -281,16 +281,6 @@ part_whole mine begin at row end left groups part is seen whole work from to of 
       held = subst (Holds groups) rows is.fed.held;
     }
 
--- a part of what the same one is a part of
-pub still_part : (work : GroupWorkAt) (from to : ℕ) (before after : PartAt) → IsSamePart before after → IsPartOf work from to before → IsPartOf work from to after
-still_part work from to before after same is = record {
-  batches = same.batches ∙ is.batches;
-  types = same.types ∙ is.types;
-  keys = same.keys ∙ is.keys;
-  items = same.items ∙ is.items;
-  rows = same.rows ∙ is.rows;
-}
-
 -- a part that is begun
 pub begun_part : (work : GroupWorkAt) (from to left : ℕ) (part : PartAt) → part ≡ part_at work from to left → IsPartOf work from to part
 begun_part work from to left part is = subst (IsPartOf work from to) (sym is) (record { batches = refl; types = refl; keys = refl; items = refl; rows = refl })

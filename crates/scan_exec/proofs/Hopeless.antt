@@ -145,10 +145,6 @@ module _ (types : List DataType) (batch : BatchAt) (is : IsBatch types batch) (f
               let later = rest (sym (ap (λ (b : Bool). b && list_all (λ part. (can (λ number. stats_in batch.columns (number - first)) part).can_true) (filter (names_only (is_between first width)) parts)) may) ∙ all) in
               both_false (test p) (list_all test (filter (names_only (is_between first width)) parts)) later
 
--- one fails, so not all are true
-all_true_is : (needs : List (Pred ℕ)) (row : Row) → all_true needs row ≡ list_all (λ p. is_true p row) needs
-all_true_is needs row = refl
-
 moved_all : (first : ℕ) (needs : List (Pred ℕ)) (row : Row) → list_all (λ p. is_true p row) (map (moved first) needs) ≡ list_all (λ p. is_true (moved first p) row) needs
 moved_all first [] row = refl
 moved_all first (p ∷ needs) row = ap (λ (b : Bool). is_true (moved first p) row && b) (moved_all first needs row)

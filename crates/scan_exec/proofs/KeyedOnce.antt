@@ -22,10 +22,6 @@ use Rattle.scan_exec.specs.Answering.{answer_for}
 use Rattle.scan_exec.specs.Different.{KeyedBy, column_at, item_by}
 use Rattle.scan_exec.specs.Giving.{GivingAt}
 
--- of no key
-pub none_keyed : KeyedBy [] [] []
-none_keyed = record { each = refl; there = refl; among = λ test h. refl }
-
 -- ---- a part more
 
 -- what is within few is within more

@@ -1,7 +1,7 @@
 -- A plan gives of the rows of its tables what it says at the catalog.
-use Rattle.std.proofs.Common.{◌≡◌, ℕ, List, [], ◌∷◌, ◌++◌, length, map, map-id, Option, Some, None, refl, sym, ap, ◌∙◌, arith, if◌then◌else◌}
+use Rattle.std.proofs.Common.{◌≡◌, ℕ, List, [], ◌∷◌, ◌++◌, map, map-id, Option, Some, None, refl, sym, ap, ◌∙◌, arith, if◌then◌else◌}
 use Rattle.std.specs.List.{flat_map}
-use Rattle.std.proofs.lemmas.List.{length-map, map-append}
+use Rattle.std.proofs.lemmas.List.{map-append}
 use Rattle.std.proofs.lemmas.Simd.{map-map}
 use Rattle.arrays.specs.Batch.{BatchAt, rows_of}
 use Rattle.table_versions.specs.Database.{table_at}
@@ -99,10 +99,3 @@ rows_law catalog bound from to typed same held = given_rows bound from to ∙ ap
         ≡ tree_rows (tree_of bound.plan) (tables_of catalog) (rows_between from to)
     by [] columns there = let some = some_table (tree_of bound.plan) [] columns in absurd (omega (arith, some))
     by (table ∷ tables) columns there = over_tables catalog (tree_of bound.plan) (rows_between from to) table tables there
-
--- as many rows are given as the plan has
-pub count_law : (catalog : CatalogAt) (bound : BoundAt) (from to : ℕ) → IsTyped (plan_of bound) →
-    tree_schemas (plan_of bound).tree ≡ map (λ (table : TableAt). table.schema) bound.tables → HoldsFrom catalog bound →
-    length (given_of bound from to) ≡ length (plan_rows (plan_of bound) (tables_of catalog) from to)
-count_law catalog bound from to typed same held =
-    sym (length-map (given_of bound from to) (λ (given : Option ℕ × Row). given.1)) ∙ ap length (rows_law catalog bound from to typed same held)

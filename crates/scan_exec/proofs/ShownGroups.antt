@@ -33,7 +33,7 @@ use Rattle.row_sources.proofs.Giving.{filter-all}
 use Rattle.row_sources.proofs.JoinSteps.{as_many, whole_part}
 use Rattle.scan_exec.specs.Answering.{answer_for}
 use Rattle.scan_exec.specs.Different.{StandFor, item_at}
-use Rattle.scan_exec.specs.Giving.{GivingAt, GivingOn, GivesBatch, GivesNone, GivesNext, MakesReady}
+use Rattle.scan_exec.specs.Giving.{GivingAt, GivingOn, GivesBatch, GivesNext, MakesReady}
 use Rattle.scan_exec.specs.ShownGroups.{ShowsAll, with_cells}
 
 -- a row with its cells of these numbers
@@ -56,15 +56,6 @@ module _ (before after : GivingAt) (picker : Picker) (shows : ShowsAll before pi
     batches = on.batches;
     opening = on.opening;
     opened = on.opened;
-  }
-
-  -- the end
-  pub none_shown : GivesNone before after → GivesNone (with_cells picker.shown.items before) (with_cells picker.shown.items after)
-  none_shown gives = record {
-    none = ap (map (show picker.shown.items)) gives.none;
-    still = ap (map (show picker.shown.items)) gives.still;
-    all = gives.all;
-    on = on_shown gives.on;
   }
 
   -- what is made before the first row
@@ -181,9 +172,3 @@ module _ (rows : RowsAt) (keys : List ℕ) (items some : List Aggregate) (places
       let groups = groups_by keys (map (λ (row : ℕ × Row). row.1) rows.ahead) in
       ap (λ (types : List DataType). giving types (map (show places) (map (λ group. (None, map (answered group) some)) groups))) types_same
       ∙ ap (giving (map copied_type (map (item_type keys rows.types) items))) (group_same groups)
-
-  -- they are there
-  pub places_there : are_within (length (map copied_type (map (item_type keys rows.types) some))) places ≡ true
-  places_there =
-      ap (λ (n : ℕ). are_within n places)
-      (length-map (map (item_type keys rows.types) some) copied_type ∙ length-map some (item_type keys rows.types)) ∙ stand.there

@@ -9,10 +9,6 @@ use Rattle.typed_plan.specs.declared.plan.Aggregate.TheVariants.{Key}
 use Rattle.batch_skipping.specs.Chosen.{are_within}
 use Rattle.scan_exec.specs.Different.{StandFor, item_at}
 
--- of no items
-pub none_stand : StandFor [] [] []
-none_stand = record { each = refl; there = refl; among = λ test h. refl }
-
 -- ---- an item more
 
 -- what is within few is within more

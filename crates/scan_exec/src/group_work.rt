@@ -12,9 +12,8 @@ ghost use Rattle.work_watch.specs.Told.{ToldAtLeast};
 
 use array_select::Selection;
 use grouping::{Grouping, Groups};
-use hash_seed::HashSeed;
 use row_sources::{Part, Picker};
-use scan_base::Fault;
+use scan_base::{Fault, HashSeed};
 use std::alloc::Global;
 use std::marker::Model;
 use work_watch::pace::{GROUPED_ROWS, TURN_ROWS};

@@ -74,17 +74,3 @@ comes seat v s h at =
       words = h.words;
       drawn = λ few. let before = h.drawn (omega (arith, few, len)) in (before.0 ∙ sym len, λ n. same (times n) refl ∙ before.1 n);
     }
-
-pub begins : IsClaimed (record { words = 0 ∷ []; homes = []; views = [] ∷ [] })
-begins = record {
-  word = 0;
-  words = refl;
-  drawn = λ _. (refl, none_below);
-}
-  where
-    none_below : (n : ℕ) → 0 + 0 ≡ one_if (ltb n 0)
-    none_below n = by_case (ltb n 0) refl
-      where
-        by_case : (b : Bool) → ltb n 0 ≡ b → 0 + 0 ≡ one_if b
-        by_case true e = absurd (grind (arith, nat_tests))
-        by_case false e = refl

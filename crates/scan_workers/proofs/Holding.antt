@@ -6,7 +6,7 @@ use Rattle.std.specs.Option.{option_map}
 use Rattle.std.proofs.Math.ListN.{get_or-map}
 use Rattle.std.proofs.lemmas.List.{map-set, length-map, get_or-set_same, get_or-set_other, get_or-replicate, get_or_past, get_or_read, length-set, length-replicate}
 use Rattle.std.proofs.lemmas.Option.{none-some}
-use Rattle.scan_workers.specs.Held.{HeldAt, IsHeld, Lies, IsInHand, MayBegin, held_at, in_slot, at_first, asked, begun_one, laid, taken, given_next}
+use Rattle.scan_workers.specs.Held.{HeldAt, IsHeld, Lies, IsInHand, MayBegin, held_at, in_slot, at_first, begun_one, laid, taken, given_next}
 
 -- the number, or 0 of none
 abbrev or_zero : Option ℕ → ℕ
@@ -78,10 +78,6 @@ at_first_held count room =
           | inl less ↦ get_or-replicate room place None None less
           | inr past ↦ get_or_past (at_first count room).slots place None (omega (arith, past, length-replicate {A = Option ℕ} room None))
         ]
-
-pub asked_held : (h : HeldAt) → IsHeld h → IsHeld (asked h)
-asked_held h k =
-    kept (asked h) k.alone (omega (arith, k.room, k.done.0)) (omega arith, omega arith, k.done.2)
 
 pub begun_one_held : (h : HeldAt) → IsHeld h → MayBegin h → IsHeld (begun_one h)
 begun_one_held h k may =

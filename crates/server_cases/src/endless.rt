@@ -11,7 +11,7 @@ use crate::texts::push_text;
 use command_line::Serving;
 use commands::serve::{Host, serve};
 use grpc_frame::MemoryOutput;
-use hash_seed::HashSeed;
+use scan_base::HashSeed;
 use std::alloc::AllocGlobal;
 use std::marker::Brand;
 use std::net::{Net, TcpListener, TcpStream};

@@ -132,12 +132,6 @@ closed_bounded quote tail len c = record {
   unended = λ value more e. (let le = no_longer quote c.value value c.rest more c.parts (sym c.whole ∙ e) in omega (arith, c.len_is));
 }
 
-whole_bounded : (quote : ℕ) (tail : List ℕ) → Bounded quote tail (1 + length tail)
-whole_bounded quote tail = record {
-  closed = λ value more e. omega (arith, ap length e, length-append (flat_map (doubled quote) value) (quote ∷ more));
-  unended = λ value more e. omega (arith, ap length e, length-append (flat_map (doubled quote) value) more);
-}
-
 unfoldable pub double_stands : (tail : List ℕ) (len : ℕ) → Closed 34 0 tail len → Stands (34 ∷ tail) delimited_name (1 + len)
 double_stands tail len c =
     let value = flat_map (doubled 34) c.value in

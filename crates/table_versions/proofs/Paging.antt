@@ -66,10 +66,6 @@ pages_push batches pages page are more is = record {
   each = each_push (λ p one. IsPageFrom batches (p * 256) one) pages page are.each is;
 }
 
--- no pages
-pub no_pages : (batches : List BatchAt) → ArePages batches []
-no_pages batches = record { few = omega arith; each = λ p page at. cc }
-
 -- one batch more
 pub stored_push : (schema : Schema) (placed : List PlacedBatch) (pages : List StatsPage) (rows : ℕ) → AreStored schema placed pages rows →
     (batch : BatchAt) (more : ℕ) → IsTrue (has_rows batch) → AreOfTypes schema.fields batch.columns → Stands batch → AreSound schema.fields (rows_of batch) →

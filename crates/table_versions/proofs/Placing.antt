@@ -82,19 +82,6 @@ module _ (schema : Schema) (placed : List PlacedBatch) (rows : ℕ) (are : ArePl
   pub few_batches : length placed ≤ most_rows
   few_batches = omega (arith, length-filled-le (batches placed) are.kept.filled, are.kept.counted, are.kept.few, length-map placed (λ (each : PlacedBatch). each.batch))
 
-  -- a table with a row has a batch
-  pub some_batch : (row : ℕ) → row < rows → 0 < length placed
-  some_batch row h = by placed are.kept.counted
-    where
-      by : (some : List PlacedBatch) → rows ≡ length (flat_map rows_of (batches some)) → 0 < length some
-      by [] none = absurd (omega (arith, none, h))
-      by (one ∷ some) _ = omega arith
-
-  -- all rows stand before the end of the batches
-  pub rows_in_all : rows_before (batches placed) (length placed) ≡ rows
-  rows_in_all = ap (λ (some : List BatchAt). length (flat_map rows_of some))
-      (take_all (length placed) (batches placed) (omega (arith, length-map placed (λ (each : PlacedBatch). each.batch)))) ∙ sym are.kept.counted
-
   -- each batch before another has rows
   pub filled_before : (i : ℕ) → i ≤ length placed → i ≤ rows_before (batches placed) i
   filled_before i h =

@@ -12,8 +12,7 @@ ghost use Rattle.table_versions.specs.Valid.{IsName};
 
 use crate::handles::spliced;
 use crate::table::TableVersion;
-use hash_seed::HashSeed;
-use scan_base::Text;
+use scan_base::{HashSeed, Text};
 use std::alloc::{AllocError, Global};
 use std::cmp::Ordering;
 use std::marker::Model;

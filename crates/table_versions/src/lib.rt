@@ -16,9 +16,9 @@ mod stats_page;
 pub mod table;
 
 pub use crate::catalog::CatalogVersion;
-pub use crate::commit::{apply, refusal};
+pub use crate::commit::apply;
 pub use crate::fields::same_fields;
-pub use crate::limits::{MAX_COMMITS, MAX_NAME_BYTES, MAX_ROWS, MAX_TABLES, MAX_TEXT_BYTES};
+pub use crate::limits::{MAX_COMMITS, MAX_ROWS, MAX_TABLES, MAX_TEXT_BYTES};
 pub use crate::put::Put;
 pub use crate::snapshot::Snapshot;
 pub use crate::table::{BatchPlace, TableVersion};

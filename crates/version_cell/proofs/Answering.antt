@@ -56,13 +56,3 @@ expired_behind floor old new version entries next met answered same made = recor
   answered = subst (λ (l : Log). IsExpired (Ok floor) (log_of entries) version l) (sym same) answered;
   counts = at_end old.made new.made entries (expired version) made;
 }
-
--- an expiry that was refused
-pub unexpired_behind : (fault : Fault) (old new : Seat) (version : ℕ) (log next : Log) → Begins old.log log → IsExpired (Err fault) log version next → new.log ≡ next
-    → MakesNone old new → ExpiresBehind (Err fault) old version new
-unexpired_behind fault old new version log next met answered same none = record {
-  log = log;
-  met = met;
-  answered = subst (λ (l : Log). IsExpired (Err fault) log version l) (sym same) answered;
-  counts = none;
-}

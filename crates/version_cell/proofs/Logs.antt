@@ -1,5 +1,5 @@
 -- A log, and the same with the seat of each entry.
-use Rattle.std.proofs.Common.{Bool, true, false, ◌≡◌, ◌⊎◌, inl, inr, ℕ, ◌≤◌, ◌+◌, List, [], ◌∷◌, ◌++◌, length, ap, sym, ◌∙◌, arith, append-nil, length-append}
+use Rattle.std.proofs.Common.{Bool, true, false, ◌≡◌, ◌⊎◌, inl, inr, ℕ, ◌≤◌, ◌+◌, List, [], ◌∷◌, ◌++◌, length, ap, ◌∙◌, arith, append-nil, length-append}
 use Rattle.std.specs.Prelude.{MatchBool}
 use Rattle.std.proofs.lemmas.List.{length-map, map-append}
 use Rattle.version_log.specs.Log.{Begins}
@@ -10,9 +10,6 @@ log_of-more entries s = map-append (λ (s : Signed). s.entry) entries (s ∷ [])
 
 pub log_of-length : (entries : List Signed) → length (log_of entries) ≡ length entries
 log_of-length entries = length-map entries (λ (s : Signed). s.entry)
-
-pub goes_on_self : (entries : List Signed) → GoesOn entries entries
-goes_on_self entries = ([], sym (append-nil entries))
 
 -- it goes on without the seats too
 pub begins_of : (entries more : List Signed) → GoesOn entries more → Begins (log_of entries) (log_of more)

@@ -6,7 +6,7 @@ use Rattle.arrays.specs.Nulls.{null_count}
 use Rattle.arrays.specs.Number.{byte_width}
 use Rattle.arrays.specs.declared.layout.Layout.TheVariants as layout
 use Rattle.dictionary_answers.specs.declared.indices.Block.{Block}
-use Rattle.dictionary_answers.specs.Coded.{AreCoded, FoundAt, coded_at}
+use Rattle.dictionary_answers.specs.inside.Coded.{AreCoded, FoundAt, coded_at}
 use Rattle.dictionary_answers.specs.inside.Coding.{room_of}
 use Rattle.dictionary_answers.specs.inside.Packed.{numbers_in}
 

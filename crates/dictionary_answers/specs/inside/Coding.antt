@@ -1,7 +1,7 @@
 -- Inside: what one value adds to the texts that were found.
 use Rattle.std.specs.Prelude.{◌≡◌, ℕ, ◌+◌, [], ◌∷◌}
 use Rattle.scan_base.specs.declared.value.Value.{Value}
-use Rattle.dictionary_answers.specs.Coded.{FoundAt, held}
+use Rattle.dictionary_answers.specs.inside.Coded.{FoundAt, held}
 use Rattle.dictionary_answers.specs.Firsts.{firsts_behind, bytes_in, Leads}
 
 -- how many bytes the texts that were found and all to come may have

@@ -1,8 +1,7 @@
 -- Inside: places, as the indices of slots are kept.
 use Rattle.std.specs.Prelude.{◌≡◌, ◌<◌, ◌/◌, ℕ, Bool, List, length, map, get_or, Option, None}
-use Rattle.std.specs.Prelude.{is_some, unwrap_or, nat_eq, if◌then◌else◌}
+use Rattle.std.specs.Prelude.{is_some, unwrap_or}
 use Rattle.std.specs.List.{range_with_len}
-use Rattle.dictionary_answers.specs.Coded.{no_place}
 use Rattle.arrays.specs.Number.{element_at}
 use Rattle.arrays.specs.Validity.{is_valid, IsLong}
 
@@ -14,10 +13,6 @@ numbers_in bytes = map (λ k. element_at 4 bytes k) (range_with_len 0 (length by
 pub record ArePacked (bytes : List ℕ) (places : List (Option ℕ)) : Type 0 where
   pub long : length places ≡ length bytes / 4
   pub each : (k : ℕ) → k < length places → element_at 4 bytes k ≡ unwrap_or (get_or places k None) 0
-
--- a number in a list of places, as it is packed
-abbrev pub shown : ℕ → ℕ
-shown number = if nat_eq number no_place then 0 else number
 
 -- a slot is valid where it has a place
 pub record AreValidWhereSome (validity : Option (List Bool))

@@ -6,8 +6,8 @@ use Rattle.arrow_schema.specs.declared.data_type.DataType.{DataType}
 use Rattle.arrays.specs.Batch.{BatchAt, rows_of}
 use Rattle.arrays.specs.Column.{ColumnAt, values_of}
 use Rattle.arrays.specs.Typed.{AreOf, IsOfType}
-use Rattle.batch_room.specs.Light.{AreLight}
-use Rattle.batch_room.specs.Room.{share_among, HasRoom}
+use Rattle.array_select.specs.Fitting.{AreLight}
+use Rattle.array_select.specs.Room.{share_among, HasRoom}
 use Rattle.scan_base.specs.Limits.{most_rows}
 use Rattle.scan_base.specs.declared.value.Value.{Value}
 use Rattle.typed_plan.specs.declared.plan.Aggregate.{Aggregate}

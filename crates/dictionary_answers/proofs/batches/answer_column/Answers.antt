@@ -2,7 +2,7 @@ use Rattle.std.proofs.Common.{◌∙◌, ℕ, List, map, ap, length, subst, Bor,
 use Rattle.std.proofs.lemmas.List.{length-map}
 use Rattle.arrays.specs.Column.{slot_of, values_of}
 use Rattle.dictionary_answers.specs.Answer.{LiesOver}
-use Rattle.dictionary_answers.specs.Coded.{coded_at, held}
+use Rattle.dictionary_answers.specs.inside.Coded.{coded_at, held}
 use Rattle.dictionary_answers.specs.inside.Packed.{numbers_in}
 use Rattle.dictionary_answers.proofs.Slots.{few_texts}
 use Rattle.dictionary_answers.proofs.IndicesMade.{led_same}

@@ -10,7 +10,7 @@ use Rattle.arrays.specs.Column.{ColumnAt, values_of, whole}
 use Rattle.arrays.specs.declared.layout.Layout.{Layout}
 use Rattle.arrays.specs.declared.layout.Layout.TheVariants as layout
 use Rattle.dictionary_answers.specs.Firsts.{AreLed}
-use Rattle.dictionary_answers.specs.Coded.{held}
+use Rattle.dictionary_answers.specs.inside.Coded.{held}
 use Rattle.dictionary_answers.specs.inside.Packed.{numbers_in, ArePacked}
 use Rattle.dictionary_answers.proofs.IndicesMade.{cells_of, indices_stand, indices_led}
 use Rattle.dictionary_answers.proofs.Marks.{zero_where}

@@ -3,7 +3,7 @@ use Rattle.std.proofs.lemmas.List.{get_or-take, get_or-drop}
 use Rattle.scan_base.specs.Value.{is_null}
 use Rattle.arrays.specs.Layout.{layout_count, layout_slot}
 use Rattle.arrays.specs.declared.layout.Layout.{Layout}
-use Rattle.dictionary_answers.specs.Coded.{held}
+use Rattle.dictionary_answers.specs.inside.Coded.{held}
 use Rattle.dictionary_answers.specs.inside.Packed.{numbers_in}
 use Rattle.dictionary_answers.proofs.Marks.{valid_none, valid_own}
 use Rattle.dictionary_answers.proofs.built.column_validity.Goals as goal

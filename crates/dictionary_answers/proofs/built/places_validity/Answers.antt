@@ -1,6 +1,6 @@
 use Rattle.std.proofs.Common.{◌∙◌, ℕ, map, not, nat_eq, sym, ap}
 use Rattle.std.proofs.lemmas.List.{take_all}
-use Rattle.dictionary_answers.specs.Coded.{no_place}
+use Rattle.dictionary_answers.specs.inside.Coded.{no_place}
 use Rattle.dictionary_answers.proofs.Marks.{valid_all, valid_bits}
 use Rattle.dictionary_answers.proofs.built.places_validity.Goals as goal
 

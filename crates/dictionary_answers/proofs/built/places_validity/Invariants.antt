@@ -1,5 +1,5 @@
 use Rattle.std.proofs.Common.{◌≡◌, map, nat_eq, not, take}
-use Rattle.dictionary_answers.specs.Coded.{no_place}
+use Rattle.dictionary_answers.specs.inside.Coded.{no_place}
 use Rattle.dictionary_answers.proofs.built.places_validity.Given as goal
 
 abbrev pub invariant-loop-place : goal.invariant-loop-place

@@ -3,7 +3,7 @@ use Rattle.scan_base.specs.declared.value.Value.{Value}
 use Rattle.scan_base.specs.declared.value.Value.TheVariants.{Null}
 use Rattle.arrays.specs.Column.{slot_of, values_of}
 use Rattle.dictionary_answers.specs.Firsts.{bytes_in, firsts, firsts_behind}
-use Rattle.dictionary_answers.specs.Coded.{coded_at}
+use Rattle.dictionary_answers.specs.inside.Coded.{coded_at}
 use Rattle.dictionary_answers.specs.inside.Coding.{Finds, room_of}
 use Rattle.dictionary_answers.specs.inside.Packed.{numbers_in}
 use Rattle.dictionary_answers.specs.inside.Table.{IsTable}

@@ -4,7 +4,7 @@ use Rattle.arrays.specs.Layout.{layout_slot}
 use Rattle.arrays.specs.declared.layout.Layout.TheVariants as layout
 use Rattle.arrays.specs.Column.{slot_of, values_of}
 use Rattle.dictionary_answers.specs.Firsts.{bytes_in, firsts, firsts_behind}
-use Rattle.dictionary_answers.specs.Coded.{coded_at}
+use Rattle.dictionary_answers.specs.inside.Coded.{coded_at}
 use Rattle.dictionary_answers.specs.inside.Coding.{Finds}
 use Rattle.dictionary_answers.specs.inside.Packed.{numbers_in}
 use Rattle.dictionary_answers.proofs.Indexed.{slot_there}

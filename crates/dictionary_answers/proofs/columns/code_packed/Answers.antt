@@ -1,6 +1,6 @@
 use Rattle.std.proofs.Common.{◌≡◌, ℕ, List, length, sym, ap, subst, arith}
 use Rattle.arrays.specs.Column.{values_of}
-use Rattle.dictionary_answers.specs.Coded.{AreCoded, FoundAt, coded_at}
+use Rattle.dictionary_answers.specs.inside.Coded.{AreCoded, FoundAt, coded_at}
 use Rattle.dictionary_answers.specs.inside.Packed.{numbers_in}
 use Rattle.dictionary_answers.proofs.Numbers.{written_back}
 use Rattle.dictionary_answers.proofs.columns.code_packed.Goals as goal

@@ -1,7 +1,7 @@
 use Rattle.std.proofs.Common.{map, take}
 use Rattle.std.specs.List.{range_with_len}
 use Rattle.arrays.specs.Column.{slot_of}
-use Rattle.dictionary_answers.specs.Coded.{AreCoded, coded_at}
+use Rattle.dictionary_answers.specs.inside.Coded.{AreCoded, coded_at}
 use Rattle.dictionary_answers.specs.inside.Packed.{numbers_in}
 use Rattle.dictionary_answers.specs.inside.Table.{IsTable}
 use Rattle.dictionary_answers.proofs.columns.code_some.Given as goal

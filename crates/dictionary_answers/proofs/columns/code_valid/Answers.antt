@@ -1,7 +1,7 @@
 use Rattle.std.proofs.Common.{ℕ, map, take, subst, arith}
 use Rattle.std.specs.List.{range_with_len}
 use Rattle.arrays.specs.Column.{slot_of}
-use Rattle.dictionary_answers.specs.Coded.{AreCoded, coded_at}
+use Rattle.dictionary_answers.specs.inside.Coded.{AreCoded, coded_at}
 use Rattle.dictionary_answers.specs.inside.Packed.{numbers_in}
 use Rattle.dictionary_answers.proofs.Slots.{slots_all}
 use Rattle.dictionary_answers.proofs.columns.code_valid.Goals as goal

@@ -1,6 +1,6 @@
 use Rattle.std.proofs.Common.{◌≡◌, ◌∙◌, sym, arith}
-use Rattle.dictionary_answers.specs.inside.Packed.{numbers_in, shown}
-use Rattle.dictionary_answers.proofs.Marks.{shown_all, shown_mark, shown_more, shown_place}
+use Rattle.dictionary_answers.specs.inside.Packed.{numbers_in}
+use Rattle.dictionary_answers.proofs.Marks.{shown, shown_all, shown_mark, shown_more, shown_place}
 use Rattle.dictionary_answers.proofs.packed.put_zeros.Goals as goal
 use Rattle.dictionary_answers.proofs.packed.put_zeros.Goals.{then-number, else-number}
 

@@ -1,5 +1,6 @@
 use Rattle.byteorder.proofs.Slices.{MappedTo}
-use Rattle.dictionary_answers.specs.inside.Packed.{numbers_in, shown}
+use Rattle.dictionary_answers.specs.inside.Packed.{numbers_in}
+use Rattle.dictionary_answers.proofs.Marks.{shown}
 use Rattle.dictionary_answers.proofs.packed.put_zeros.Given as goal
 
 -- the numbers so far are shown, and the rest are as they were

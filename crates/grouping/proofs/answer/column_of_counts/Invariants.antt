@@ -1,5 +1,5 @@
 use Rattle.std.proofs.Common.{◌≡◌, map, take}
-use Rattle.grouping.specs.inside.Answering.{count_or_none}
+use Rattle.grouping.proofs.Answering.{count_or_none}
 use Rattle.grouping.proofs.answer.column_of_counts.Given as goal
 
 abbrev pub invariant-loop-count : goal.invariant-loop-count

@@ -38,7 +38,3 @@ texts_held typed column stands (inr indices) =
 pub coded_batch-requires-clause-texts : goal.coded_batch-requires-clause-texts
 coded_batch-requires-clause-texts c =
     texts_held c.values_are_of_their_type.ensures c.args.column.now c.len-rows.ensures.stands (rw c.layout.ensures.value at c.in-Texts.is)
-
-pub coded_alone-requires-clause-texts : goal.coded_alone-requires-clause-texts
-coded_alone-requires-clause-texts c =
-    texts_held c.values_are_of_their_type.ensures c.args.column.now c.len-rows.ensures.stands (rw c.layout.ensures.value at c.in-Texts.is)

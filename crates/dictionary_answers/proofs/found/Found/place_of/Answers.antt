@@ -3,7 +3,7 @@ use Rattle.std.specs.Prelude.{slice_get}
 use Rattle.std.specs.List.{list_any}
 use Rattle.std.specs.Str.{bytes_eq}
 use Rattle.dictionary_answers.specs.Firsts.{with_text}
-use Rattle.dictionary_answers.specs.Coded.{FoundAt}
+use Rattle.dictionary_answers.specs.inside.Coded.{FoundAt}
 use Rattle.dictionary_answers.proofs.Places.{any_map, insert_text, stored_text, bytes_new}
 use Rattle.dictionary_answers.proofs.found.Found.place_of.Goals.{then-added+else-self-text, else-added}
 use Rattle.dictionary_answers.proofs.found.Found.place_of.Goals as goal

@@ -7,12 +7,11 @@ use Rattle.arrays.specs.Written.{text_bytes}
 use Rattle.typed_plan.specs.Typed.{type_at}
 use Rattle.grouping.specs.declared.key.Place.{Place}
 use Rattle.grouping.specs.Answers.{IsThere}
-use Rattle.array_select.specs.Fitting.{has_texts}
-use Rattle.batch_room.specs.Light.{Fits}
-use Rattle.batch_room.specs.Room.{share_among}
+use Rattle.array_select.specs.Fitting.{has_texts, Fits}
+use Rattle.array_select.specs.Room.{share_among}
 use Rattle.grouping.specs.inside.Answering.{first_cell}
 use Rattle.grouping.proofs.Answering.{no_text_cell, type_there}
-use Rattle.batch_room.proofs.Light.{plain_fit}
+use Rattle.array_select.proofs.Light.{plain_fit}
 use Rattle.grouping.proofs.batches.Answer.how_many_firsts_fit.Goals as goal
 
 pub returns-then-not-has_texts : goal.returns-then-not-has_texts

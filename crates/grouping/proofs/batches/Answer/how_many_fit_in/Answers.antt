@@ -1,7 +1,7 @@
 use Rattle.std.proofs.Common.{◌≡◌, ◌≤◌, ℕ, ◌+◌, ◌-◌, List, IfOk, length, map, take, drop, get_or, subst, ap, ◌∙◌, arith}
 use Rattle.scan_base.specs.declared.value.Value.{Value}
-use Rattle.batch_room.specs.Light.{Fits}
-use Rattle.batch_room.specs.Room.{share_among}
+use Rattle.array_select.specs.Fitting.{Fits}
+use Rattle.array_select.specs.Room.{share_among}
 use Rattle.grouping.specs.inside.Answering.{first_cell}
 use Rattle.grouping.specs.inside.Finishing.{groups_in}
 use Rattle.grouping.proofs.Finishing.{key_at, tallies_fit}

@@ -3,7 +3,7 @@ use Rattle.std.specs.List.{sum_by}
 use Rattle.std.proofs.lemmas.List.{length-map, length-take-le}
 use Rattle.arrow_schema.specs.declared.data_type.DataType.{DataType}
 use Rattle.arrays.specs.Batch.{AreLong}
-use Rattle.batch_room.specs.Room.{allowed, most_batch_texts}
+use Rattle.array_select.specs.Room.{allowed, most_batch_texts}
 use Rattle.join_batches.specs.Rows.{pair_row}
 use Rattle.join_batches.specs.Sides.{rows_at}
 use Rattle.join_batches.proofs.Light.{all_named}

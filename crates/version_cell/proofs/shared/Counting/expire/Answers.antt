@@ -2,7 +2,7 @@ use Rattle.std.proofs.Common.{rules}
 use Rattle.std.proofs.lemmas.Result.{err_from_is_err_and}
 use Rattle.version_log.specs.Log.{expired}
 use Rattle.version_cell.specs.Signed.{log_of}
-use Rattle.version_cell.proofs.Answering.{expired_behind, unexpired_behind}
+use Rattle.version_cell.proofs.Answering.{expired_behind}
 use Rattle.version_cell.proofs.Counts.{counted_more}
 use Rattle.version_cell.proofs.Logs.{longer_by_one}
 use Rattle.version_cell.proofs.shared.Counting.expire.Goals as goal

@@ -1,4 +1,4 @@
--- A column of texts that is coded.
+-- Inside: a column of texts that is coded.
 use Rattle.std.specs.Prelude.{◌≡◌, ℕ, ◌+◌, List, Option, None, Some, map, nat_eq, if◌then◌else◌}
 use Rattle.scan_base.specs.declared.value.Value.{Value}
 use Rattle.dictionary_answers.specs.Firsts.{firsts, bytes_in, AreLed}

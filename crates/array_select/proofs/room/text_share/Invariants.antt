@@ -1,7 +1,7 @@
 use Rattle.std.proofs.Common.{◌≡◌, ◌≤◌, take}
 use Rattle.std.specs.List.{sum_by}
-use Rattle.batch_room.specs.Room.{allowed}
-use Rattle.batch_room.proofs.room.text_share.Given as goal
+use Rattle.array_select.specs.Room.{allowed}
+use Rattle.array_select.proofs.room.text_share.Given as goal
 
 -- the columns of texts so far, which are no more than all
 abbrev pub invariant-loop-data_type : goal.invariant-loop-data_type

@@ -2,9 +2,9 @@ use Rattle.std.proofs.Common.{ap, ◌∙◌}
 use Rattle.std.specs.List.{sum_by}
 use Rattle.std.proofs.Math.Nat.{le-max_left}
 use Rattle.std.proofs.lemmas.List.{take_all}
-use Rattle.batch_room.specs.Room.{allowed}
-use Rattle.batch_room.proofs.Shares.{shared_out}
-use Rattle.batch_room.proofs.room.text_share.Goals as goal
+use Rattle.array_select.specs.Room.{allowed}
+use Rattle.array_select.proofs.Shares.{shared_out}
+use Rattle.array_select.proofs.room.text_share.Goals as goal
 
 pub returns-clause-all : goal.returns-clause-all
 returns-clause-all c =

@@ -7,7 +7,7 @@ use Rattle.arrow_schema.specs.declared.data_type.DataType.{DataType}
 use Rattle.arrays.specs.Column.{ColumnAt}
 use Rattle.array_select.specs.Fitting.{has_texts}
 use Rattle.array_select.specs.Room.{text_bytes_of}
-use Rattle.batch_room.specs.Room.{allowed, most_batch_cells, most_batch_texts, share_among}
+use Rattle.array_select.specs.Room.{allowed, most_batch_cells, most_batch_texts, share_among}
 
 -- a column of texts has a share, and any other has none
 shared : (share : ℕ) (texts : Bool) → (if texts then share else 0) ≡ (if texts then 1 else 0) * share
