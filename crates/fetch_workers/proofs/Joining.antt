@@ -191,4 +191,3 @@ module _ (patience : Patience) (morsels : MorselsAt) (first : ℕ) (one : Option
   joined_refused next last now fault gives = subst (λ (s : StreamAt). MayRefuse s fault) stands.same gives
 
 -- ---- a call
-

@@ -167,8 +167,8 @@ fn with_stream(alloc: Global, front: &[u8], letters: &'static [u8]) -> Result<Ve
     Ok(answer)
 }
 
-// What a query of two endpoints comes to in a format: the exit status, what is printed, and how many
-// connections were made and closed.
+// What a query of two endpoints comes to in a format: the exit status, what is printed, and how
+// many connections were made and closed.
 pub(crate) fn told_ahead<R>(rt: &R, alloc: Global, format: Format) -> io::Result<String>
 where
     R: Clock + RandomSource + Threads + Sync,
