@@ -8,7 +8,6 @@ pub mod group_workers;
 pub mod grouped;
 mod joined;
 mod merging;
-mod part;
 mod parts;
 mod work;
 mod workers;

@@ -220,11 +220,10 @@ impl<'x, 'r, S: ReadsPayloads> Reads<Ahead<'x>> for Reading<'x, 'r, S> {
 
     ghost use Rattle.std.specs.Prelude.{◌≡◌};
     ghost use Rattle.fetch_stream.specs.Morsels.{whole_stream};
-    ghost use Rattle.fetch_stream.specs.Streams.{StreamAt};
     ghost use Rattle.fetch_workers.specs.inside.Joined.{AnswersMorsels};
 
     ghost takes = { λ r right count. S.takes r.reader.now
-        × AnswersMorsels (λ (answer : StreamAt). answer) r.morsels.now right count };
+        × AnswersMorsels r.morsels.now right count };
 
     ghost reads = { λ old right count out new. (new.reader.ghost_name ≡ old.reader.ghost_name)
         × S.reads old.reader.now (whole_stream old.morsels.now) out new.reader.now };
