@@ -1,6 +1,7 @@
 pub mod Fetched
 pub mod Parts
 pub mod Passing
+pub mod Printed
 pub mod Even
 pub mod Spread
 pub mod InTurn
