@@ -9,7 +9,7 @@ ghost use Rattle.array_select.specs.Room.{allowed, most_batch_cells, most_batch_
 ghost use Rattle.array_select.specs.Room.{most_batch_texts, share_among};
 
 use crate::of_slots::{SlotRef, texts_fit};
-use arrow_schema::DataType;
+use arrow_types::DataType;
 use std::alloc::AllocError;
 
 /// As many rows as a batch has that is made of rows.

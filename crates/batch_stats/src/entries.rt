@@ -10,7 +10,7 @@ use crate::code_sets::{CodeSet, LastCodes, MOST_LAST, MarkedCodes, SortedCodes};
 use crate::stats::Stats;
 use crate::validity::first_valid;
 use arrays::{Cells, Code, Column, Indices};
-use arrow_schema::IntegerType;
+use arrow_types::IntegerType;
 use std::alloc::Global;
 
 // The statistics of a column by the codes of its slots, of which the one at `start` is the first

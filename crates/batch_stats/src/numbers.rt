@@ -14,7 +14,7 @@ ghost use Rattle.batch_stats.specs.inside.Slots.{ends_with};
 use crate::stats::Stats;
 use crate::validity::first_valid;
 use arrays::{Decimals, Element, Integer, Integers, Validity};
-use arrow_schema::IntegerType;
+use arrow_types::IntegerType;
 
 // How many slots are looked at together, where there are bits.
 const BLOCK_LEN: usize = 64;

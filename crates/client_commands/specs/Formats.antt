@@ -1,7 +1,7 @@
 -- What `query` writes of rows, in each of its formats.
 use Rattle.std.specs.Prelude.{◌≡◌, ℕ, List, [], ◌++◌, Option, Result, Ok, Err}
 use Rattle.std.specs.Io.KnownBytes.{Appends}
-use Rattle.arrow_schema.specs.declared.schema.Schema.{Schema}
+use Rattle.arrow_types.specs.declared.schema.Schema.{Schema}
 use Rattle.ipc_batch.specs.Said.{Rows}
 use Rattle.grpc_frame.specs.Ends.{AppendsBeginning}
 use Rattle.row_stream.specs.Stream.{numbered_schema, IsBrokenOff, IsWhole, SaysSome}

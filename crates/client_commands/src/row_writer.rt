@@ -1,7 +1,7 @@
 //! Who writes rows, in each format of `query`.
 
 use arrays::Batch;
-use arrow_schema::Schema;
+use arrow_types::Schema;
 use grpc_frame::Output;
 use scan_base::{Fault, HashSeed};
 use std::alloc::Global;
@@ -9,7 +9,7 @@ use std::alloc::Global;
 /// Rows of one schema, while they are written in a format.
 pub(crate) trait RowWriter: Drop {
     ghost use Rattle.std.specs.Prelude.{◌≡◌, ◌∷◌, [], MatchResult};
-    ghost use Rattle.arrow_schema.specs.Schema.{IsSchema};
+    ghost use Rattle.arrow_types.specs.Schema.{IsSchema};
     ghost use Rattle.arrays.specs.Typed.{AreOfTypes};
     ghost use Rattle.grpc_frame.specs.Ends.{CanFail, FailsByTransport};
     ghost use Rattle.row_stream.specs.Stream.{CountsTransport, CountsWrites};

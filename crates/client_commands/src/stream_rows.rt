@@ -2,7 +2,7 @@
 
 use crate::row_writer::RowWriter;
 use arrays::Batch;
-use arrow_schema::Schema;
+use arrow_types::Schema;
 use grpc_frame::Output;
 use row_stream::StreamWriter;
 use scan_base::{Fault, HashSeed};

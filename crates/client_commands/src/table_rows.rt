@@ -2,7 +2,7 @@
 
 use crate::row_writer::RowWriter;
 use arrays::Batch;
-use arrow_schema::Schema;
+use arrow_types::Schema;
 use grpc_frame::Output;
 use row_text::write_table;
 use scan_base::{Fault, HashSeed};
@@ -20,7 +20,7 @@ pub(crate) struct TableWriter {
 
 impl Model for TableWriter {
     ghost use Rattle.std.specs.Prelude.{[], All};
-    ghost use Rattle.arrow_schema.specs.Schema.{IsSchema};
+    ghost use Rattle.arrow_types.specs.Schema.{IsSchema};
     ghost use Rattle.arrays.specs.Typed.{AreOfTypes};
     ghost use Rattle.client_commands.specs.inside.Writers.{WriterAt};
 

@@ -2,7 +2,7 @@
 
 use crate::row_writer::RowWriter;
 use arrays::Batch;
-use arrow_schema::{Field, Schema};
+use arrow_types::{Field, Schema};
 use grpc_frame::{Outbox, Output};
 use row_text::{Lines, Records, send_batch, send_names};
 use scan_base::{Fault, HashSeed};

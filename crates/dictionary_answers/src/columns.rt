@@ -22,7 +22,7 @@ use crate::found::Found;
 use crate::indices::{Block, IndexColumn, valid_index};
 use crate::packed::{put_number, zeros};
 use arrays::{Cells, Code, Column, Indices, Layout};
-use arrow_schema::IntegerType;
+use arrow_types::IntegerType;
 use indexmap::IndexMap;
 use scan_base::HashSeed;
 use std::alloc::Global;

@@ -13,7 +13,7 @@ use crate::parcel::Parcel;
 use array_select::MOST_BATCH_ROWS;
 use arrays::Batch;
 use arrays::laws::batch_slices_keep_rows;
-use arrow_schema::Schema;
+use arrow_types::Schema;
 use std::alloc::AllocError;
 
 // A batch that is cut into messages.

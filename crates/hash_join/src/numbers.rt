@@ -5,7 +5,7 @@ ghost use Rattle.std.specs.List.{list_all};
 ghost use Rattle.arrays.specs.Batch.{BatchAt};
 
 use arrays::{Batch, Cells, Column, Integer, Integers, Layout};
-use arrow_schema::IntegerType;
+use arrow_types::IntegerType;
 
 // What takes numbers in.
 pub(crate) trait TakesNumbers {

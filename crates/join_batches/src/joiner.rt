@@ -17,7 +17,7 @@ use crate::left::LeftPairs;
 use crate::sides::Sides;
 use array_select::{MOST_BATCH_ROWS, next_most, tried_rows};
 use arrays::Batch;
-use arrow_schema::DataType;
+use arrow_types::DataType;
 use hash_join::{Build, Probe, RightSide};
 use scan_base::HashSeed;
 use std::alloc::{AllocError, Global};

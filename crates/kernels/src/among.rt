@@ -11,7 +11,7 @@ use crate::kernel::{Kernel, Slots};
 use crate::longs::of_test;
 use crate::word::Word;
 use arrays::Validity;
-use arrow_schema::IntegerType;
+use arrow_types::IntegerType;
 use scan_base::Truth;
 
 /// The packed numbers of `count` slots, and which of the slots are valid.

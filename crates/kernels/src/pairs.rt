@@ -17,7 +17,7 @@ use crate::pack::pack;
 use crate::part::ColumnPart;
 use crate::word::Word;
 use arrays::{Cells, Column, Element, Integer, Integers, Layout};
-use arrow_schema::IntegerType;
+use arrow_types::IntegerType;
 use scan_base::{Comparison, Truth};
 use std::simd::prelude::*;
 use std::simd::u8x64;

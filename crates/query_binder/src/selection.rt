@@ -16,7 +16,7 @@ ghost use Rattle.query_binder.specs.ResultSchema.{item_field, list_fields, selec
 use crate::answer::answer_field;
 use crate::grouped::bind_groups;
 use crate::scope::Scope;
-use arrow_schema::{Field, MAX_COLUMNS, Schema};
+use arrow_types::{Field, MAX_COLUMNS, Schema};
 use scan_base::{Fault, Items};
 use sql_query::{Expression, Query, Select, SelectItem};
 use std::alloc::Global;

@@ -2,7 +2,7 @@
 use Rattle.std.proofs.Common.{inl, inr, ℕ, List, [], ◌∷◌, Option, Result, Ok, Err, sym, subst, arith}
 use Rattle.scan_base.specs.declared.fault.Fault.{Fault}
 use Rattle.scan_base.specs.declared.fault.Fault.TheVariants.{LimitReached, OutOfMemory}
-use Rattle.arrow_schema.specs.declared.schema.Schema.{Schema}
+use Rattle.arrow_types.specs.declared.schema.Schema.{Schema}
 use Rattle.arrays.specs.Batch.{BatchAt}
 use Rattle.grpc_frame.specs.Ends.{CountsFailure, FailsByTransport}
 use Rattle.row_stream.specs.Stream.{CountsTransport, CountsWrites, IsCause, WritesCounted}

@@ -9,7 +9,7 @@ ghost use Rattle.row_text.specs.Records.{comma_writer, stands_in_quotes};
 use crate::format::{Cell, RowFormat};
 use crate::text::{Spelling, send_spelled};
 use crate::value::{TypedValue, ValueFormat, send_plain_day, send_value, type_shown};
-use arrow_schema::Field;
+use arrow_types::Field;
 use grpc_frame::{Outbox, Output};
 use scan_base::{Fault, ValueRef};
 

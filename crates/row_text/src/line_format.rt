@@ -8,7 +8,7 @@ ghost use Rattle.row_text.specs.Lines.{name_line};
 use crate::format::{Cell, RowFormat};
 use crate::text::{Escaped, Spelling, send_spelled};
 use crate::value::{TypedValue, ValueFormat, send_value, type_shown};
-use arrow_schema::Field;
+use arrow_types::Field;
 use calendar::date_shown;
 use grpc_frame::{Outbox, Output};
 use scan_base::{Fault, Text};

@@ -25,7 +25,7 @@ use crate::put::Put;
 use crate::snapshot::Snapshot;
 use crate::table::TableVersion;
 use arrays::laws::values_are_of_their_type;
-use arrow_schema::{MAX_NAME_BYTES, Schema};
+use arrow_types::{MAX_NAME_BYTES, Schema};
 use batch_stats::MeasuredBatch;
 use scan_base::{Fault, IfExists, Text};
 use std::alloc::{AllocError, Global};

@@ -4,7 +4,7 @@ use Rattle.std.specs.Prelude.{if◌then◌else◌, List, FitsSigned, refl}
 use Rattle.std.specs.Int.{w8, w16, w32, w64, w128, cast_signed}
 use Rattle.std.proofs.Math.Facts.{sfits_to_z}
 use Rattle.byteorder.specs.Numbers.{little_from-lt}
-use Rattle.arrow_schema.specs.declared.data_type.IntegerType.TheVariants.{Int8, Int16, Int32, Int64}
+use Rattle.arrow_types.specs.declared.data_type.IntegerType.TheVariants.{Int8, Int16, Int32, Int64}
 use Rattle.arrays.specs.Number.{AreBytes, element_at, integer_at, signed_from}
 use mir.Val.{sel}
 

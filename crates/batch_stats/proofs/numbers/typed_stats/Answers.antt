@@ -1,6 +1,6 @@
 use Rattle.std.proofs.Common.{◌≡◌, ℕ, ℤ, List, ap, ◌∙◌}
 use Rattle.std.proofs.Math.Nat.{le_trans, mul-le-mul_left}
-use Rattle.arrow_schema.specs.declared.data_type.IntegerType.{IntegerType}
+use Rattle.arrow_types.specs.declared.data_type.IntegerType.{IntegerType}
 use Rattle.arrays.specs.Number.{byte_width, element_at, integer_at}
 use Rattle.batch_stats.proofs.Numerals.{integers_are}
 use Rattle.batch_stats.proofs.numbers.typed_stats.Goals as goal

@@ -1,6 +1,6 @@
 use Rattle.std.proofs.Common.{◌≡◌, ℕ, List, IfOk, subst, sym, ap, ◌∙◌}
 use Rattle.scan_base.specs.declared.truth.Truth.{Truth}
-use Rattle.arrow_schema.specs.declared.data_type.IntegerType.{IntegerType}
+use Rattle.arrow_types.specs.declared.data_type.IntegerType.{IntegerType}
 use Rattle.arrays.specs.Number.{element_at, integer_at}
 use Rattle.arrays.specs.inside.Signed.{signed64}
 use Rattle.kernels.specs.Ranges.{long_at}

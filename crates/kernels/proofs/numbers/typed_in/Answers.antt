@@ -1,7 +1,7 @@
 use Rattle.std.proofs.Common.{◌≡◌, ℕ, ℤ, List, FitsSigned, IfOk, subst, sym, ap, ◌∙◌}
 use Rattle.std.specs.Int.{w128}
 use Rattle.scan_base.specs.declared.truth.Truth.{Truth}
-use Rattle.arrow_schema.specs.declared.data_type.IntegerType.{IntegerType}
+use Rattle.arrow_types.specs.declared.data_type.IntegerType.{IntegerType}
 use Rattle.arrays.specs.Number.{byte_width, element_at, integer_at}
 use Rattle.arrays.proofs.OfType.{integer_wide}
 use Rattle.kernels.proofs.Ranged.{integers_said}

@@ -1,6 +1,6 @@
 use Rattle.std.proofs.Common.{◌+◌, ℕ, List, ap, ◌∙◌}
 use Rattle.std.proofs.Math.Nat.{le_trans, mul-le-mul_left}
-use Rattle.arrow_schema.specs.declared.data_type.IntegerType.{IntegerType}
+use Rattle.arrow_types.specs.declared.data_type.IntegerType.{IntegerType}
 use Rattle.arrays.specs.Number.{byte_width, element_at, integer_at}
 use Rattle.kernels.proofs.pairs.fill_typed.Goals as goal
 

@@ -1,6 +1,6 @@
 use Rattle.std.proofs.Common.{[], subst}
 use Rattle.std.proofs.lemmas.Result.{err_from_is_err_and}
-use Rattle.arrow_schema.specs.declared.schema.Schema.{Schema}
+use Rattle.arrow_types.specs.declared.schema.Schema.{Schema}
 use Rattle.client_commands.specs.Formats.{WritesFront}
 use Rattle.client_commands.specs.inside.Writers.{WriterAt}
 use Rattle.client_commands.proofs.Texts.{names_not_sent, names_sent}
