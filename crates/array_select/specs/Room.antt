@@ -4,7 +4,7 @@ use Rattle.std.specs.List.{sum_by}
 use Rattle.arrow_types.specs.declared.data_type.DataType.{DataType}
 use Rattle.arrays.specs.Batch.{BatchAt}
 use Rattle.arrays.specs.Column.{ColumnAt, values_of}
-use Rattle.arrays.specs.Written.{texts_joined}
+use Rattle.arrays.specs.WrittenSlots.{texts_joined}
 use Rattle.array_select.specs.Fitting.{has_texts}
 
 -- as many rows as such a batch has

@@ -4,8 +4,9 @@ ghost use Rattle.std.specs.Prelude.{◌≡◌, ◌≤◌, ◌+◌, ◌*◌, ℕ,
 ghost use Rattle.arrow_types.specs.declared.data_type.IntegerType.{IntegerType};
 ghost use Rattle.arrow_types.specs.declared.data_type.IntegerType.TheVariants as integer;
 ghost use Rattle.arrays.specs.Number.{byte_width, element_at, integer_at, AreBytes};
-ghost use Rattle.arrays.specs.inside.Signed.{signed8, signed16, signed32, signed64, fits8, fits16};
-ghost use Rattle.arrays.specs.inside.Signed.{fits32, fits64, element_small};
+ghost use Rattle.arrays.specs.inside.SignedNumbers.{signed8, signed16, signed32, signed64, fits8};
+ghost use Rattle.arrays.specs.inside.SignedNumbers.{fits16};
+ghost use Rattle.arrays.specs.inside.SignedNumbers.{fits32, fits64, element_small};
 
 use byteorder::{ByteOrder, LittleEndian};
 use num_traits::FixedWidth;

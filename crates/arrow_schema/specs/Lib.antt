@@ -2,5 +2,5 @@ pub mod Fields
 pub mod Header
 pub mod Message
 pub mod Says
-pub mod Seen
-pub mod Written
+pub mod MessageView
+pub mod WrittenHeader

@@ -18,7 +18,7 @@ use Rattle.arrow_types.specs.DataType.{bit_width, is_signed}
 use Rattle.arrow_types.specs.Schema.{same_dictionary, IsSchema}
 use Rattle.arrow_schema.specs.Fields.{is_bare}
 use Rattle.arrow_schema.specs.Header.{schema_of}
-use Rattle.arrow_schema.specs.Written.{type_number}
+use Rattle.arrow_schema.specs.WrittenHeader.{type_number}
 
 -- a bool is true where its byte is not 0
 abbrev pub HasFlag : TableAt → ℕ → Bool → Type 0

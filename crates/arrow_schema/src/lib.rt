@@ -1,7 +1,7 @@
 //! Arrow's schemas and message headers, read or written.
 #![tactic(auto)]
 
-mod borrowed;
+mod borrowed_fields;
 pub mod header;
 pub mod laws;
 pub mod reading;

@@ -12,9 +12,9 @@ ghost use Rattle.arrow_schema.specs.Fields.{decimal_of, date_of, type_kind, type
 ghost use Rattle.arrow_schema.specs.Fields.{childless, index_of, dictionary_of, encoded, field_in};
 ghost use Rattle.arrow_schema.specs.Header.{field_at, fields_of};
 ghost use Rattle.arrow_schema.specs.Header.{is_schema, schema_message_of, schema_in, schema_of};
-ghost use Rattle.arrow_schema.specs.Seen.{message_seen};
+ghost use Rattle.arrow_schema.specs.MessageView.{message_seen};
 
-use crate::borrowed::{BorrowedField, owned};
+use crate::borrowed_fields::{BorrowedField, owned};
 use crate::header::{HeaderKind, Message, read_message, table_wanted};
 use arrayvec::ArrayVec;
 use arrow_types::{DataType, DictionaryEncoding, IntegerType, MAX_COLUMNS, MAX_NAME_BYTES, Schema};

@@ -7,7 +7,7 @@ ghost use Rattle.arrays.specs.Number.{element_at};
 ghost use Rattle.arrays.specs.Validity.{where_valid, HasBits};
 ghost use Rattle.arrays.specs.declared.layout.Layout.TheVariants.{Integers as IntegersLayout};
 ghost use Rattle.arrays.specs.declared.layout.Layout.TheVariants.{Decimals as DecimalsLayout};
-ghost use Rattle.batch_stats.specs.Held.{ends_held, AreSlots, IsStatsOf};
+ghost use Rattle.batch_stats.specs.HeldStats.{ends_held, AreSlots, IsStatsOf};
 ghost use Rattle.batch_stats.specs.Stats.{with_value};
 ghost use Rattle.batch_stats.specs.inside.Slots.{ends_with};
 
@@ -21,7 +21,7 @@ const BLOCK_LEN: usize = 64;
 
 /// Packed numbers in slots, and which of the slots are valid.
 #[derive(Clone, Copy, Drop)]
-pub(crate) struct Packed<'a> {
+pub(crate) struct PackedNumbers<'a> {
     pub(crate) values: &'a [u8],
     pub(crate) validity: &'a Validity,
 }
@@ -94,7 +94,7 @@ impl<E: Element> NumberRange<E> {
 
     // The same with those that are valid, one after another. Only of a number that changes an end,
     // its bit is looked at.
-    fn with_each_valid(self, packed: &Packed<'_>, from: usize, to: usize) -> NumberRange<E>
+    fn with_each_valid(self, packed: &PackedNumbers<'_>, from: usize, to: usize) -> NumberRange<E>
         requires room { E.WIDTH * to ≤ length packed.now.values.now }
         requires bits { HasBits packed.now.validity.now to }
         ensures { Some (Int (E.value result.least), Int (E.value result.greatest))
@@ -114,7 +114,7 @@ impl<E: Element> NumberRange<E> {
 
     // The same of a block of slots. In most blocks no number changes an end, and so no bit is
     // looked at.
-    fn with_block(self, packed: &Packed<'_>, from: usize, to: usize) -> NumberRange<E>
+    fn with_block(self, packed: &PackedNumbers<'_>, from: usize, to: usize) -> NumberRange<E>
         requires room { E.WIDTH * to ≤ length packed.now.values.now }
         requires bits { HasBits packed.now.validity.now to }
         ensures { Some (Int (E.value result.least), Int (E.value result.greatest))
@@ -129,7 +129,7 @@ impl<E: Element> NumberRange<E> {
     }
 
     // The same of all blocks.
-    fn with_valid(self, packed: &Packed<'_>, from: usize, to: usize) -> NumberRange<E>
+    fn with_valid(self, packed: &PackedNumbers<'_>, from: usize, to: usize) -> NumberRange<E>
         requires room { E.WIDTH * to ≤ length packed.now.values.now }
         requires bits { HasBits packed.now.validity.now to }
         ensures { Some (Int (E.value result.least), Int (E.value result.greatest))
@@ -147,7 +147,7 @@ impl<E: Element> NumberRange<E> {
     }
 
     // The same: without a test of each slot, where there are no bits.
-    fn with_slots(self, packed: &Packed<'_>, from: usize, to: usize) -> NumberRange<E>
+    fn with_slots(self, packed: &PackedNumbers<'_>, from: usize, to: usize) -> NumberRange<E>
         requires room { E.WIDTH * to ≤ length packed.now.values.now }
         requires bits { HasBits packed.now.validity.now to }
         ensures { Some (Int (E.value result.least), Int (E.value result.greatest))
@@ -163,7 +163,7 @@ impl<E: Element> NumberRange<E> {
 }
 
 // The statistics of the slots `from` up to, not with, `to`.
-fn numbers_stats<E: Element>(packed: &Packed<'_>, from: usize, to: usize) -> Stats
+fn numbers_stats<E: Element>(packed: &PackedNumbers<'_>, from: usize, to: usize) -> Stats
     requires ordered { from ≤ to }
     requires room { E.WIDTH * to ≤ length packed.now.values.now }
     requires bits { HasBits packed.now.validity.now to }
@@ -196,7 +196,7 @@ fn typed_stats<E: Integer>(cells: &Integers<'_>, first: usize, len: usize) -> St
         result }
 {
     let _count = cells.len();
-    let packed = Packed {
+    let packed = PackedNumbers {
         values: cells.values(),
         validity: cells.validity(),
     };
@@ -228,7 +228,7 @@ pub(crate) fn decimals_stats(cells: &Decimals<'_>, first: usize, len: usize) -> 
         result }
 {
     let _count = cells.len();
-    let packed = Packed {
+    let packed = PackedNumbers {
         values: cells.values(),
         validity: cells.validity(),
     };

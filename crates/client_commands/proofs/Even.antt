@@ -2,7 +2,7 @@
 use native.Mathlib.Omega.{arith}
 use Rattle.std.proofs.Common.{◌≡◌, ◌<◌, ◌≤◌, ◌⊎◌, inl, inr, ℕ, zero, suc, ◌+◌, ◌-◌, ◌*◌, ◌/◌, subst}
 use Rattle.std.proofs.Math.Nat.{add-mul, mul-add, mul-le-mul_right, div-mul-le_self, lt-div-mul-add, div-le_self}
-use Rattle.client_commands.specs.Spread.{IsEvenPart}
+use Rattle.client_commands.specs.ParallelFetch.{IsEvenPart}
 use Rattle.client_commands.specs.inside.Turns.{IsLeft}
 
 -- after a front that has so many parts stands one part more: the quotient, rounded down

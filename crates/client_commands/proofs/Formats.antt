@@ -5,7 +5,7 @@ use Rattle.arrow_types.specs.declared.data_type.DataType.{DataType}
 use Rattle.arrow_types.specs.declared.data_type.DataType.TheVariants.{Integer, Utf8, Bool as Flags, Decimal128, Date, Dictionary}
 use Rattle.arrow_types.specs.declared.schema.Field.{Field}
 use Rattle.arrow_types.specs.Answer.{answered_at}
-use Rattle.ipc_batch.specs.Said.{Rows}
+use Rattle.ipc_batch.specs.SaidRows.{Rows}
 use Rattle.scan_base.specs.Value.{same_flag}
 use Rattle.table_versions.specs.Table.{same_field, same_fields, same_name, same_type}
 use Rattle.row_stream.specs.Stream.{numbered_from}

@@ -8,7 +8,7 @@ use Rattle.std.proofs.lemmas.Grind.{flat_map-append}
 use Rattle.scan_base.specs.declared.fault.Fault.{Fault}
 use Rattle.scan_base.specs.declared.fault.Fault.TheVariants.{Transport}
 use Rattle.flight_proto.specs.FlightInfo.{EndpointSaid}
-use Rattle.flight_proto.specs.Wanted.{Wanted}
+use Rattle.flight_proto.specs.InfoCommand.{InfoCommand}
 use Rattle.flight_client.specs.Stream.{StreamAt}
 use Rattle.row_stream.specs.Stream.{CountsTransport}
 use Rattle.command_line.specs.declared.request.Format.{Format}
@@ -17,13 +17,13 @@ use Rattle.client_calls.specs.declared.failure.Failure.TheVariants.{Found}
 use Rattle.client_calls.specs.Outcome.{Line}
 use Rattle.command_ends.specs.Network.{Ends}
 use Rattle.command_ends.specs.Printing.{Said}
-use Rattle.client_commands.specs.declared.lost.Lost.{Lost}
-use Rattle.client_commands.specs.declared.lost.Lost.TheVariants.{Failed, Unconnected}
+use Rattle.client_commands.specs.declared.fetch_failure.FetchFailure.{FetchFailure}
+use Rattle.client_commands.specs.declared.fetch_failure.FetchFailure.TheVariants.{Failed, Unconnected}
 use Rattle.client_commands.specs.Fetching.{FetchesEach}
 use Rattle.client_commands.specs.Formats.{WritesAll}
 use Rattle.client_commands.specs.InTurn.{IsWrittenWhole, RunsCame, StopsAmong, StopsInTurn}
 use Rattle.client_commands.specs.Lines.{opened_line}
-use Rattle.client_commands.specs.Spread.{EachGives, FetchesOver, Giving, IsAsked, IsEvenPart, IsRun}
+use Rattle.client_commands.specs.ParallelFetch.{EachGives, FetchesOver, Giving, IsAsked, IsEvenPart, IsRun}
 use Rattle.client_commands.specs.Streaming.{ComeSome, WhyNoMore, WritesUpTo, rows_held}
 use Rattle.client_commands.specs.inside.Turns.{IsLeft, IsTurn, IsTurnBy, WritesRuns, WritesAndBegins, StreamsOrNot}
 use Rattle.client_commands.specs.inside.Writers.{WriterAt}
@@ -216,10 +216,10 @@ module _ (format : Format) where
       all_next = append_assoc it.done (handle ∷ []) left ∙ it.all
 
       module _ {V : Type 0} (view : V → OpenAt) (out : Said) where
-        abbrev right : V → Result V Lost
+        abbrev right : V → Result V FetchFailure
         right passing = Ok passing
 
-        abbrev wrong : Lost → Result V Lost
+        abbrev wrong : FetchFailure → Result V FetchFailure
         wrong lost = Err lost
 
         pub relayed : (passing : V) → WritesAndBegins Gives format view next handle it.turn.streams (it.turn.endpoint ∷ others) it.turn.line begun (Ok passing) out
@@ -236,7 +236,7 @@ module _ (format : Format) where
               remains = part_left (length endpoints) (length handles + 1) (length behind) (length left) (length (next ∷ more)) (length rest) left_next part cut_next;
             }
 
-        pub relay_lost : (lost : Lost) → WritesAndBegins Gives format view next handle it.turn.streams (it.turn.endpoint ∷ others) it.turn.line begun (Err lost) out → WritesRuns Gives format first handles endpoints (Err lost) begun out
+        pub relay_lost : (lost : FetchFailure) → WritesAndBegins Gives format view next handle it.turn.streams (it.turn.endpoint ∷ others) it.turn.line begun (Err lost) out → WritesRuns Gives format first handles endpoints (Err lost) begun out
         relay_lost (Failed failure) (inl (same, is, stops)) =
             let e : wrong (Failed failure) ≡ wrong (Failed same) = is in
             let failed : same ≡ failure = cc in
@@ -343,8 +343,8 @@ module _ (format : Format) where
   -- ---- all
 
   -- it was asked, and the runs were passed on or not
-  pub streams_by : {N : Type 0} (Gives : Giving N) (Shares : N → N → N → Type 0) (streams : ℕ) (wanted : Wanted) (old new : N) (first last : Line) (endpoints parts : List EndpointSaid) (handles : List N)
-      (result : Result (Unit {0}) Lost) (out out' : Said) → parts ≡ endpoints → IsAsked Shares streams wanted old new first last endpoints handles → WritesRuns Gives format last handles parts result out out'
+  pub streams_by : {N : Type 0} (Gives : Giving N) (Shares : N → N → N → Type 0) (streams : ℕ) (wanted : InfoCommand) (old new : N) (first last : Line) (endpoints parts : List EndpointSaid) (handles : List N)
+      (result : Result (Unit {0}) FetchFailure) (out out' : Said) → parts ≡ endpoints → IsAsked Shares streams wanted old new first last endpoints handles → WritesRuns Gives format last handles parts result out out'
       → StreamsOrNot Gives Shares format streams wanted old new result first last out out'
   streams_by Gives Shares streams wanted old new first last endpoints parts handles (Ok done) out out' same is_asked passes =
       record { endpoints = endpoints; handles = handles; asked = is_asked; comes = subst (λ (l : List EndpointSaid). WritesRuns Gives format last handles l (Ok done) out out') same passes }

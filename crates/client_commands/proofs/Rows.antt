@@ -9,9 +9,9 @@ use Rattle.scan_base.specs.Reading.{◌>>=◌}
 use Rattle.scan_base.specs.Lists.{each}
 use Rattle.arrow_types.specs.declared.schema.Schema.{Schema}
 use Rattle.arrays.specs.Batch.{BatchAt, rows_of}
-use Rattle.arrays.specs.Typed.{AreOfTypes}
+use Rattle.arrays.specs.TypedLayouts.{AreOfTypes}
 use Rattle.ipc_batch.specs.State.{Known, State}
-use Rattle.ipc_batch.specs.Said.{HasColumns, Rows}
+use Rattle.ipc_batch.specs.SaidRows.{HasColumns, Rows}
 use Rattle.ipc_batch.proofs.Lengths.{fine, both}
 use Rattle.table_versions.specs.Table.{Table, same_fields}
 use Rattle.table_versions.proofs.Alike.{typed_alike}
@@ -27,13 +27,13 @@ use Rattle.command_line.specs.declared.request.Format.{Format}
 use Rattle.client_calls.specs.declared.failure.Failure.{Failure}
 use Rattle.client_calls.specs.declared.failure.Failure.TheVariants.{Found}
 use Rattle.client_calls.specs.Outcome.{Line}
-use Rattle.client_calls.specs.Taking.{FetchAt, FetchGives, HasNoSchema, IsBegun, IsFetching, KeepsSchema, ended, with_batch}
+use Rattle.client_calls.specs.Taking.{FetchAt, FetchGives, HasNoSchema, IsBegun, IsFetchReader, KeepsSchema, ended, with_batch}
 use Rattle.command_ends.specs.Printing.{Said}
 use Rattle.client_commands.specs.Fetching.{FetchesEach, FetchesOne, FetchStops}
 use Rattle.client_commands.specs.Lines.{CanCount}
 use Rattle.client_commands.specs.Streaming.{ComeSome, SaysFirst, SaysSchema, Stops, WhyNoMore, WritesBroken, WritesSome, WritesUpTo, rows_held}
 use Rattle.client_commands.specs.Formats.{BreaksRows, WritesFront}
-use Rattle.client_commands.specs.inside.Writers.{BeginsRows, Breaks, HasTaken, IsCauseIn, SendsRows, WriterAt, written_schema}
+use Rattle.client_commands.specs.inside.Writers.{BeginsRows, Breaks, HasTakenRows, IsCauseIn, SendsRows, WriterAt, written_schema}
 use Rattle.client_commands.specs.inside.OneStream.{BreaksAtFailure, EndsAt, FitsSchema, HasCome, IsUnderWay, StopsWithin, WhyUnwritten}
 use Rattle.client_commands.specs.inside.Runs.{AreSent, ChecksColumns, Follows, HaveCome, IsOpen, Opens, WritesNext, HandoverAt, OpenAt, StopsInRun}
 use Rattle.client_commands.proofs.Fetched.{front_more, quiet, split_at}
@@ -265,13 +265,13 @@ module _ (format : Format) where
 
   -- a stream that begins has the columns of the schema that is written
   pub at_begin : (ticket : Payload) (schema own : Schema) (rows : Rows) (start : Option (List ℕ)) (begun : Line) (now : FetchAt) (out : Said) (writer : WriterAt) (it : IsBegun ticket now.state begun now.line) → (it.known).schema ≡ own
-      → same_fields schema.fields own.fields ≡ true → HasTaken format schema rows start out.bytes writer → IsUnderWay format ticket schema own rows start begun it.stream now out writer
+      → same_fields schema.fields own.fields ≡ true → HasTakenRows format schema rows start out.bytes writer → IsUnderWay format ticket schema own rows start begun it.stream now out writer
   at_begin ticket schema own rows start begun now out writer it is same so = record {
     fetching = it.fetching;
     state = it.state_is;
     says = (it.known, it.state_is ∙ it.has_schema, is);
     same = same;
-    so = subst (λ (all : Rows). HasTaken format schema all start out.bytes writer) (sym (ap (λ (more : Rows). rows ++ more) it.no_rows ∙ append-nil rows)) so;
+    so = subst (λ (all : Rows). HasTakenRows format schema all start out.bytes writer) (sym (ap (λ (more : Rows). rows ++ more) it.no_rows ∙ append-nil rows)) so;
   }
 
   module _ (ticket : Payload) (schema own : Schema) (rows : Rows) (start : Option (List ℕ)) (begun : Line) (stream : StreamAt) (now : FetchAt) (out : Said) (writer : WriterAt)
@@ -283,12 +283,12 @@ module _ (format : Format) where
       state = passing.state;
       says = passing.says;
       same = passing.same;
-      so = subst (λ (o : Said). HasTaken format schema (rows ++ stream.rows) start o.bytes writer') (sym still)
-          (subst (λ (w : WriterAt). HasTaken format schema (rows ++ stream.rows) start out.bytes w) (sym same) passing.so);
+      so = subst (λ (o : Said). HasTakenRows format schema (rows ++ stream.rows) start o.bytes writer') (sym still)
+          (subst (λ (w : WriterAt). HasTakenRows format schema (rows ++ stream.rows) start out.bytes w) (sym same) passing.so);
     }
 
     -- a batch came
-    module _ (state : State) (line : Line) (batch : BatchAt) (fetching : IsFetching ticket (with_batch stream state (Some batch)) begun line) (kept : KeepsSchema now.state state) where
+    module _ (state : State) (line : Line) (batch : BatchAt) (fetching : IsFetchReader ticket (with_batch stream state (Some batch)) begun line) (kept : KeepsSchema now.state state) where
       abbrev with_it : StreamAt
       with_it = with_batch stream state (Some batch)
 
@@ -299,11 +299,11 @@ module _ (format : Format) where
       pub batch_passed : (next : FetchAt) (out' : Said) (after : WriterAt) → next.state ≡ state → next.line ≡ line
           → SendsRows {A = Unit {0}} (Ok tt) format batch writer after out out' → IsUnderWay format ticket schema own rows start begun with_it next out' after
       batch_passed next out' after state_is line_is sends = record {
-        fetching = subst (λ (l : Line). IsFetching ticket with_it begun l) (sym line_is) fetching;
+        fetching = subst (λ (l : Line). IsFetchReader ticket with_it begun l) (sym line_is) fetching;
         state = sym state_is;
         says = says;
         same = passing.same;
-        so = subst (λ (all : Rows). HasTaken format schema all start out'.bytes after) (append_assoc rows stream.rows (rows_of batch)) (sends schema (rows ++ stream.rows) start passing.so);
+        so = subst (λ (all : Rows). HasTakenRows format schema all start out'.bytes after) (append_assoc rows stream.rows (rows_of batch)) (sends schema (rows ++ stream.rows) start passing.so);
       }
 
       -- or not
@@ -368,7 +368,7 @@ module _ (format : Format) where
   )
 
   module _ (before : List StreamAt) (behind : List EndpointSaid) (endpoint : EndpointSaid) (line : Line) where
-    came_next : (stream : StreamAt) (some : Line) → IsFetching endpoint.ticket stream line some → ComeSome (endpoint ∷ behind) (stream ∷ []) line some
+    came_next : (stream : StreamAt) (some : Line) → IsFetchReader endpoint.ticket stream line some → ComeSome (endpoint ∷ behind) (stream ∷ []) line some
     came_next stream some fetching = inl (refl, fetching)
 
     came_whole : (stream : StreamAt) (some : Line) → FetchesOne endpoint (Ok stream) line some → ComeSome (endpoint ∷ behind) (stream ∷ []) line some
@@ -490,7 +490,7 @@ module _ (format : Format) where
 
   -- its schema was sent, and nothing else
   pub opens_first : (endpoint : EndpointSaid) (line : Line) (begun out : Said) (now : OpenAt) (schema : Schema) (it : IsBegun endpoint.ticket now.fetch.state line now.fetch.line) → it.known.schema ≡ schema
-      → HasTaken format schema [] begun.bytes out.bytes now.writer → out.failures ≡ begun.failures → IsOpen format [] endpoint.ticket line begun now out
+      → HasTakenRows format schema [] begun.bytes out.bytes now.writer → out.failures ≡ begun.failures → IsOpen format [] endpoint.ticket line begun now out
   opens_first endpoint line begun out now schema it is begins quiet =
       record { begins = it; schema = schema; follows = is; so = begins; quiet = quiet }
 
@@ -549,7 +549,7 @@ module _ (format : Format) where
         schema = at.schema;
         says = first_says before at.schema at.begins.known.schema at.follows passed.stream passed.says;
         join = joins before at.schema at.begins.known.schema at.follows passed.stream (says_ended passed.stream at.begins.known.schema passed.ended passed.says);
-        so = subst (λ (rows : Rows). HasTaken format at.schema rows begun.bytes out.bytes after.writer) (sym (rows_more before passed.stream)) passed.so;
+        so = subst (λ (rows : Rows). HasTakenRows format at.schema rows begun.bytes out.bytes after.writer) (sym (rows_more before passed.stream)) passed.so;
         quiet = passed.quiet ∙ at.quiet;
       };
     }

@@ -6,7 +6,7 @@ use Rattle.flight_client.specs.Stream.{StreamAt}
 use Rattle.client_calls.specs.Outcome.{Line}
 use Rattle.command_ends.specs.Network.{Ends}
 use Rattle.client_commands.specs.Lines.{opened_line}
-use Rattle.client_commands.specs.Spread.{Run, IsEvenPart, EachGives, GivesAtLast, SharesEach}
+use Rattle.client_commands.specs.ParallelFetch.{Run, IsEvenPart, EachGives, GivesAtLast, SharesHandles}
 
 abbrev pub run_of : List EndpointSaid → List StreamAt → Line → Line → Run
 run_of endpoints streams old new = record { endpoints = endpoints; streams = streams; old = old; new = new }
@@ -28,7 +28,7 @@ IsEven whole many run = IsEvenPart whole many (length run.endpoints)
 
 -- one handle more
 pub shares_more : {N : Type 0} (Shares : N → N → N → Type 0) (handles : List N) (handle : N) (old middle new : N)
-    → SharesEach Shares handles old middle → Shares middle handle new → SharesEach Shares (handles ++ handle ∷ []) old new
+    → SharesHandles Shares handles old middle → Shares middle handle new → SharesHandles Shares (handles ++ handle ∷ []) old new
 shares_more {N} Shares [] handle old middle new same one = (new, subst (λ (from : N). Shares from handle new) same one, refl)
 shares_more Shares (h ∷ hs) handle old middle new shared one = (shared.0, shared.1, shares_more Shares hs handle shared.0 middle new shared.2 one)
 

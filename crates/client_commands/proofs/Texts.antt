@@ -7,7 +7,7 @@ use Rattle.scan_base.specs.declared.fault.Fault.{Fault}
 use Rattle.scan_base.specs.declared.fault.Fault.TheVariants.{Transport}
 use Rattle.arrow_types.specs.declared.schema.Schema.{Schema}
 use Rattle.arrays.specs.Batch.{BatchAt, rows_of}
-use Rattle.ipc_batch.specs.Said.{Rows}
+use Rattle.ipc_batch.specs.SaidRows.{Rows}
 use Rattle.grpc_frame.specs.Ends.{AppendsBeginning, CountsFailure, FailsByTransport, Writes}
 use Rattle.grpc_frame.specs.Sending.{NotSent, Sends, Sent}
 use Rattle.grpc_frame.proofs.Sending.{begun_alone, both_sent, flushed, second_not_sent}
@@ -17,7 +17,7 @@ use Rattle.command_line.specs.declared.request.Format.{Format}
 use Rattle.command_line.specs.declared.request.Format.TheVariants as form
 use Rattle.command_ends.specs.Printing.{Said}
 use Rattle.client_commands.specs.Formats.{SaysAll, SaysBroken, SaysFront, SaysPart, WritesFront}
-use Rattle.client_commands.specs.inside.Writers.{Breaks, EndsRows, HasRows, HasTaken, IsCauseIn, IsText, SendsRows, WriterAt, layout_of, text_of, written_schema}
+use Rattle.client_commands.specs.inside.Writers.{Breaks, EndsRows, HasRows, HasTakenRows, IsCauseIn, IsText, SendsRows, WriterAt, layout_of, text_of, written_schema}
 
 -- ---- failures
 
@@ -89,15 +89,15 @@ module _ (format : Format) (is : IsText format) where
       ∙ sym (append_assoc (names_row (layout_of format schema.fields) schema.fields) (flat_map (values_row (layout_of format schema.fields)) rows) (flat_map (values_row (layout_of format schema.fields)) more))
 
   -- the columns that are written are those of the schema
-  same_schema : (schema : Schema) (rows : Rows) (start now : Option (List ℕ)) (writer : WriterAt) → HasTaken format schema rows start now writer → writer.schema ≡ schema
+  same_schema : (schema : Schema) (rows : Rows) (start now : Option (List ℕ)) (writer : WriterAt) → HasTakenRows format schema rows start now writer → writer.schema ≡ schema
   same_schema schema rows start now writer taken = taken.written ∙ written_text format is schema
 
   -- what was sent of them
-  was_sent : (schema : Schema) (rows : Rows) (start now : Option (List ℕ)) (writer : WriterAt) → HasTaken format schema rows start now writer → Sent start now [] writer.waiting (text_of format schema rows)
+  was_sent : (schema : Schema) (rows : Rows) (start now : Option (List ℕ)) (writer : WriterAt) → HasTakenRows format schema rows start now writer → Sent start now [] writer.waiting (text_of format schema rows)
   was_sent schema rows start now writer taken =
       subst (λ (s : Schema). Sent start now [] writer.waiting (text_of format s rows)) (same_schema schema rows start now writer taken) (text_had format is writer rows start now taken.has)
 
-  is_taken : (schema : Schema) (rows : Rows) (start now : Option (List ℕ)) (writer : WriterAt) → writer.schema ≡ schema → Sent start now [] writer.waiting (text_of format schema rows) → HasTaken format schema rows start now writer
+  is_taken : (schema : Schema) (rows : Rows) (start now : Option (List ℕ)) (writer : WriterAt) → writer.schema ≡ schema → Sent start now [] writer.waiting (text_of format schema rows) → HasTakenRows format schema rows start now writer
   is_taken schema rows start now writer same sent = record {
     written = same ∙ sym (written_text format is schema);
     has = has_text format is writer rows start now (subst (λ (s : Schema). Sent start now [] writer.waiting (text_of format s rows)) (sym same) sent);
@@ -106,7 +106,7 @@ module _ (format : Format) (is : IsText format) where
   -- ---- the names
 
   pub names_sent : (schema : Schema) (a b : Option (List ℕ)) (before : List ℕ) (writer : WriterAt) → before ≡ [] → writer.schema ≡ schema
-      → Sent a b before writer.waiting (names_row (layout_of format schema.fields) schema.fields) → HasTaken format schema [] a b writer
+      → Sent a b before writer.waiting (names_row (layout_of format schema.fields) schema.fields) → HasTakenRows format schema [] a b writer
   names_sent schema a b before writer none same sent =
       let names = names_row (layout_of format schema.fields) schema.fields in
       is_taken schema [] a b writer same

@@ -9,7 +9,7 @@ use Rattle.scan_base.specs.declared.fault.Fault.{Fault}
 use Rattle.scan_base.specs.declared.fault.Fault.TheVariants.{LimitReached, OutOfMemory, Transport}
 use Rattle.arrow_types.specs.declared.schema.Schema.{Schema}
 use Rattle.arrays.specs.Batch.{BatchAt, rows_of}
-use Rattle.ipc_batch.specs.Said.{Rows}
+use Rattle.ipc_batch.specs.SaidRows.{Rows}
 use Rattle.grpc_frame.specs.Ends.{AppendsBeginning, Writes}
 use Rattle.row_stream.specs.Stream.{numbered_schema, BreaksOff, IsCause, WritesBeginning, WritesStream}
 use Rattle.row_stream.specs.Writing.{Begins, SendsBatch, SoFar}
@@ -18,7 +18,7 @@ use Rattle.row_text.specs.Tables.{table_of}
 use Rattle.command_line.specs.declared.request.Format.TheVariants as form
 use Rattle.command_ends.specs.Printing.{Said}
 use Rattle.client_commands.specs.Formats.{BreaksRows, WritesAll}
-use Rattle.client_commands.specs.inside.Writers.{BeginsRows, Breaks, EndsRows, HasTaken, IsCauseIn, SendsRows, WriterAt, stream_state}
+use Rattle.client_commands.specs.inside.Writers.{BeginsRows, Breaks, EndsRows, HasTakenRows, IsCauseIn, SendsRows, WriterAt, stream_state}
 
 -- ---- an Arrow IPC stream
 
@@ -75,7 +75,7 @@ batch_held batch before after out out' still same more = λ schema rows start ta
 }
 
 -- nothing is written where it breaks off
-pub table_breaks : (schema : Schema) (rows taken_rows : Rows) (start : Option (List ℕ)) (writer : WriterAt) (out out' : Said) → out' ≡ out → HasTaken form.Table schema taken_rows start out.bytes writer
+pub table_breaks : (schema : Schema) (rows taken_rows : Rows) (start : Option (List ℕ)) (writer : WriterAt) (out out' : Said) → out' ≡ out → HasTakenRows form.Table schema taken_rows start out.bytes writer
     → BreaksRows form.Table schema rows start out'.bytes out.failures out'.failures
 table_breaks schema rows taken_rows start writer out out' still taken = (
   [],

@@ -2,7 +2,7 @@
 use Rattle.std.specs.Prelude.{◌≡◌, ℕ, List, [], ◌++◌, Option, Result, Ok, Err}
 use Rattle.std.specs.Io.KnownBytes.{Appends}
 use Rattle.arrow_types.specs.declared.schema.Schema.{Schema}
-use Rattle.ipc_batch.specs.Said.{Rows}
+use Rattle.ipc_batch.specs.SaidRows.{Rows}
 use Rattle.grpc_frame.specs.Ends.{AppendsBeginning}
 use Rattle.row_stream.specs.Stream.{numbered_schema, IsBrokenOff, IsWhole, SaysSome}
 use Rattle.row_stream.specs.Stream.{WritesCounted}

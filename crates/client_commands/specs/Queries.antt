@@ -1,6 +1,6 @@
 -- What a query does.
 use Rattle.std.specs.Prelude.{◌≡◌, ◌⊎◌, ℕ, List, Some, None, Result, Ok, Err}
-use Rattle.flight_proto.specs.Wanted.{Wanted, rows_of}
+use Rattle.flight_proto.specs.InfoCommand.{InfoCommand, rows_of}
 use Rattle.client_calls.specs.declared.failure.Failure.{Failure}
 use Rattle.client_calls.specs.Outcome.{Line}
 use Rattle.command_line.specs.declared.request.Format.{Format}
@@ -12,7 +12,7 @@ use Rattle.client_commands.specs.Commands.{Desk, EndsBy}
 use Rattle.client_commands.specs.Handles.{Giving}
 use Rattle.client_commands.specs.InTurn.{Streams, StreamsUnconnected}
 use Rattle.client_commands.specs.Lines.{opened_line}
-use Rattle.client_commands.specs.Told.{TellsFailure}
+use Rattle.client_commands.specs.CallOutcome.{TellsFailure}
 
 -- nothing is said where all was written, and else the failure
 abbrev pub TellsEnd : Result (Unit {0}) Failure → ExitStatus → Said → Said → Type 0
@@ -22,7 +22,7 @@ TellsEnd (Err failure) status old new = TellsFailure failure status old new
 -- the network gave the first connection, and the rows that are wanted, fetched over up to `streams`
 -- connections, were written as they came
 pub record IsPrinted {N : Type 0} (Gives : Giving N) (Shares : N → N → N → Type 0)
-    (format : Format) (streams : ℕ) (wanted : Wanted)
+    (format : Format) (streams : ℕ) (wanted : InfoCommand)
     (before middle behind : N) (status : ExitStatus) (old new : Desk) : Type 0 where
   pub ends : Ends
   pub given : Gives before (Some ends) middle
@@ -35,7 +35,7 @@ pub record IsPrinted {N : Type 0} (Gives : Giving N) (Shares : N → N → N →
 -- the network gave the first connection, and no further one where it was needed: what is written
 -- breaks off, and why is said
 pub record IsCutOff {N : Type 0} (Gives : Giving N) (Shares : N → N → N → Type 0)
-    (format : Format) (streams : ℕ) (wanted : Wanted)
+    (format : Format) (streams : ℕ) (wanted : InfoCommand)
     (before middle behind : N) (status : ExitStatus) (old new : Desk) : Type 0 where
   pub ends : Ends
   pub given : Gives before (Some ends) middle
@@ -48,7 +48,8 @@ pub record IsCutOff {N : Type 0} (Gives : Giving N) (Shares : N → N → N → 
 
 -- the rows that are wanted are written in a format as they come; or the network gave no connection,
 -- and why is said
-abbrev pub PrintsRows : {N : Type 0} → Giving N → (N → N → N → Type 0) → Format → ℕ → Wanted → N →
+abbrev pub PrintsRows : {N : Type 0} → Giving N → (N → N → N → Type 0) → Format → ℕ → InfoCommand →
+    N →
     N → ExitStatus → Desk → Desk → Type 0
 PrintsRows {N} Gives Shares format streams wanted before behind status old new =
     (Gives before None behind × ((cause : List ℕ) × EndsBy (cause_lines cause) status old new))

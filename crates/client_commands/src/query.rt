@@ -6,12 +6,12 @@ ghost use Rattle.client_commands.specs.Commands.{desk_of};
 ghost use Rattle.client_commands.specs.Queries.{Queries};
 ghost use Rattle.client_commands.specs.inside.Turns.{TellsStreamed};
 
+use crate::call_outcome::end_by_failure;
 use crate::connecting::{end_unconnected, open};
-use crate::in_turn::stream_rows;
-use crate::lost::Lost;
+use crate::fetch_failure::FetchFailure;
 use crate::row_writer::RowWriter;
+use crate::run_relay::stream_rows;
 use crate::table_rows::TableWriter;
-use crate::telling::end_by_failure;
 use crate::text_rows::{LineText, RecordText, TextWriter};
 use command_ends::{Connect, ExitStatus};
 use command_line::Format;
@@ -23,7 +23,7 @@ use std::thread::Threads;
 
 /// A query, and where the server listens.
 #[derive(Clone, Copy)]
-pub struct Querying<'a> {
+pub struct QueryCommand<'a> {
     /// The server's port.
     pub port: u16,
     /// The most connections over which its rows are fetched.
@@ -53,7 +53,7 @@ pub fn query<T: Threads, C: Connect + Drop + Send, W: Output, E: Output>(
     network: &mut C,
     output: &mut W,
     faults: &mut E,
-    query: Querying<'_>,
+    query: QueryCommand<'_>,
 ) -> ExitStatus
 where
     C::Reader: Send,
@@ -92,7 +92,7 @@ fn query_by<T: Threads, C: Connect + Drop + Send, W: Output, E: Output, F: RowWr
     network: &mut C,
     output: &mut W,
     faults: &mut E,
-    query: Querying<'_>,
+    query: QueryCommand<'_>,
 ) -> ExitStatus
 where
     C::Reader: Send,
@@ -117,7 +117,7 @@ fn end_by_streaming<E: Output>(
     alloc: Global,
     faults: &mut E,
     port: u16,
-    streamed: Result<(), Lost>,
+    streamed: Result<(), FetchFailure>,
 ) -> ExitStatus
     requires { CanFail (E.failures faults.old) }
     ensures { TellsStreamed streamed result (said_of E.Output faults.old)
@@ -125,7 +125,7 @@ fn end_by_streaming<E: Output>(
 {
     match streamed {
         Ok(()) => ExitStatus::Done,
-        Err(Lost::Failed(failure)) => end_by_failure(faults, failure),
-        Err(Lost::Unconnected(error)) => end_unconnected(alloc, faults, port, &error),
+        Err(FetchFailure::Failed(failure)) => end_by_failure(faults, failure),
+        Err(FetchFailure::Unconnected(error)) => end_unconnected(alloc, faults, port, &error),
     }
 }

@@ -10,7 +10,7 @@ use std::alloc::Global;
 pub(crate) trait RowWriter: Drop {
     ghost use Rattle.std.specs.Prelude.{◌≡◌, ◌∷◌, [], MatchResult};
     ghost use Rattle.arrow_types.specs.Schema.{IsSchema};
-    ghost use Rattle.arrays.specs.Typed.{AreOfTypes};
+    ghost use Rattle.arrays.specs.TypedLayouts.{AreOfTypes};
     ghost use Rattle.grpc_frame.specs.Ends.{CanFail, FailsByTransport};
     ghost use Rattle.row_stream.specs.Stream.{CountsTransport, CountsWrites};
     ghost use Rattle.command_line.specs.declared.request.Format.{Format};

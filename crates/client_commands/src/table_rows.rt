@@ -21,7 +21,7 @@ pub(crate) struct TableWriter {
 impl Model for TableWriter {
     ghost use Rattle.std.specs.Prelude.{[], All};
     ghost use Rattle.arrow_types.specs.Schema.{IsSchema};
-    ghost use Rattle.arrays.specs.Typed.{AreOfTypes};
+    ghost use Rattle.arrays.specs.TypedLayouts.{AreOfTypes};
     ghost use Rattle.client_commands.specs.inside.Writers.{WriterAt};
 
     ghost Value = { WriterAt };

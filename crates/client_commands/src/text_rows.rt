@@ -4,7 +4,7 @@ use crate::row_writer::RowWriter;
 use arrays::Batch;
 use arrow_types::{Field, Schema};
 use grpc_frame::{Outbox, Output};
-use row_text::{Lines, Records, send_batch, send_names};
+use row_text::{CsvFormat, Lines, send_batch, send_names};
 use scan_base::{Fault, HashSeed};
 use std::alloc::Global;
 use std::marker::PhantomData;
@@ -103,7 +103,7 @@ impl TextFormat for RecordText {
         outbox: &mut Outbox,
         fields: &[Field],
     ) -> Result<(), Fault> {
-        send_names(&Records { fields }, writer, outbox, fields)
+        send_names(&CsvFormat { fields }, writer, outbox, fields)
     }
 
     fn send_rows<W: Output>(
@@ -112,7 +112,7 @@ impl TextFormat for RecordText {
         fields: &[Field],
         batch: &Batch,
     ) -> Result<(), Fault> {
-        send_batch(&Records { fields }, writer, outbox, batch)
+        send_batch(&CsvFormat { fields }, writer, outbox, batch)
     }
 
     ghost text = { tt };

@@ -6,7 +6,7 @@ use Rattle.arrow_types.specs.declared.data_type.IntegerType.TheVariants.{Int8, I
 use Rattle.arrow_types.specs.declared.data_type.DataType.{DataType}
 use Rattle.arrow_types.specs.declared.data_type.DataType.TheVariants.{Integer, Utf8, Bool, Decimal128, Date, Dictionary}
 use Rattle.csv_columns.specs.declared.word.TheConstants.{TYPES}
-use Rattle.csv_columns.specs.Spelled.{word_of}
+use Rattle.csv_columns.specs.SpelledColumns.{word_of}
 
 -- ---- the bytes of a word
 

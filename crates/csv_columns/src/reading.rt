@@ -5,9 +5,9 @@ ghost use Rattle.std.specs.Prelude.{◌∷◌, [], drop, length, take, slice_ind
 ghost use Rattle.csv.specs.Records.{fields_of, trimmed};
 ghost use Rattle.arrow_types.specs.Schema.{IsField, IsSchema};
 ghost use Rattle.arrow_types.specs.DataType.{encoding_of};
-ghost use Rattle.csv_columns.specs.Left.{records_in};
-ghost use Rattle.csv_columns.specs.Refused.{WhyNoColumn, WhyNoColumns, WhyNoFields};
-ghost use Rattle.csv_columns.specs.Spelled.{AreSpelledAs, Spells, mark_of, spelled};
+ghost use Rattle.csv_columns.specs.TextRecords.{records_in};
+ghost use Rattle.csv_columns.specs.Refusals.{WhyNoColumn, WhyNoColumns, WhyNoFields};
+ghost use Rattle.csv_columns.specs.SpelledColumns.{AreSpelledAs, Spells, mark_of, spelled};
 ghost use Rattle.csv_columns.specs.inside.Marks.{IsUnmarked};
 
 use crate::name::name_of;

@@ -4,7 +4,7 @@ ghost use Rattle.std.specs.Prelude.{◌≡◌, ◌≢◌, None, IfSome, MatchOpt
 ghost use Rattle.arrow_types.specs.DataType.{encoding_of};
 ghost use Rattle.arrow_types.specs.declared.data_type.DataType.{DataType};
 ghost use Rattle.arrow_types.specs.declared.data_type.DataType.TheVariants as type;
-ghost use Rattle.csv_columns.specs.Spelled.{word_of};
+ghost use Rattle.csv_columns.specs.SpelledColumns.{word_of};
 
 use arrow_types::{DataType, IntegerType};
 

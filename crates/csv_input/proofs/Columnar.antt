@@ -10,8 +10,8 @@ use Rattle.scan_base.specs.declared.value.Value.TheVariants.{Null}
 use Rattle.scan_base.specs.declared.value.ValueRef.{ValueRef}
 use Rattle.arrow_types.specs.declared.schema.Field.{Field}
 use Rattle.arrays.specs.Column.{ColumnAt}
-use Rattle.arrays.specs.Typed.{IsValueOf}
-use Rattle.csv_columns.specs.Said.{cell_in}
+use Rattle.arrays.specs.TypedLayouts.{IsValueOf}
+use Rattle.csv_columns.specs.FieldValues.{cell_in}
 use Rattle.csv_input.specs.inside.Chunks.{ChunkAt, field_in}
 use Rattle.csv_input.specs.inside.Cells.{AreCells, AreColumnsIn, HasWrongColumn, IsColumnIn}
 

@@ -6,7 +6,7 @@ use Rattle.scan_base.specs.declared.value.Value.TheVariants.{Null, Bool, Int, Te
 use Rattle.scan_base.specs.declared.value.ValueRef.{ValueRef}
 use Rattle.arrow_types.specs.declared.data_type.IntegerType.TheVariants.{Int32}
 use Rattle.arrow_types.specs.declared.data_type.DataType.TheVariants as type
-use Rattle.arrays.specs.Typed.{IsValueOf}
+use Rattle.arrays.specs.TypedLayouts.{IsValueOf}
 use Rattle.csv_input.proofs.Alike.{AllOf}
 
 day_number : (value : Value) → IsValueOf type.Date value → IsValueOf (type.Integer Int32) value

@@ -11,9 +11,9 @@ use Rattle.scan_base.specs.declared.value.Value.TheVariants.{Null}
 use Rattle.scan_base.specs.declared.value.ValueRef.{ValueRef}
 use Rattle.arrow_types.specs.declared.schema.Field.{Field}
 use Rattle.arrow_types.specs.declared.schema.Schema.{Schema}
-use Rattle.arrays.specs.Written.{text_bytes, texts_joined}
+use Rattle.arrays.specs.WrittenSlots.{text_bytes, texts_joined}
 use Rattle.std.specs.List.{flat_map}
-use Rattle.csv_columns.specs.Said.{cell_in}
+use Rattle.csv_columns.specs.FieldValues.{cell_in}
 use Rattle.csv_input.specs.Long.{AreTooLong, WhyNoMessage, WhyNoneTold, text_said, texts_said}
 use Rattle.csv_input.specs.Rows.{AreRight, IsRight}
 use Rattle.csv_input.specs.inside.Batches.{HasTaken}

@@ -2,7 +2,7 @@
 
 ghost use Rattle.std.specs.Prelude.{◌≡◌, ◌<◌, None, All, IfErr, IfOk, MatchOption, length};
 ghost use Rattle.arrow_types.specs.DataType.{encoding_of};
-ghost use Rattle.arrays.specs.Typed.{AreOfTypes};
+ghost use Rattle.arrays.specs.TypedLayouts.{AreOfTypes};
 ghost use Rattle.csv_input.specs.inside.Cells.{AreColumnsIn, HasWrongColumn, WhyNoColumns};
 ghost use Rattle.csv_input.specs.inside.Batches.{IsBatchOf};
 

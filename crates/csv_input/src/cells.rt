@@ -4,7 +4,7 @@ ghost use Rattle.std.specs.Prelude.{◌≡◌, ◌≤◌, ◌<◌, ◌^◌, None
 ghost use Rattle.std.specs.Prelude.{MatchOption, length, map};
 ghost use Rattle.scan_base.specs.Value.{value_of};
 ghost use Rattle.arrow_types.specs.DataType.{encoding_of};
-ghost use Rattle.arrays.specs.Written.{text_bytes, texts_joined};
+ghost use Rattle.arrays.specs.WrittenSlots.{text_bytes, texts_joined};
 ghost use Rattle.csv_input.specs.inside.Cells.{AreCells, HasWrongCell, IsColumnIn, WhyNoColumn};
 
 use crate::chunk::Chunk;

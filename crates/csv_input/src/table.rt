@@ -9,7 +9,7 @@ ghost use Rattle.csv_input.specs.inside.Batches.{TakesBatch};
 
 use crate::batch::batch_in;
 use crate::message::batch_message;
-use crate::taking::next_chunk;
+use crate::record_chunks::next_chunk;
 use arrays::Batch;
 use arrow_types::{Field, Schema};
 use csv_columns::Records;

@@ -26,8 +26,8 @@ impl Model for CsvText {
     ghost use Rattle.std.specs.Prelude.{◌≡◌, None, All};
     ghost use Rattle.arrow_types.specs.Schema.{IsSchema};
     ghost use Rattle.arrow_types.specs.DataType.{encoding_of};
-    ghost use Rattle.csv_columns.specs.Left.{records_in};
-    ghost use Rattle.csv_columns.specs.Found.{rows_behind};
+    ghost use Rattle.csv_columns.specs.TextRecords.{records_in};
+    ghost use Rattle.csv_columns.specs.FittingColumns.{rows_behind};
     ghost use Rattle.csv_input.specs.Rows.{AreRight};
     ghost use Rattle.csv_input.specs.Input.{TextAt};
 

@@ -3,13 +3,13 @@
 #![tactic(auto)]
 
 pub mod batches;
-mod built;
 mod coding;
 mod columns;
-pub mod dressed;
-mod found;
+mod distinct_texts;
+pub mod dressed_batch;
+mod index_columns;
 mod indices;
-mod packed;
+mod packed_numbers;
 
 pub use crate::batches::{CodedBatch, ColumnDictionary, code_batch};
-pub use crate::dressed::{DressedBatch, dress};
+pub use crate::dressed_batch::{DressedBatch, dress};

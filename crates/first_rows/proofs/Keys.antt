@@ -4,7 +4,7 @@ use Rattle.std.specs.Cmp.{IsEquivalence}
 use Rattle.std.proofs.Common.{refl, ap, ◌∙◌}
 use Rattle.std.proofs.lemmas.Bool.{and_parts}
 use Rattle.scan_base.specs.declared.value.Value.{Value}
-use Rattle.typed_plan.specs.Grouped.{same_value, same_key}
+use Rattle.typed_plan.specs.GroupedRows.{same_value, same_key}
 use Rattle.first_rows.specs.Keys.{value_sound, value_self, either_way}
 
 -- keys that are the same are equal

@@ -14,11 +14,11 @@ ghost use Rattle.flight_proto.specs.Expiry.{floor_bytes};
 ghost use Rattle.fetch_stream.specs.Fetches.{FetchAt};
 ghost use Rattle.fetch_stream.specs.Streams.{Opens};
 ghost use Rattle.row_sources.specs.declared.turn.Patience.TheVariants.{Endless};
-ghost use Rattle.flight_core.specs.Answered.{AnsweredBy, IsReplyOf, FitsMessages};
+ghost use Rattle.flight_core.specs.StepAnswer.{AnsweredBy, IsReplyOf, FitsMessages};
 ghost use Rattle.flight_core.specs.Asked.{Asked};
 ghost use Rattle.flight_core.specs.Machine.{ReplyTo};
 ghost use Rattle.version_log.specs.Log.{Log};
-ghost use Rattle.flight_calls.specs.Owed.{answer_bytes, last_status};
+ghost use Rattle.flight_calls.specs.OwedAnswers.{answer_bytes, last_status};
 ghost use Rattle.flight_calls.specs.Sends.{SendsReply, SendsRest};
 
 use crate::setting::Setting;
@@ -178,13 +178,13 @@ fn make_stream<W: Output, X: Executor>(
     ensures stream { IfOk result (λ made. IfSome made (λ stream. stream.stream ≡ opening)) }
     ensures bytes { SendsAll result sender.old sender.new [] }
 {
-    let mut watching = Watching {
+    let mut watching = OutboxWatch {
         sender,
         rows: 0,
         failed: None,
     };
     let made = made_stream(setting, opening, &mut watching);
-    let Watching {
+    let OutboxWatch {
         sender,
         rows: _,
         failed,
@@ -216,17 +216,17 @@ fn made_stream<X: Executor, L: Watches>(
 
 // Where what was sent is written while a stream is made, how many rows were looked at since then,
 // and why the other end is gone.
-struct Watching<'s, 'w, W: Output> {
+struct OutboxWatch<'s, 'w, W: Output> {
     sender: &'s mut Sender<'w, W>,
     rows: usize,
     failed: Option<Fault>,
 }
 
 // After so many rows what was sent is written, and the other end is looked at.
-impl<'s, 'w, W: Output> Watches for Watching<'s, 'w, W> {
+impl<'s, 'w, W: Output> Watches for OutboxWatch<'s, 'w, W> {
     ghost use Rattle.std.specs.Prelude.{◌≡◌, IsSome, None, refl};
     ghost use Rattle.std.proofs.Common.{◌∙◌};
-    ghost use Rattle.flight_calls.specs.Watched.{IsWatched, still_watched, watched_again};
+    ghost use Rattle.flight_calls.specs.WatchedOutbox.{IsWatched, still_watched, watched_again};
 
     ghost ready = { λ w. w.failed ≡ None };
 
@@ -292,11 +292,11 @@ fn send_rest<W: Output, X: Executor>(
     ensures counted { KeepsCount result sender.old sender.new }
 {
     let slow = stream.comes_slowly();
-    let mut sending = Sending { sender, slow };
+    let mut sending = PayloadSender { sender, slow };
     let sent = setting
         .executor
         .execute(setting.alloc, stream, &mut sending);
-    let Sending { sender, slow: _ } = sending;
+    let PayloadSender { sender, slow: _ } = sending;
     take_back(sender);
     sent
 }
@@ -307,7 +307,7 @@ fn take_back<T>(lent: &mut T)
 {}
 
 // Where payloads are sent, and whether a parcel may come late after another one.
-struct Sending<'s, 'w, W: Output> {
+struct PayloadSender<'s, 'w, W: Output> {
     sender: &'s mut Sender<'w, W>,
     slow: bool,
 }
@@ -320,7 +320,7 @@ struct Pace {
 }
 
 // Each payload is sent before the next one is asked for, and after the last one the Status.
-impl<'s, 'w, W: Output> ReadsPayloads for Sending<'s, 'w, W> {
+impl<'s, 'w, W: Output> ReadsPayloads for PayloadSender<'s, 'w, W> {
     ghost use Rattle.std.specs.Prelude.{◌≡◌};
     ghost use Rattle.flight_calls.specs.Sends.{SendsStream};
 

@@ -4,7 +4,7 @@ ghost use Rattle.std.specs.Prelude.{◌≡◌, ◌≤◌, ◌+◌, ◌*◌, fals
 ghost use Rattle.arrays.specs.Number.{byte_width, integer_at};
 ghost use Rattle.hash_join.specs.Words.{passing_word};
 
-use crate::look::Look;
+use crate::number_look::Look;
 use arrays::Integer;
 use bitmap::Bits;
 

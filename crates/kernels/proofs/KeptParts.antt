@@ -5,7 +5,7 @@ use Rattle.std.proofs.lemmas.List.FromFn.{length-map-range_with_len, get_or-map-
 use Rattle.scan_base.specs.declared.truth.Truth.{Truth}
 use Rattle.scan_base.specs.declared.truth.Truth.TheVariants.{True, False, Unknown}
 use Rattle.scan_base.specs.Truth.{truth_and, keeps}
-use Rattle.kernels.specs.Kept.{bit_among, Keeps}
+use Rattle.kernels.specs.KeptRows.{bit_among, Keeps}
 
 keeps_and : (b : Bool) (s t : Truth) → ((b && keeps s) && keeps t) ≡ (b && keeps (truth_and s t))
 keeps_and false s t = refl

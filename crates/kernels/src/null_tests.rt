@@ -7,10 +7,10 @@ ghost use Rattle.arrays.specs.Validity.{HasBits};
 ghost use Rattle.kernels.specs.Nulls.{TellsNulls, null_truth};
 ghost use Rattle.kernels.specs.Parts.{IsPart, said_of};
 
-use crate::kernel::{Kernel, Slots, mask_by};
+use crate::column_part::ColumnPart;
+use crate::kernel::{Kernel, SlotTruths, mask_by};
 use crate::longs::of_test;
 use crate::mask::Mask;
-use crate::part::ColumnPart;
 use crate::word::Word;
 use arrays::{Cells, Layout, Validity};
 use scan_base::Truth;
@@ -71,7 +71,7 @@ fn null_slots<'a>(validity: &'a Validity, count: usize) -> NullSlots<'a>
     NullSlots { validity, count }
 }
 
-impl<'a> Slots for NullSlots<'a> {
+impl<'a> SlotTruths for NullSlots<'a> {
     ghost use Rattle.kernels.specs.Nulls.{null_truth};
 
     ghost count = { λ s. s.count };

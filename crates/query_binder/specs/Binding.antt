@@ -5,7 +5,7 @@ use Rattle.table_versions.specs.Database.{Database}
 use Rattle.typed_plan.specs.Meaning.{meaning}
 use Rattle.query_binder.specs.ResultSchema.{result_schema}
 use Rattle.typed_plan.specs.Plan.{PlanAt, plan_rows}
-use Rattle.typed_plan.specs.Typed.{IsOver}
+use Rattle.typed_plan.specs.TypedPlans.{IsOver}
 
 -- the plan gives the rows that the query means, on each range of the first place
 abbrev pub Means : PlanAt → Sentence → Database → Type 0

@@ -16,7 +16,7 @@ mod value;
 mod walk;
 mod widths;
 
-pub use crate::csv_format::Records;
+pub use crate::csv_format::CsvFormat;
 pub use crate::format::{Cell, RowFormat};
 pub use crate::line_format::{Lines, write_names};
 pub use crate::table::write_table;

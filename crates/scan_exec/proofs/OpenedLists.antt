@@ -1,8 +1,8 @@
 -- The lists of places, one by one.
 use Rattle.std.proofs.Common.{◌≡◌, ◌≤◌, ◌<◌, ℕ, zero, suc, ◌+◌, List, [], ◌∷◌, ◌++◌, length, map, drop, get_or, sym, ap, ◌∙◌, arith, append_assoc, append-nil}
 use Rattle.std.proofs.lemmas.List.{drop_all, length-map}
-use Rattle.batch_skipping.specs.declared.opened.OpenedList.{OpenedList}
-use Rattle.batch_skipping.specs.Opened.{numbered_batches}
+use Rattle.batch_skipping.specs.declared.opened_batches.OpenedList.{OpenedList}
+use Rattle.batch_skipping.specs.OpenedBatches.{numbered_batches}
 
 abbrev pub numbers_of : List OpenedList → List (List ℕ)
 numbers_of lists = map (λ (list : OpenedList). list.numbers.items) lists

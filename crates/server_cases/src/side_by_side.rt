@@ -3,9 +3,9 @@
 
 ghost use Rattle.std.specs.Prelude.{◌<◌, ◌≡◌};
 
-use crate::breaking::push_written;
 use crate::clients::STREAM;
-use client_commands::query::{Querying, query};
+use crate::stopped_queries::push_written;
+use client_commands::query::{QueryCommand, query};
 use command_ends::Connect;
 use command_line::Format;
 use grpc_frame::{Input, MemoryInput, MemoryOutput};
@@ -25,7 +25,7 @@ pub(crate) const INFO: &[u8] =
 
 // An input of which the reads after so many free ones wait until two connections are made, for
 // 10,000 turns at most. It counts that it was closed.
-struct Gated<'a, R> {
+struct GatedInput<'a, R> {
     rt: &'a R,
     input: MemoryInput<'a>,
     closed: &'a AtomicU64,
@@ -33,9 +33,9 @@ struct Gated<'a, R> {
     free: u32,
 }
 
-impl<R> Drop for Gated<'_, R> {
+impl<R> Drop for GatedInput<'_, R> {
     fn drop(self) {
-        let Gated {
+        let GatedInput {
             rt: _,
             input: _,
             closed,
@@ -60,7 +60,7 @@ fn wait_for<R: Clock>(rt: &R, made: &AtomicU64) {
     made.fetch_add(LATE, Ordering::SeqCst);
 }
 
-impl<R: Clock> Input for Gated<'_, R> {
+impl<R: Clock> Input for GatedInput<'_, R> {
     ghost use Rattle.std.specs.Prelude.{Some, length};
     ghost use Rattle.grpc_frame.specs.Ends.{tape_of};
 
@@ -86,7 +86,7 @@ impl<R: Clock> Input for Gated<'_, R> {
 // A network of two connections. The reads of the first one after the schema of its stream, which
 // has come with the first 13 pieces, wait until the second one is made.
 #[derive(Drop)]
-struct Two<'a, R> {
+struct ConnectionPair<'a, R> {
     rt: &'a R,
     alloc: Global,
     first: &'a [u8],
@@ -95,8 +95,8 @@ struct Two<'a, R> {
     made: &'a AtomicU64,
 }
 
-impl<'a, R: Clock> Connect for Two<'a, R> {
-    type Reader = Gated<'a, R>;
+impl<'a, R: Clock> Connect for ConnectionPair<'a, R> {
+    type Reader = GatedInput<'a, R>;
 
     type Writer = MemoryOutput;
 
@@ -105,7 +105,7 @@ impl<'a, R: Clock> Connect for Two<'a, R> {
     ghost shares = { λ _ _ _. Unit {0} };
 
     fn share(&mut self) -> Self {
-        Two {
+        ConnectionPair {
             rt: self.rt,
             alloc: self.alloc,
             first: self.first,
@@ -115,7 +115,7 @@ impl<'a, R: Clock> Connect for Two<'a, R> {
         }
     }
 
-    fn connect(&mut self, _port: u16) -> io::Result<(Gated<'a, R>, MemoryOutput)> {
+    fn connect(&mut self, _port: u16) -> io::Result<(GatedInput<'a, R>, MemoryOutput)> {
         let place = self.made.fetch_add(1, Ordering::SeqCst);
         let (bytes, free) = match place {
             0 => (self.first, 14),
@@ -123,7 +123,7 @@ impl<'a, R: Clock> Connect for Two<'a, R> {
             _ => return Err(io::Error::from(ErrorKind::NotConnected)),
         };
         let input = MemoryInput::new(bytes).in_pieces_of(INFO.len().max(1));
-        let gated = Gated {
+        let gated = GatedInput {
             rt: self.rt,
             input,
             closed: self.closed,
@@ -177,7 +177,7 @@ where
     let second = with_stream(alloc, b"", b"vwxyz")?;
     let closed = AtomicU64::new(0);
     let made = AtomicU64::new(0);
-    let mut network = Two {
+    let mut network = ConnectionPair {
         rt,
         alloc,
         first: &first,
@@ -195,7 +195,7 @@ where
 fn told_query<R>(
     rt: &R,
     alloc: Global,
-    network: &mut Two<'_, R>,
+    network: &mut ConnectionPair<'_, R>,
     format: Format,
 ) -> io::Result<String>
 where
@@ -203,7 +203,7 @@ where
 {
     let mut output = MemoryOutput::new(alloc);
     let mut faults = MemoryOutput::new(alloc);
-    let querying = Querying {
+    let querying = QueryCommand {
         port: 1,
         streams: 3,
         sql: "SELECT s FROM t",

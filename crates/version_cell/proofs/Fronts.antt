@@ -8,7 +8,7 @@ use Rattle.scan_base.specs.declared.fault.Fault.{Fault}
 use Rattle.table_versions.specs.Database.{Put}
 use Rattle.version_log.specs.Log.{Log, added, Begins}
 use Rattle.version_cell.specs.Puts.{IsAnswered}
-use Rattle.version_cell.specs.Signed.{Signed, GoesOn}
+use Rattle.version_cell.specs.SignedEntries.{SignedEntry, GoesOn}
 
 -- of two beginnings of one list the shorter begins the longer
 pub prefix_shorter : {A : Type 0} (xs ys zs : List A) → IsPrefix xs zs → IsPrefix ys zs → length xs ≤ length ys → IsPrefix xs ys
@@ -29,7 +29,7 @@ prefix_whole (x ∷ xs) (y ∷ ys) p le =
     let rest = prefix_whole xs ys (p.0, cc (p.1)) (omega arith) in cc (p.1, rest)
 
 -- of two beginnings of one log, the one that is found no longer begins the other
-pub either_begins : (b : Bool) (xs ys zs : List Signed) (m n : ℕ) → m ≡ length xs → n ≡ length ys → IsPrefix xs zs → IsPrefix ys zs → leb m n ≡ b
+pub either_begins : (b : Bool) (xs ys zs : List SignedEntry) (m n : ℕ) → m ≡ length xs → n ≡ length ys → IsPrefix xs zs → IsPrefix ys zs → leb m n ≡ b
     → MatchBool b (GoesOn xs ys) (GoesOn ys xs)
 either_begins true xs ys zs m n e f p q is = let front = prefix_shorter xs ys zs p q (grind (arith, nat_tests)) in (front.0, sym front.1)
 either_begins false xs ys zs m n e f p q is = let front = prefix_shorter ys xs zs q p (grind (arith, nat_tests)) in (front.0, sym front.1)

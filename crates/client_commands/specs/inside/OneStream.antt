@@ -5,7 +5,7 @@ use Rattle.scan_base.specs.declared.fault.Fault.{Fault}
 use Rattle.scan_base.specs.declared.fault.Fault.TheVariants.{LimitReached, OutOfMemory, Transport}
 use Rattle.arrow_types.specs.declared.schema.Schema.{Schema}
 use Rattle.ipc_batch.specs.State.{Known, State}
-use Rattle.ipc_batch.specs.Said.{Rows}
+use Rattle.ipc_batch.specs.SaidRows.{Rows}
 use Rattle.table_versions.specs.Table.{same_fields}
 use Rattle.flight_client.specs.Stream.{StreamAt}
 use Rattle.flight_info.specs.Payloads.{Payload}
@@ -14,11 +14,11 @@ use Rattle.command_line.specs.declared.request.Format.TheVariants.{Arrow}
 use Rattle.client_calls.specs.declared.failure.Failure.{Failure}
 use Rattle.client_calls.specs.declared.failure.Failure.TheVariants.{Found}
 use Rattle.client_calls.specs.Outcome.{Line}
-use Rattle.client_calls.specs.Taking.{FetchAt, FetchGives, IsFetching}
+use Rattle.client_calls.specs.Taking.{FetchAt, FetchGives, IsFetchReader}
 use Rattle.command_ends.specs.Printing.{Said}
 use Rattle.client_commands.specs.Formats.{BreaksRows, WritesFront}
 use Rattle.client_commands.specs.Streaming.{HasLongRow, SaysSchema}
-use Rattle.client_commands.specs.inside.Writers.{Breaks, HasTaken, WriterAt}
+use Rattle.client_commands.specs.inside.Writers.{Breaks, HasTakenRows, WriterAt}
 
 -- ---- one stream
 
@@ -27,11 +27,11 @@ use Rattle.client_commands.specs.inside.Writers.{Breaks, HasTaken, WriterAt}
 pub record IsUnderWay (format : Format) (ticket : Payload) (schema own : Schema) (rows : Rows)
     (start : Option (List ℕ)) (begun : Line) (stream : StreamAt)
     (now : FetchAt) (out : Said) (writer : WriterAt) : Type 0 where
-  pub fetching : IsFetching ticket stream begun now.line
+  pub fetching : IsFetchReader ticket stream begun now.line
   pub state : stream.state ≡ now.state
   pub says : SaysSchema stream own
   pub same : same_fields schema.fields own.fields ≡ true
-  pub so : HasTaken format schema (rows ++ stream.rows) start out.bytes writer
+  pub so : HasTakenRows format schema (rows ++ stream.rows) start out.bytes writer
 
 -- what comes of a stream has the columns of the schema that is written
 abbrev pub FitsSchema : State → Schema → Type 0
@@ -60,7 +60,7 @@ pub record HasCome (format : Format) (ticket : Payload) (schema own : Schema) (r
   pub ended : stream.end ≡ Some (Ok tt)
   pub state : stream.state ≡ now.state
   pub says : SaysSchema stream own
-  pub so : HasTaken format schema (rows ++ stream.rows) start out'.bytes writer
+  pub so : HasTakenRows format schema (rows ++ stream.rows) start out'.bytes writer
   pub quiet : out'.failures ≡ out.failures
 
 -- what was written where this end found a fault: a write that failed is counted, and at another one
@@ -78,7 +78,7 @@ pub record StopsWithin (format : Format) (ticket : Payload) (schema own : Schema
     (failure : Failure) (now : Line) (out out' : Said) : Type 0 where
   pub stream : StreamAt
   pub some : Line
-  pub fetching : IsFetching ticket stream begun some
+  pub fetching : IsFetchReader ticket stream begun some
   pub says : SaysSchema stream own
   pub why : (FetchGives ticket (Err failure) begun now
       × BreaksRows format schema

@@ -16,7 +16,7 @@ use Rattle.command_ends.specs.Printing.{Said}
 use Rattle.client_commands.specs.Fetching.{FetchesEach}
 use Rattle.client_commands.specs.Streaming.{ComeSome, SaysFirst, Stops, rows_held}
 use Rattle.client_commands.specs.inside.OneStream.{FitsSchema, HasOther}
-use Rattle.client_commands.specs.inside.Writers.{Breaks, HasTaken, WriterAt}
+use Rattle.client_commands.specs.inside.Writers.{Breaks, HasTakenRows, WriterAt}
 
 -- ---- a stream after others
 
@@ -36,7 +36,7 @@ pub record AreSent (format : Format) (streams : List StreamAt) (begun : Said) (w
   pub schema : Schema
   pub says : SaysFirst streams schema
   pub join : joined streams ≡ Ok (record { schema = schema; rows = rows_held streams })
-  pub so : HasTaken format schema (rows_held streams) begun.bytes out.bytes writer
+  pub so : HasTakenRows format schema (rows_held streams) begun.bytes out.bytes writer
   pub quiet : out.failures ≡ begun.failures
 
 -- a stream with a schema of its own is the first one, and that is what is written; or it has the
@@ -55,7 +55,7 @@ pub record IsOpen (format : Format) (before : List StreamAt) (ticket : Payload) 
   pub begins : IsBegun ticket (now.fetch).state line (now.fetch).line
   pub schema : Schema
   pub follows : Follows before schema (begins.known).schema
-  pub so : HasTaken format schema (rows_held before) begun.bytes out.bytes now.writer
+  pub so : HasTakenRows format schema (rows_held before) begun.bytes out.bytes now.writer
   pub quiet : out.failures ≡ begun.failures
 
 -- after these streams those of these endpoints came whole over a connection; all join, and their

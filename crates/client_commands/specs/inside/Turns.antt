@@ -3,7 +3,7 @@
 use Rattle.std.specs.Prelude.{◌≡◌, ◌⊎◌, ◌≤◌, ℕ, ◌+◌, List, [], ◌∷◌, ◌++◌, map, length, Some, None}
 use Rattle.std.specs.Prelude.{Result, Ok, Err}
 use Rattle.flight_proto.specs.FlightInfo.{EndpointSaid}
-use Rattle.flight_proto.specs.Wanted.{Wanted}
+use Rattle.flight_proto.specs.InfoCommand.{InfoCommand}
 use Rattle.flight_info.specs.Payloads.{Payload}
 use Rattle.flight_client.specs.Stream.{StreamAt}
 use Rattle.client_calls.specs.declared.failure.Failure.{Failure}
@@ -14,22 +14,25 @@ use Rattle.command_ends.specs.Network.{Ends}
 use Rattle.command_ends.specs.Printing.{Said, Prints, cause_lines}
 use Rattle.command_ends.specs.declared.exit_status.ExitStatus.{ExitStatus}
 use Rattle.command_ends.specs.declared.exit_status.ExitStatus.TheVariants.{FaultAtThisEnd}
-use Rattle.client_commands.specs.declared.ahead.Refused.{Refused}
-use Rattle.client_commands.specs.declared.lost.Lost.{Lost}
-use Rattle.client_commands.specs.declared.lost.Lost.TheVariants.{Failed, Unconnected}
+use Rattle.client_commands.specs.declared.next_run.RefusedHandle.{RefusedHandle}
+use Rattle.client_commands.specs.declared.fetch_failure.FetchFailure.{FetchFailure}
+use Rattle.client_commands.specs.declared.fetch_failure.FetchFailure.TheVariants.{Failed}
+use Rattle.client_commands.specs.declared.fetch_failure.FetchFailure.TheVariants.{Unconnected}
 use Rattle.client_commands.specs.Fetching.{FetchesEach}
 use Rattle.client_commands.specs.InTurn.{BreaksUnconnected, IsWrittenWhole, RunsCame, StopsInTurn}
 use Rattle.client_commands.specs.InTurn.{Streams, StreamsUnconnected}
 use Rattle.client_commands.specs.Lines.{opened_line}
 use Rattle.client_commands.specs.Queries.{TellsEnd}
-use Rattle.client_commands.specs.Spread.{EachGives, GivesAtLast, Giving, IsEvenPart, RefusesTwice}
+use Rattle.client_commands.specs.ParallelFetch.{EachGives, GivesAtLast, Giving, IsEvenPart}
+use Rattle.client_commands.specs.ParallelFetch.{RefusesTwice}
 use Rattle.client_commands.specs.Streaming.{WritesBroken}
 use Rattle.client_commands.specs.inside.Runs.{IsOpen, Opens, OpenAt, StopsInRun}
 
 -- ---- the next connection
 
 -- what was made, or why it was not
-abbrev pub Settles : {N V : Type 0} → Result (Result V Failure) (Refused N) → Result V Lost → Type 0
+abbrev pub Settles : {N V : Type 0} → Result (Result V Failure) (RefusedHandle N) →
+    Result V FetchFailure → Type 0
 Settles (Ok (Ok value)) result = result ≡ Ok value
 Settles (Ok (Err failure)) result = result ≡ Err (Failed failure)
 Settles (Err refused) result = result ≡ Err (Unconnected refused.error)
@@ -37,7 +40,7 @@ Settles (Err refused) result = result ≡ Err (Unconnected refused.error)
 -- a handle gave a connection, over which a stream was begun, seen by `view`, or failed; or it gave
 -- none
 abbrev pub Ahead : {N V : Type 0} → Giving N → (V → FetchAt) → Payload → N →
-    Result (Result V Failure) (Refused N) → Type 0
+    Result (Result V Failure) (RefusedHandle N) → Type 0
 Ahead {N} Gives view ticket handle (Ok begun) =
     (ends : Ends) × ((new : N) × Gives handle (Some ends) new)
     × BeginsFetch view ticket begun (opened_line ends)
@@ -45,7 +48,7 @@ Ahead Gives view ticket handle (Err refused) = Gives handle None refused.handle
 
 -- the same, where a handle that gave none was asked once more
 abbrev pub BeginsAtLast : {N V : Type 0} → Giving N → (V → FetchAt) → Payload → N →
-    Result V Lost → Type 0
+    Result V FetchFailure → Type 0
 BeginsAtLast Gives view ticket handle (Ok fetching) =
     (ends : Ends) × GivesAtLast Gives handle ends
     × BeginsFetch view ticket (Ok fetching) (opened_line ends)
@@ -57,7 +60,7 @@ BeginsAtLast Gives view ticket handle (Err (Unconnected error)) = RefusesTwice G
 -- after these streams the stream of an endpoint is begun over a connection of a handle, or not, and
 -- what is written breaks off
 abbrev pub BeginsNext : {N V : Type 0} → Giving N → Format → (V → OpenAt) → EndpointSaid → N →
-    List StreamAt → Said → Result V Lost → Said → Type 0
+    List StreamAt → Said → Result V FetchFailure → Said → Type 0
 BeginsNext Gives format view endpoint handle streams begun (Ok passing) out =
     (ends : Ends) × GivesAtLast Gives handle ends
     × Opens format view (Ok passing) streams endpoint (opened_line ends) begun out
@@ -72,7 +75,7 @@ BeginsNext Gives format view endpoint handle streams begun (Err (Unconnected err
 -- a run came whole over a connection after these streams, and the next one was taken over, or not
 pub record WritesThen {N V : Type 0} (Gives : Giving N) (format : Format) (view : V → OpenAt)
     (next : EndpointSaid) (handle : N) (before : List StreamAt) (run : List EndpointSaid)
-    (line : Line) (begun : Said) (result : Result V Lost) (out : Said) : Type 0 where
+    (line : Line) (begun : Said) (result : Result V FetchFailure) (out : Said) : Type 0 where
   pub streams : List StreamAt
   pub last : Line
   pub fetched : FetchesEach run streams line last
@@ -80,7 +83,7 @@ pub record WritesThen {N V : Type 0} (Gives : Giving N) (format : Format) (view 
 
 -- it did, or it stopped within the run
 abbrev pub WritesAndBegins : {N V : Type 0} → Giving N → Format → (V → OpenAt) → EndpointSaid → N →
-    List StreamAt → List EndpointSaid → Line → Said → Result V Lost → Said → Type 0
+    List StreamAt → List EndpointSaid → Line → Said → Result V FetchFailure → Said → Type 0
 WritesAndBegins Gives format view next handle before run line begun result out =
     ((failure : Failure) × (result ≡ Err (Failed failure))
     × StopsInRun format before run failure line begun out)
@@ -123,7 +126,7 @@ pub record IsTurnBy {N : Type 0} (Gives : Giving N) (format : Format) (first : L
 
 -- all runs were written, and what is written was ended; or not, and why
 abbrev pub WritesRuns : {N : Type 0} → Giving N → Format → Line → List N → List EndpointSaid →
-    Result (Unit {0}) Lost → Said → Said → Type 0
+    Result (Unit {0}) FetchFailure → Said → Said → Type 0
 WritesRuns Gives format first handles endpoints (Ok done) out out' =
     IsWrittenWhole Gives format first handles endpoints out out'
 WritesRuns Gives format first handles endpoints (Err (Failed failure)) out out' =
@@ -132,8 +135,9 @@ WritesRuns Gives format first handles endpoints (Err (Unconnected error)) out ou
     BreaksUnconnected Gives format first handles endpoints out out'
 
 -- the rows of a query are written as they come, or not, and why
-abbrev pub StreamsOrNot : {N : Type 0} → Giving N → (N → N → N → Type 0) → Format → ℕ → Wanted → N →
-    N → Result (Unit {0}) Lost → Line → Line → Said → Said → Type 0
+abbrev pub StreamsOrNot : {N : Type 0} → Giving N → (N → N → N → Type 0) → Format → ℕ →
+    InfoCommand → N →
+    N → Result (Unit {0}) FetchFailure → Line → Line → Said → Said → Type 0
 StreamsOrNot Gives Shares format streams wanted old new (Ok done) first last out out' =
     Streams Gives Shares format streams wanted old new (Ok done) first last out out'
 StreamsOrNot Gives Shares format streams wanted old new (Err (Failed failure)) first last out out' =
@@ -143,7 +147,7 @@ StreamsOrNot Gives Shares format streams wanted old new (Err (Unconnected error)
     StreamsUnconnected Gives Shares format streams wanted old new first last out out'
 
 -- nothing is said where all was written; and else the failure, or that there was no connection
-abbrev pub TellsStreamed : Result (Unit {0}) Lost → ExitStatus → Said → Said → Type 0
+abbrev pub TellsStreamed : Result (Unit {0}) FetchFailure → ExitStatus → Said → Said → Type 0
 TellsStreamed (Ok done) status old new = TellsEnd (Ok done) status old new
 TellsStreamed (Err (Failed failure)) status old new = TellsEnd (Err failure) status old new
 TellsStreamed (Err (Unconnected error)) status old new =

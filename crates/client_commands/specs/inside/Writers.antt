@@ -6,7 +6,7 @@ use Rattle.scan_base.specs.declared.fault.Fault.TheVariants.{LimitReached, OutOf
 use Rattle.arrow_types.specs.declared.schema.Field.{Field}
 use Rattle.arrow_types.specs.declared.schema.Schema.{Schema}
 use Rattle.arrays.specs.Batch.{BatchAt, rows_of}
-use Rattle.ipc_batch.specs.Said.{Rows}
+use Rattle.ipc_batch.specs.SaidRows.{Rows}
 use Rattle.grpc_frame.specs.Sending.{Sent}
 use Rattle.row_stream.specs.Stream.{numbered_schema, HasShortRows}
 use Rattle.row_stream.specs.Writing.{SoFar}
@@ -58,7 +58,8 @@ HasRows format writer rows start now =
     Sent start now [] writer.waiting (text_of format writer.schema rows)
 
 -- who writes these columns has taken these rows of them
-pub record HasTaken (format : Format) (schema : Schema) (rows : Rows) (start now : Option (List ℕ))
+pub record HasTakenRows (format : Format) (schema : Schema) (rows : Rows)
+    (start now : Option (List ℕ))
     (writer : WriterAt) : Type 0 where
   pub written : writer.schema ≡ written_schema format schema
   pub has : HasRows format writer rows start now
@@ -67,7 +68,8 @@ pub record HasTaken (format : Format) (schema : Schema) (rows : Rows) (start now
 -- nothing was written.
 abbrev pub BeginsRows : {A : Type 0} → Format → (A → WriterAt) → Result A Fault → Schema →
     Option (List ℕ) → Option (List ℕ) → Type 0
-BeginsRows format view (Ok writer) schema old new = HasTaken format schema [] old new (view writer)
+BeginsRows format view (Ok writer) schema old new =
+    HasTakenRows format schema [] old new (view writer)
 BeginsRows format view (Err Transport) schema old new = WritesFront format schema [] old new
 BeginsRows format view (Err fault) schema old new = new ≡ old
 
@@ -77,22 +79,22 @@ abbrev pub SendsRows : {A : Type 0} → Result A Fault → Format → BatchAt �
     Said → Said → Type 0
 SendsRows (Ok done) format batch before after out out' =
     (schema : Schema) (rows : Rows) (start : Option (List ℕ)) →
-    HasTaken format schema rows start out.bytes before →
-    HasTaken format schema (rows ++ rows_of batch) start out'.bytes after
+    HasTakenRows format schema rows start out.bytes before →
+    HasTakenRows format schema (rows ++ rows_of batch) start out'.bytes after
 SendsRows (Err Transport) format batch before after out out' =
     (schema : Schema) (rows : Rows) (start : Option (List ℕ)) →
-    HasTaken format schema rows start out.bytes before →
+    HasTakenRows format schema rows start out.bytes before →
     WritesFront format schema (rows ++ rows_of batch) start out'.bytes
 SendsRows (Err fault) format batch before after out out' =
     (schema : Schema) (rows : Rows) (start : Option (List ℕ)) →
-    HasTaken format schema rows start out.bytes before →
+    HasTakenRows format schema rows start out.bytes before →
     BreaksRows format schema (rows ++ rows_of batch) start out'.bytes out.failures out'.failures
 
 -- what was taken so far breaks off
 abbrev pub Breaks : Format → WriterAt → Said → Said → Type 0
 Breaks format writer out out' =
     (schema : Schema) (rows : Rows) (start : Option (List ℕ)) →
-    HasTaken format schema rows start out.bytes writer →
+    HasTakenRows format schema rows start out.bytes writer →
     BreaksRows format schema rows start out'.bytes out.failures out'.failures
 
 -- what was taken was written whole, or a write failed
@@ -100,7 +102,7 @@ abbrev pub EndsRows : {A E : Type 0} → Result A E → Format → WriterAt → 
     Option (List ℕ) → Type 0
 EndsRows result format writer old new =
     (schema : Schema) (rows : Rows) (start : Option (List ℕ)) →
-    HasTaken format schema rows start old writer → WritesAll result format schema rows start new
+    HasTakenRows format schema rows start old writer → WritesAll result format schema rows start new
 
 -- why batches were not written after the schema that is written: a write failed, memory was
 -- refused, or a row of an Arrow IPC stream is too long

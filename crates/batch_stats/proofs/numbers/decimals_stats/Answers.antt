@@ -1,7 +1,7 @@
 use Rattle.std.proofs.Common.{◌≡◌, ℕ, ℤ, List, ap, ◌∙◌}
 use Rattle.std.specs.Int.{w128, cast_signed}
 use Rattle.arrays.specs.Number.{element_at, decimal_at}
-use Rattle.arrays.specs.inside.Signed.{signed128}
+use Rattle.arrays.specs.inside.SignedNumbers.{signed128}
 use Rattle.batch_stats.proofs.Numerals.{decimals_are}
 use Rattle.batch_stats.proofs.numbers.decimals_stats.Goals as goal
 

@@ -1,12 +1,12 @@
 use Rattle.std.proofs.Common.{Some, None, Result, Ok, Err, ℕ, inl, inr, refl}
-use Rattle.flight_proto.specs.Wanted.{Wanted, rows_of}
+use Rattle.flight_proto.specs.InfoCommand.{InfoCommand, rows_of}
 use Rattle.command_line.specs.declared.request.Format.{Format}
 use Rattle.command_ends.specs.Network.{Ends}
 use Rattle.command_ends.specs.Printing.{said_of}
 use Rattle.command_ends.specs.declared.exit_status.ExitStatus.{ExitStatus}
 use Rattle.client_calls.specs.Outcome.{Line}
-use Rattle.client_commands.specs.declared.lost.Lost.{Lost}
-use Rattle.client_commands.specs.declared.lost.Lost.TheVariants.{Failed, Unconnected}
+use Rattle.client_commands.specs.declared.fetch_failure.FetchFailure.{FetchFailure}
+use Rattle.client_commands.specs.declared.fetch_failure.FetchFailure.TheVariants.{Failed, Unconnected}
 use Rattle.client_commands.specs.Commands.{Desk, desk_of}
 use Rattle.client_commands.specs.Handles.{Giving}
 use Rattle.client_commands.specs.Lines.{opened_line}
@@ -15,7 +15,7 @@ use Rattle.client_commands.specs.inside.Turns.{StreamsOrNot, TellsStreamed}
 use Rattle.client_commands.proofs.query.query_by.Goals as goal
 
 -- the network gave the first connection, and what was written is told
-told : {N : Type 0} (Gives : Giving N) (Shares : N → N → N → Type 0) (format : Format) (streams : ℕ) (wanted : Wanted) (before middle behind : N) (ends : Ends) (last : Line) (result : Result (Unit {0}) Lost) (status : ExitStatus) (old new : Desk)
+told : {N : Type 0} (Gives : Giving N) (Shares : N → N → N → Type 0) (format : Format) (streams : ℕ) (wanted : InfoCommand) (before middle behind : N) (ends : Ends) (last : Line) (result : Result (Unit {0}) FetchFailure) (status : ExitStatus) (old new : Desk)
     → Gives before (Some ends) middle → StreamsOrNot Gives Shares format streams wanted middle behind result (opened_line ends) last old.out new.out → TellsStreamed result status old.faults new.faults
     → PrintsRows Gives Shares format streams wanted before behind status old new
 told Gives Shares format streams wanted before middle behind ends last (Ok done) status old new given written tells =

@@ -3,7 +3,7 @@ use Rattle.csv.specs.Records.{fields_of}
 use Rattle.arrow_types.specs.declared.schema.Field.{Field}
 use Rattle.arrow_types.specs.Schema.{IsField}
 use Rattle.arrow_types.specs.DataType.{encoding_of}
-use Rattle.csv_columns.specs.Spelled.{spelled}
+use Rattle.csv_columns.specs.SpelledColumns.{spelled}
 use Rattle.csv_columns.proofs.reading.fields_in.Given as goal
 
 abbrev pub invariant-loop-place : goal.invariant-loop-place

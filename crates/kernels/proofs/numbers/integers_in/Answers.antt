@@ -2,7 +2,7 @@ use Rattle.std.proofs.Common.{◌≡◌, ℕ, List, IfOk, subst, sym, ap, ◌∙
 use Rattle.scan_base.specs.declared.truth.Truth.{Truth}
 use Rattle.arrow_types.specs.declared.data_type.IntegerType.{IntegerType}
 use Rattle.arrays.specs.Number.{element_at, integer_at}
-use Rattle.arrays.specs.inside.Signed.{signed64}
+use Rattle.arrays.specs.inside.SignedNumbers.{signed64}
 use Rattle.kernels.specs.Ranges.{long_at}
 use Rattle.kernels.proofs.Ranged.{integers_said}
 use Rattle.kernels.proofs.numbers.integers_in.Goals as goal

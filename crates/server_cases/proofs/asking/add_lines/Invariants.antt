@@ -1,6 +1,0 @@
-use Rattle.std.proofs.Common.{◌≡◌}
-use Rattle.server_cases.proofs.asking.add_lines.Given as goal
-
--- no write failed
-abbrev pub invariant-loop-batch : goal.invariant-loop-batch
-invariant-loop-batch l = l.output.failures ≡ 0
