@@ -60,7 +60,7 @@ impl Drop for PlannedScan {
 
 // What is meant: a scan that is not made yet, or the list of tables.
 pub(crate) enum Meaning {
-    QueryPlan(PlannedScan),
+    Planned(PlannedScan),
     Listed(FetchStream),
 }
 
