@@ -4,8 +4,9 @@
     python3 scripts/names.py           tells which names break a rule
     python3 scripts/names.py --count   says how many break each rule
 
-A type is named by a noun: not by a bare participle, and not by an adverb, a preposition or a pronoun. So is a module of
-src/. In a section of crates.txt no two types that other modules can see have one name, and no two public definitions.
+A type is named by a noun: not by a bare participle, and not by an adverb, a preposition or a pronoun. So are a module of
+src/ and a file of specs/, which may also be named by an activity. In a section of crates.txt no two types that other
+modules can see have one name, and no two public definitions.
 ALLOWED has the names that stay, each with its reason.
 """
 
@@ -30,8 +31,9 @@ beside between beyond both by can different each else every few here in into las
 near next nothing off on once one other others out outside over own possible ready same several slow still such them
 then there these they this those through to together two under up upon us what whole wide with within without wrong
 misc stuff thing things utils util helpers common""".split())
-# the names that stay: of types, of modules, and of definitions
+# the names that stay: of types, of modules, and of files of specs/
 ALLOWED = {
+    "Asked": "of `flight_core`: what is asked of it",
     "Any": "the name of `google.protobuf.Any`",
     "Beginning": "a noun: the first bytes of a text",
     "Grouping": "a noun: what GROUP BY makes of rows",
@@ -41,13 +43,14 @@ ALLOWED = {
     "Put": "a noun: what a client puts",
     "Run": "a noun: parts one after another",
     "Setting": "a noun: how a server is set up",
+    "Split": "what `split` gives",
     "Spelling": "a noun: the bytes of a text where it is written",
     "Told": "a log that another thread is told of: the public name of `version_cell`",
     "any": "its type",
     "put": "its type, or what it does",
 }
 # activities that have a module of their own
-ACTIVITIES = set("""beginning binding building coding counting cutting encoding ending fetching filling grouping joining
+ACTIVITIES = set("""beginning binding building coding connecting counting cutting encoding ending fetching filling grouping joining
 keeping matching merging naming opening ordering packing parsing planning printing pruning reading rewriting scanning
 sending serving setting sorting spelling splitting streaming writing""".split())
 TYPE = re.compile(r"(?m)^(pub(?:\(\w+\))? )?(?:struct|enum|trait|type|union) (\w+)")
@@ -93,6 +96,13 @@ def vague_modules():
             and module[-1] not in ALLOWED and module[-1] not in ACTIVITIES]
 
 
+def vague_specs():
+    return [f"{path.relative_to(TOP)}: {path.stem} is no noun" for crate in sections()
+            for path in sorted((CRATES / crate / "specs").rglob("*.antt"))
+            if re.fullmatch(r"[A-Z][a-z]+", path.stem) and is_vague(path.stem.lower()) and not path.stem.endswith("ing")
+            and path.stem not in ALLOWED]
+
+
 def doubled(kind, places):
     """What stands twice of places, each a section, a name and where it stands."""
     found = collections.defaultdict(list)
@@ -116,6 +126,7 @@ def doubled_definitions():
 
 
 RULES = {"types that are no nouns": vague_types, "modules that are no nouns": vague_modules,
+         "files of specs that are no nouns": vague_specs,
          "types of one name": doubled_types, "definitions of one name": doubled_definitions}
 
 
