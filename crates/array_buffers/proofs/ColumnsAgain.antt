@@ -22,10 +22,10 @@ use Rattle.arrays.specs.Indices.{IndicesAt, indices_of, index_stands, entry_of}
 use Rattle.scan_base.specs.Value.{IsTextOrNull}
 use Rattle.arrays.specs.Texts.{texts_of, text_at}
 use Rattle.arrays.specs.Column.{ColumnAt, IsColumn, slot_of, values_of}
-use Rattle.arrays.specs.Typed.{IsOfType}
+use Rattle.arrays.specs.TypedLayouts.{IsOfType}
 use Rattle.arrays.specs.Buffers.{values_layout, texts_layout}
-use Rattle.arrays.specs.Written.{elements, texts_joined, offsets_from}
-use Rattle.array_buffers.specs.Written.{packed_bits, values_written, validity_read, LeadsAlike, IsLedBy, SaySlots, ColumnsReadBack, HasShortTexts}
+use Rattle.arrays.specs.WrittenSlots.{elements, texts_joined, offsets_from}
+use Rattle.array_buffers.specs.ColumnBuffers.{packed_bits, values_written, validity_read, LeadsAlike, IsLedBy, SaySlots, ColumnsReadBack, HasShortTexts}
 use Rattle.array_buffers.proofs.ElementsAgain.{element_again, values_again}
 use Rattle.array_buffers.proofs.Lengths.{length-elements}
 use Rattle.arrays.proofs.TextSlots.{slot_is_text}

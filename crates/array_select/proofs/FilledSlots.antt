@@ -25,10 +25,10 @@ use Rattle.arrays.specs.Number.{AreBytes, byte_width, element_at, number_from, i
 use Rattle.arrays.specs.Validity.{is_valid, where_valid}
 use Rattle.arrays.specs.Layout.{layout_count, layout_slot}
 use Rattle.arrays.specs.Column.{slot_of, values_of, whole}
-use Rattle.arrays.specs.Typed.{IsInteger, IsValueOf}
-use Rattle.array_select.specs.inside.Filled.{low_bytes, AreOfType, AreValidUnlessNull, AreNumbersOf, FillSlots}
+use Rattle.arrays.specs.TypedLayouts.{IsInteger, IsValueOf}
+use Rattle.array_select.specs.inside.SlotFilling.{low_bytes, AreOfType, AreValidUnlessNull, AreNumbersOf, FillSlots}
 use Rattle.arrays.specs.Texts.{text_at}
-use Rattle.arrays.specs.Written.{text_bytes, offsets_from, texts_joined}
+use Rattle.arrays.specs.WrittenSlots.{text_bytes, offsets_from, texts_joined}
 use Rattle.array_select.proofs.Gathered.{front, behind}
 use Rattle.array_select.proofs.GatheredTexts.{texts_made, text_made, texts_stand}
 

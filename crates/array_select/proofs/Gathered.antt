@@ -24,9 +24,9 @@ use Rattle.arrays.specs.Bools.{BoolsAt}
 use Rattle.arrays.specs.Indices.{IndicesAt, AreIndices}
 use Rattle.arrays.specs.Dictionary.{entry_at}
 use Rattle.arrays.specs.Layout.{layout_count, layout_slot}
-use Rattle.arrays.specs.Typed.{IsOfType}
+use Rattle.arrays.specs.TypedLayouts.{IsOfType}
 use Rattle.arrays.specs.Column.{ColumnAt, IsColumn, slot_of, values_of, whole}
-use Rattle.array_select.specs.inside.Gathered.{AreAmong, HasElementsAt, AreValidAt, AreGathered}
+use Rattle.array_select.specs.inside.GatheredSlots.{AreAmong, HasElementsAt, AreValidAt, AreGathered}
 
 -- a number in the front of some bytes, and one at their end
 pub front : (at width : ℕ) (xs ys : List ℕ) → at + width ≤ length xs → little_from at width (xs ++ ys) ≡ little_from at width xs

@@ -23,11 +23,11 @@ use Rattle.arrays.specs.Integers.{IntegersAt}
 use Rattle.arrays.specs.Decimals.{DecimalsAt}
 use Rattle.arrays.specs.Nulls.{null_count}
 use Rattle.arrays.specs.Column.{ColumnAt, IsColumn, slot_of, values_of}
-use Rattle.arrays.specs.Typed.{IsOfType, IsValueOf}
-use Rattle.arrays.specs.Written.{text_bytes, texts_joined}
+use Rattle.arrays.specs.TypedLayouts.{IsOfType, IsValueOf}
+use Rattle.arrays.specs.WrittenSlots.{text_bytes, texts_joined}
 use Rattle.array_select.specs.GatherMany.{value_in, IsPlaceIn}
-use Rattle.array_select.specs.inside.Filled.{flag_of, AreOfType, AreValidUnlessNull, FillSlots}
-use Rattle.array_select.specs.inside.GatheredMany.{place_at, cell_at, HasNumbers, HaveNumbers, HaveRoom, HasCellsAt}
+use Rattle.array_select.specs.inside.SlotFilling.{flag_of, AreOfType, AreValidUnlessNull, FillSlots}
+use Rattle.array_select.specs.inside.GatheredMany.{slot_place_at, cell_at, HasNumbers, HaveNumbers, HaveRoom, HasCellsAt}
 use Rattle.array_select.proofs.Gathered.{front, behind}
 use Rattle.array_select.proofs.FilledSlots.{differ, slot_filled}
 use Rattle.arrays.proofs.OfType.{of_type}
@@ -151,7 +151,7 @@ room_there number width sources columns places count e have there = record {
   source = λ k low. omega (arith, have.long, e, (there k first_place low).column);
   room = λ k low.
       let is = there k first_place low in
-      (have.each (place_at places k).column _ (omega (arith, is.column, e))).room (place_at places k).place is.slot;
+      (have.each (slot_place_at places k).column _ (omega (arith, is.column, e))).room (slot_place_at places k).place is.slot;
 }
 
 -- ---- cells at places
@@ -204,7 +204,7 @@ number_at number width packed sources columns places validity count e have there
     let low : k < length places = omega (arith, under, length-map places (value_in columns)) in
     let is = there k first_place low in
     let value = get_or-map (value_in columns) places k first_place Null low in
-    let held = (have.each (place_at places k).column _ (omega (arith, is.column, e))).numbers (place_at places k).place is.slot (ap is_null (sym value) ∙ some) in
+    let held = (have.each (slot_place_at places k).column _ (omega (arith, is.column, e))).numbers (slot_place_at places k).place is.slot (ap is_null (sym value) ∙ some) in
     value ∙ held ∙ ap (λ (bits : ℕ). Int (number bits)) (sym (has.each k low (valid.each k under ∙ ap not some)))
 
 pub integers_filled : (integer : IntegerType) (kept packed : List ℕ) (values : List Value) (count : ℕ) → kept ≡ packed → AreBytes kept → length packed ≡ byte_width integer * count → length values ≡ count →
@@ -237,10 +237,10 @@ pub values_typed : (data_type : DataType) (columns : List ColumnAt) (places : Li
 values_typed data_type columns places count typed stand there e k under =
     let low : k < length places = omega (arith, under, e) in
     let is = there k first_place low in
-    let number = (place_at places k).column in
+    let number = (slot_place_at places k).column in
     let column = get_or columns number _ in
     subst (IsValueOf data_type) (sym (get_or-map (value_in columns) places k first_place Null low))
-    (of_type data_type column.layout column.first column.len (stand number _ is.column) (typed number _ is.column) (place_at places k).place is.slot)
+    (of_type data_type column.layout column.first column.len (stand number _ is.column) (typed number _ is.column) (slot_place_at places k).place is.slot)
 
 -- where no slot of the columns is null, each is valid
 none_null : (xs : List Value) (k : ℕ) → length (filter is_null xs) ≡ 0 → k < length xs → is_null (get_or xs k Null) ≡ false
@@ -260,8 +260,8 @@ all_valid columns places none there = record {
   each = λ k under.
       let low : k < length places = omega (arith, under, length-map places (value_in columns)) in
       let is = there k first_place low in
-      let number = (place_at places k).column in
-      let place = (place_at places k).place in
+      let number = (slot_place_at places k).column in
+      let place = (slot_place_at places k).place in
       let column = get_or columns number _ in
       let value = get_or-map (value_in columns) places k first_place Null low in
       let slot = get_or-map-range_with_len (slot_of column) 0 column.len place place Null is.slot (omega arith) in

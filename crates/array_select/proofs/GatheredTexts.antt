@@ -12,9 +12,9 @@ use Rattle.arrays.specs.declared.layout.Layout.TheVariants as layout
 use Rattle.arrays.specs.Number.{element_at}
 use Rattle.arrays.specs.Validity.{is_valid, IsLong}
 use Rattle.arrays.specs.Texts.{TextsAt, text_at, AreTexts}
-use Rattle.arrays.specs.Typed.{IsOfType}
-use Rattle.arrays.specs.Written.{text_bytes, texts_joined, offsets_from}
-use Rattle.array_select.specs.inside.Gathered.{AreAmong, AreValidAt, AreGathered, texts_at}
+use Rattle.arrays.specs.TypedLayouts.{IsOfType}
+use Rattle.arrays.specs.WrittenSlots.{text_bytes, texts_joined, offsets_from}
+use Rattle.array_select.specs.inside.GatheredSlots.{AreAmong, AreValidAt, AreGathered, texts_at}
 use Rattle.arrays.proofs.Offsets.{length-offsets}
 use Rattle.arrays.proofs.Adjoining.{ordered, ends, rising}
 use Rattle.array_select.proofs.Gathered.{slot_is}

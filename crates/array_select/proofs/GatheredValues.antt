@@ -10,7 +10,7 @@ use Rattle.arrays.specs.Decimals.{DecimalsAt}
 use Rattle.arrays.specs.Bools.{BoolsAt}
 use Rattle.arrays.specs.Indices.{IndicesAt, AreIndices}
 use Rattle.scan_base.specs.declared.value.Value.{Value}
-use Rattle.array_select.specs.inside.Gathered.{AreAmong, HasElementsAt, AreValidAt, AreValuesAt, AreGathered}
+use Rattle.array_select.specs.inside.GatheredSlots.{AreAmong, HasElementsAt, AreValidAt, AreValuesAt, AreGathered}
 use Rattle.array_select.proofs.Gathered.{integers_gathered, decimals_gathered, bools_gathered, indices_stand, indices_gathered}
 
 pub integers_at : (cells : IntegersAt) (integer : IntegerType) (values packed read_values : List ℕ) (first : ℕ) (places : List ℕ) →

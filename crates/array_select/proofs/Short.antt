@@ -12,9 +12,9 @@ use Rattle.array_select.specs.declared.of_slots.SlotRef.{SlotRef}
 use Rattle.arrays.specs.Layout.{layout_slot}
 use Rattle.arrays.specs.Number.{integer_at, decimal_at}
 use Rattle.array_select.specs.OfSlots.{slot_value}
-use Rattle.arrays.specs.Typed.{IsOfType}
+use Rattle.arrays.specs.TypedLayouts.{IsOfType}
 use Rattle.arrays.specs.Validity.{is_valid, where_valid}
-use Rattle.arrays.specs.Written.{text_bytes, texts_joined}
+use Rattle.arrays.specs.WrittenSlots.{text_bytes, texts_joined}
 use Rattle.array_select.specs.Fitting.{AreShort, Fits, has_texts}
 use Rattle.array_select.specs.Room.{most_column_bytes}
 

@@ -2,7 +2,7 @@
 use Rattle.std.proofs.Common.{◌≡◌, ◌<◌, ℕ, zero, suc, ◌+◌, List, [], ◌∷◌, Some, length, map, take, slice_get, arith, length-append}
 use Rattle.array_select.specs.declared.of_slots.SlotRef.{SlotRef}
 use Rattle.array_select.specs.OfSlots.{slot_value}
-use Rattle.arrays.specs.Written.{text_bytes, texts_joined}
+use Rattle.arrays.specs.WrittenSlots.{text_bytes, texts_joined}
 
 abbrev bytes_of : List SlotRef → ℕ
 bytes_of slots = length (texts_joined (map slot_value slots))

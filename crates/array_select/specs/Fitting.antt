@@ -2,7 +2,7 @@
 use Rattle.std.specs.Prelude.{◌≤◌, ◌<◌, ◌^◌, ℕ, Bool, true, false, List, length, take}
 use Rattle.arrow_schema.specs.declared.data_type.DataType.{DataType}
 use Rattle.arrow_schema.specs.declared.data_type.DataType.TheVariants.{Utf8, Dictionary}
-use Rattle.arrays.specs.Written.{texts_joined}
+use Rattle.arrays.specs.WrittenSlots.{texts_joined}
 use Rattle.array_select.specs.Room.{most_column_bytes}
 use Rattle.scan_base.specs.declared.value.Value.{Value}
 

@@ -1,7 +1,7 @@
 -- How much a batch holds that is made of rows.
 use Rattle.std.specs.Prelude.{ℕ, length}
 use Rattle.arrays.specs.Column.{ColumnAt, values_of}
-use Rattle.arrays.specs.Written.{texts_joined}
+use Rattle.arrays.specs.WrittenSlots.{texts_joined}
 
 -- as many rows as such a batch has
 abbrev pub most_batch_rows : ℕ

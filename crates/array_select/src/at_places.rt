@@ -7,9 +7,9 @@ ghost use Rattle.arrays.specs.Number.{byte_width};
 ghost use Rattle.arrays.specs.Validity.{IsLong};
 ghost use Rattle.arrays.specs.Layout.{layout_count, IsLayout};
 ghost use Rattle.arrays.specs.Column.{slot_of, values_of};
-ghost use Rattle.arrays.specs.Typed.{IsOfType};
-ghost use Rattle.array_select.specs.inside.Gathered.{AreAmong, HasElementsAt, AreValidAt};
-ghost use Rattle.array_select.specs.inside.Gathered.{AreValuesAt, AreGathered};
+ghost use Rattle.arrays.specs.TypedLayouts.{IsOfType};
+ghost use Rattle.array_select.specs.inside.GatheredSlots.{AreAmong, HasElementsAt, AreValidAt};
+ghost use Rattle.array_select.specs.inside.GatheredSlots.{AreValuesAt, AreGathered};
 
 use crate::gather_texts::gather_texts;
 use crate::selection::Selection;

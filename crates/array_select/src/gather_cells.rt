@@ -5,15 +5,15 @@ ghost use Rattle.arrow_schema.specs.declared.data_type.DataType.TheVariants as t
 ghost use Rattle.byteorder.specs.Endian.{little_from};
 ghost use Rattle.arrays.specs.Number.{byte_width, element_at, number_from, signed_from};
 ghost use Rattle.arrays.specs.Column.{IsColumn};
-ghost use Rattle.arrays.specs.Typed.{IsOfType};
+ghost use Rattle.arrays.specs.TypedLayouts.{IsOfType};
 ghost use Rattle.arrays.specs.Validity.{is_valid, IsLong};
-ghost use Rattle.array_select.specs.inside.Filled.{flag_of, AreValidUnlessNull, FillSlots};
+ghost use Rattle.array_select.specs.inside.SlotFilling.{flag_of, AreValidUnlessNull, FillSlots};
 ghost use Rattle.array_select.specs.inside.GatheredMany.{columns_of, values_at, AreThere};
 ghost use Rattle.array_select.specs.inside.GatheredMany.{cell_at, HasNumbers, HaveNumbers};
 ghost use Rattle.array_select.specs.inside.GatheredMany.{HaveRoom, HasCellsAt};
 
-use crate::filled::flag_of;
 use crate::many_places::SlotPlaces;
+use crate::slot_filling::flag_of;
 use arrays::{Cells, Column, Layout, Values, are_bytes, byte_width};
 use arrow_schema::IntegerType;
 use bitmap::{Bits, BitsBuilder};

@@ -7,10 +7,10 @@ ghost use Rattle.scan_base.specs.Value.{is_null};
 ghost use Rattle.scan_base.specs.declared.value.Value.TheVariants.{Null};
 ghost use Rattle.arrays.specs.Column.{slot_of, values_of, IsColumn};
 ghost use Rattle.arrays.specs.Nulls.{null_count};
-ghost use Rattle.arrays.specs.Typed.{IsOfType};
-ghost use Rattle.arrays.specs.Written.{texts_joined};
+ghost use Rattle.arrays.specs.TypedLayouts.{IsOfType};
+ghost use Rattle.arrays.specs.WrittenSlots.{texts_joined};
 ghost use Rattle.array_select.specs.GatherMany.{value_in, IsPlaceIn};
-ghost use Rattle.array_select.specs.inside.Filled.{AreValidUnlessNull, FillSlots};
+ghost use Rattle.array_select.specs.inside.SlotFilling.{AreValidUnlessNull, FillSlots};
 ghost use Rattle.array_select.specs.inside.GatheredMany.{columns_of, values_at, AreThere};
 
 use arrays::{Cells, Column, Nulls, Slots, Values, is_null};

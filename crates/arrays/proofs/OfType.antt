@@ -19,7 +19,7 @@ use Rattle.arrays.specs.Indices.{IndicesAt}
 use Rattle.arrays.specs.Layout.{layout_slot}
 use Rattle.scan_base.specs.Value.{IsTextOrNull}
 use Rattle.arrays.specs.Column.{IsColumn, slot_of}
-use Rattle.arrays.specs.Typed.{IsOfType, IsInteger, IsValueOf, ValuesAreOfTheirType}
+use Rattle.arrays.specs.TypedLayouts.{IsOfType, IsInteger, IsValueOf, ValuesAreOfTheirType}
 use Rattle.arrays.proofs.EachSlot.{all_slots}
 use Rattle.arrays.proofs.TextSlots.{slot_is_text}
 

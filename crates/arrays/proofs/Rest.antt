@@ -4,7 +4,7 @@ use Rattle.std.specs.List.{range_with_len}
 use Rattle.std.proofs.lemmas.List.{length-append}
 use Rattle.scan_base.specs.declared.value.Value.{Value}
 use Rattle.arrays.specs.Column.{ColumnAt, slot_of, values_of}
-use Rattle.arrays.specs.Written.{text_bytes, texts_joined}
+use Rattle.arrays.specs.WrittenSlots.{text_bytes, texts_joined}
 
 abbrev pub rest_of : ColumnAt → ℕ → List Value
 rest_of column place = map (slot_of column) (range_with_len place (column.len - place))

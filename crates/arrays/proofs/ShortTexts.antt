@@ -14,7 +14,7 @@ use Rattle.arrays.specs.Dictionary.{entry_at}
 use Rattle.arrays.specs.Indices.{IndicesAt}
 use Rattle.arrays.specs.Layout.{layout_slot}
 use Rattle.arrays.specs.Column.{ColumnAt, slot_of, values_of}
-use Rattle.arrays.specs.Written.{text_bytes}
+use Rattle.arrays.specs.WrittenSlots.{text_bytes}
 use Rattle.arrays.proofs.EachSlot.{all_slots}
 use Rattle.arrays.proofs.TextCuts.{cut_long}
 use Rattle.arrays.proofs.Adjoining.{ends}

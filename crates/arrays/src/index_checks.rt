@@ -2,7 +2,7 @@
 
 ghost use Rattle.std.specs.Prelude.{◌≡◌, ◌≤◌, ◌<◌, ◌≤ℤ◌, ◌*◌, ℕ, pos, true, length};
 ghost use Rattle.arrays.specs.Number.{byte_width, element_at, integer_at, number_from};
-ghost use Rattle.arrays.specs.inside.Placed.{IsPlaced};
+ghost use Rattle.arrays.specs.inside.PlacedIndices.{IsPlaced};
 
 use crate::element::Element;
 use arrow_schema::IntegerType;

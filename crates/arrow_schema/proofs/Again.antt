@@ -11,7 +11,7 @@ use Rattle.flatbuf.specs.Place.{TableAt, VectorAt, field_of, scalar_at, scalar_o
 use Rattle.flatbuf.specs.Layout.{Stands}
 use Rattle.flatbuf.specs.Block.{IsWhole, Given, Absent, Number, Offset, AreWhole, little, children, table_part, text_part, tables_part, buffer_of}
 use Rattle.flatbuf.proofs.Standing.{length-little}
-use Rattle.flatbuf.specs.Written.{table_at, LeadsToBlock, SlotReads}
+use Rattle.flatbuf.specs.WrittenTables.{table_at, LeadsToBlock, SlotReads}
 use Rattle.flatbuf.specs.Fits.{FitsTable, FitsTables}
 use Rattle.flatbuf.proofs.Written.{table_reads}
 use Rattle.flatbuf.proofs.Lengths.{whole_table, whole_text, whole_tables, short_table, short_text, short_tables, fits_table}
@@ -31,7 +31,7 @@ use Rattle.arrow_schema.specs.Fields.{table_wanted, vector_wanted, name_of, inte
 use Rattle.arrow_schema.specs.Header.{MessageAt, message_of, field_at, fields_of, schema_in, is_schema, schema_message_of, schema_of}
 use Rattle.arrow_schema.specs.Schema.{IsName, IsType, IsField, IsSchema}
 use Rattle.arrow_schema.specs.Message.{message_part}
-use Rattle.arrow_schema.specs.Written.{flag, type_number, integer_part, type_part, dictionary_part, dictionary_given, field_slots, field_part, schema_part, schema_bytes, SchemasReadBack}
+use Rattle.arrow_schema.specs.WrittenHeader.{flag, type_number, integer_part, type_part, dictionary_part, dictionary_given, field_slots, field_part, schema_part, schema_bytes, SchemasReadBack}
 use Rattle.arrow_schema.proofs.Messages.{messages_read, short_message}
 
 -- ---- numbers

@@ -9,7 +9,7 @@ use Rattle.arrow_schema.specs.declared.data_type.DataType.TheVariants.{Integer, 
 use Rattle.arrow_schema.specs.declared.schema.Field.{Field}
 use Rattle.arrow_schema.specs.Header.{same_dictionary, shares_dictionary}
 use Rattle.arrow_schema.specs.Schema.{IsType, IsField}
-use Rattle.arrow_schema.specs.Written.{encoding_of}
+use Rattle.arrow_schema.specs.WrittenHeader.{encoding_of}
 use Rattle.arrow_schema.specs.Answer.{copied_type, plain_field, PlainIsSchema, PlainHasNone, PlainStays}
 
 plain : (t : DataType) → encoding_of (copied_type t) ≡ None

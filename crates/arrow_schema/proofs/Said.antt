@@ -26,7 +26,7 @@ use Rattle.arrow_schema.specs.DataType.{bit_width, is_signed}
 use Rattle.arrow_schema.specs.Fields.{table_wanted, vector_wanted, name_of, integer_type, integer_of, decimal_of, date_of, type_kind, type_of, value_type_of, is_bare, childless, index_of, dictionary_of, encoded, field_in}
 use Rattle.arrow_schema.specs.Header.{MessageAt, header_kind, message_of, field_at, fields_of, same_dictionary, is_schema, schema_message_of, schema_in, schema_of}
 use Rattle.arrow_schema.specs.Says.{SaysInteger, SaysDecimal, SaysDate, SaysType, SaysIndex, SaysDictionary, SaysEncoding, SaysField, SaysFieldAt, SaysColumns, SaysSchema}
-use Rattle.arrow_schema.specs.Written.{type_number}
+use Rattle.arrow_schema.specs.WrittenHeader.{type_number}
 use Rattle.arrow_schema.proofs.Again.{kind_of, type_kind_again, kind_there}
 
 -- ---- steps of a reading

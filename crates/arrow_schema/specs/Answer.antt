@@ -7,7 +7,7 @@ use Rattle.arrow_schema.specs.declared.data_type.DataType.TheVariants.{Utf8, Dic
 use Rattle.arrow_schema.specs.declared.schema.Field.{Field}
 use Rattle.arrow_schema.specs.declared.schema.Schema.{Schema}
 use Rattle.arrow_schema.specs.Schema.{IsSchema}
-use Rattle.arrow_schema.specs.Written.{encoding_of}
+use Rattle.arrow_schema.specs.WrittenHeader.{encoding_of}
 
 -- slots that are copied from several columns have no dictionary in common: where those are
 -- dictionaries, they lie as texts

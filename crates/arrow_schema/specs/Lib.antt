@@ -5,5 +5,5 @@ pub mod Header
 pub mod Message
 pub mod Says
 pub mod Schema
-pub mod Seen
-pub mod Written
+pub mod MessageView
+pub mod WrittenHeader

@@ -18,7 +18,7 @@ use Rattle.arrow_schema.specs.DataType.{bit_width, is_signed}
 use Rattle.arrow_schema.specs.Fields.{is_bare}
 use Rattle.arrow_schema.specs.Header.{same_dictionary, schema_of}
 use Rattle.arrow_schema.specs.Schema.{IsSchema}
-use Rattle.arrow_schema.specs.Written.{type_number}
+use Rattle.arrow_schema.specs.WrittenHeader.{type_number}
 
 -- a bool is true where its byte is not 0
 abbrev pub HasFlag : TableAt → ℕ → Bool → Type 0

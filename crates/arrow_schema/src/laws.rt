@@ -2,7 +2,7 @@
 
 ghost use Rattle.arrow_schema.specs.Answer.{PlainIsSchema, PlainHasNone, PlainStays};
 ghost use Rattle.arrow_schema.specs.Message.{MessagesReadBack};
-ghost use Rattle.arrow_schema.specs.Written.{SchemasReadBack};
+ghost use Rattle.arrow_schema.specs.WrittenHeader.{SchemasReadBack};
 ghost use Rattle.arrow_schema.specs.Says.{ReadIsSaid, ReadIsSchema};
 
 /// What is read of a written message is its kind, its header and the length of its body, wherever

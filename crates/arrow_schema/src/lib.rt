@@ -1,7 +1,7 @@
 //! Arrow's types and schemas.
 #![tactic(auto)]
 
-mod borrowed;
+mod borrowed_fields;
 pub mod data_type;
 pub mod header;
 pub mod laws;

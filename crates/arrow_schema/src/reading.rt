@@ -12,9 +12,9 @@ ghost use Rattle.arrow_schema.specs.Header.{field_at, fields_of, shares_dictiona
 ghost use Rattle.arrow_schema.specs.Header.{same_dictionary};
 ghost use Rattle.arrow_schema.specs.Header.{is_schema, schema_message_of, schema_in, schema_of};
 ghost use Rattle.arrow_schema.specs.Schema.{IsName, IsType, IsField, IsSchema};
-ghost use Rattle.arrow_schema.specs.Seen.{message_seen};
+ghost use Rattle.arrow_schema.specs.MessageView.{message_seen};
 
-use crate::borrowed::{BorrowedField, owned};
+use crate::borrowed_fields::{BorrowedField, owned};
 use crate::data_type::{DataType, DictionaryEncoding, IntegerType};
 use crate::header::{HeaderKind, Message, read_message, table_wanted};
 use crate::schema::{MAX_COLUMNS, MAX_NAME_BYTES, Schema};

@@ -1,6 +1,6 @@
 -- How many values stand in one column of a batch.
 use Rattle.std.specs.Prelude.{◌≤◌, ◌<◌, ◌^◌, ℕ, List, length, take}
-use Rattle.arrays.specs.Written.{texts_joined}
+use Rattle.arrays.specs.WrittenSlots.{texts_joined}
 use Rattle.scan_base.specs.declared.value.Value.{Value}
 
 -- offsets name each byte of the texts, and those of more than one value have no more than so many

@@ -11,7 +11,7 @@ use Rattle.arrays.specs.Validity.{is_valid, where_valid}
 use Rattle.arrays.specs.declared.layout.Layout.{Layout}
 use Rattle.arrays.specs.declared.layout.Layout.TheVariants as layout
 use Rattle.batch_stats.specs.declared.stats.Stats.{Stats}
-use Rattle.batch_stats.specs.Held.{ends_held, AreSlots, IsStatsOf}
+use Rattle.batch_stats.specs.HeldStats.{ends_held, AreSlots, IsStatsOf}
 use Rattle.batch_stats.specs.inside.Slots.{ends_with}
 use Rattle.batch_stats.proofs.Passes.{column_pass, pass_same}
 use mir.Val.{sel}

@@ -3,7 +3,7 @@
 ghost use Rattle.std.specs.Prelude.{◌≡◌, ◌≤◌, ◌<◌, ◌+◌, ◌*◌, ℕ, length};
 ghost use Rattle.arrays.specs.Number.{byte_width, element_at};
 ghost use Rattle.arrays.specs.declared.layout.Layout.TheVariants.{Indices as IndicesLayout};
-ghost use Rattle.batch_stats.specs.Held.{IsStatsOf};
+ghost use Rattle.batch_stats.specs.HeldStats.{IsStatsOf};
 ghost use Rattle.batch_stats.specs.inside.Slots.{IsFirstValid};
 
 use crate::code_sets::{CodeSet, LastCodes, MOST_LAST, MarkedCodes, SortedCodes};

@@ -6,7 +6,7 @@ ghost use Rattle.arrays.specs.Bools.{AreBools};
 ghost use Rattle.arrays.specs.Column.{ColumnAt};
 ghost use Rattle.arrays.specs.Validity.{where_valid};
 ghost use Rattle.arrays.specs.declared.layout.Layout.TheVariants.{Bools as BoolsLayout};
-ghost use Rattle.batch_stats.specs.Held.{ends_held, AreSlots, IsStatsOf};
+ghost use Rattle.batch_stats.specs.HeldStats.{ends_held, AreSlots, IsStatsOf};
 ghost use Rattle.batch_stats.specs.inside.Slots.{ends_with};
 
 use crate::stats::Stats;

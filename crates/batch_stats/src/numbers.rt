@@ -7,13 +7,13 @@ ghost use Rattle.arrays.specs.Number.{element_at};
 ghost use Rattle.arrays.specs.Validity.{where_valid};
 ghost use Rattle.arrays.specs.declared.layout.Layout.TheVariants.{Integers as IntegersLayout};
 ghost use Rattle.arrays.specs.declared.layout.Layout.TheVariants.{Decimals as DecimalsLayout};
-ghost use Rattle.batch_stats.specs.Held.{ends_held, AreSlots, IsStatsOf};
+ghost use Rattle.batch_stats.specs.HeldStats.{ends_held, AreSlots, IsStatsOf};
 ghost use Rattle.batch_stats.specs.Stats.{with_value};
 ghost use Rattle.batch_stats.specs.inside.Slots.{ends_with, HasBits};
 
 use crate::stats::Stats;
 use crate::validity::{first_valid, is_valid};
-use crate::wide::Wide;
+use crate::wide_numbers::WideElement;
 use arrays::{Decimals, Integers};
 use arrow_schema::IntegerType;
 use bitmap::Bits;
@@ -23,7 +23,7 @@ const BLOCK_LEN: usize = 64;
 
 /// Packed numbers in slots, and where there may be nulls the bits that say which slots are valid.
 #[derive(Clone, Copy, Drop)]
-pub(crate) struct Packed<'a> {
+pub(crate) struct PackedNumbers<'a> {
     pub(crate) values: &'a [u8],
     pub(crate) validity: &'a Option<Bits>,
 }
@@ -35,7 +35,7 @@ pub(crate) struct NumberRange<E> {
     pub(crate) greatest: E,
 }
 
-impl<E: Wide> NumberRange<E> {
+impl<E: WideElement> NumberRange<E> {
     // The same with one number more.
     fn with(self, number: E) -> NumberRange<E>
         ensures { Some (Int (E.value result.least), Int (E.value result.greatest))
@@ -96,7 +96,7 @@ impl<E: Wide> NumberRange<E> {
 
     // The same with those that are valid, one after another. Only of a number that changes an end,
     // its bit is looked at.
-    fn with_each_valid(self, packed: &Packed<'_>, from: usize, to: usize) -> NumberRange<E>
+    fn with_each_valid(self, packed: &PackedNumbers<'_>, from: usize, to: usize) -> NumberRange<E>
         requires room { E.WIDTH * to ≤ length packed.now.values.now }
         requires bits { HasBits packed.now.validity.now to }
         ensures { Some (Int (E.value result.least), Int (E.value result.greatest))
@@ -116,7 +116,7 @@ impl<E: Wide> NumberRange<E> {
 
     // The same of a block of slots. In most blocks no number changes an end, and so no bit is
     // looked at.
-    fn with_block(self, packed: &Packed<'_>, from: usize, to: usize) -> NumberRange<E>
+    fn with_block(self, packed: &PackedNumbers<'_>, from: usize, to: usize) -> NumberRange<E>
         requires room { E.WIDTH * to ≤ length packed.now.values.now }
         requires bits { HasBits packed.now.validity.now to }
         ensures { Some (Int (E.value result.least), Int (E.value result.greatest))
@@ -131,7 +131,7 @@ impl<E: Wide> NumberRange<E> {
     }
 
     // The same of all blocks.
-    fn with_valid(self, packed: &Packed<'_>, from: usize, to: usize) -> NumberRange<E>
+    fn with_valid(self, packed: &PackedNumbers<'_>, from: usize, to: usize) -> NumberRange<E>
         requires room { E.WIDTH * to ≤ length packed.now.values.now }
         requires bits { HasBits packed.now.validity.now to }
         ensures { Some (Int (E.value result.least), Int (E.value result.greatest))
@@ -149,7 +149,7 @@ impl<E: Wide> NumberRange<E> {
     }
 
     // The same: without a test of each slot, where there are no bits.
-    fn with_slots(self, packed: &Packed<'_>, from: usize, to: usize) -> NumberRange<E>
+    fn with_slots(self, packed: &PackedNumbers<'_>, from: usize, to: usize) -> NumberRange<E>
         requires room { E.WIDTH * to ≤ length packed.now.values.now }
         requires bits { HasBits packed.now.validity.now to }
         ensures { Some (Int (E.value result.least), Int (E.value result.greatest))
@@ -165,7 +165,7 @@ impl<E: Wide> NumberRange<E> {
 }
 
 // The statistics of the slots `from` up to, not with, `to`.
-fn numbers_stats<E: Wide>(packed: &Packed<'_>, from: usize, to: usize) -> Stats
+fn numbers_stats<E: WideElement>(packed: &PackedNumbers<'_>, from: usize, to: usize) -> Stats
     requires ordered { from ≤ to }
     requires room { E.WIDTH * to ≤ length packed.now.values.now }
     requires bits { HasBits packed.now.validity.now to }
@@ -197,7 +197,7 @@ pub(crate) fn integers_stats(cells: &Integers<'_>, first: usize, len: usize) -> 
         result }
 {
     let _count = cells.len();
-    let packed = Packed {
+    let packed = PackedNumbers {
         values: cells.values(),
         validity: cells.validity(),
     };
@@ -221,7 +221,7 @@ pub(crate) fn decimals_stats(cells: &Decimals<'_>, first: usize, len: usize) -> 
         result }
 {
     let _count = cells.len();
-    let packed = Packed {
+    let packed = PackedNumbers {
         values: cells.values(),
         validity: cells.validity(),
     };

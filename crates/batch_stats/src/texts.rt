@@ -7,7 +7,7 @@ ghost use Rattle.scan_base.specs.declared.value.Value.TheVariants.{Text};
 ghost use Rattle.arrays.specs.Number.{element_at, AreBytes};
 ghost use Rattle.arrays.specs.Texts.{texts_slot};
 ghost use Rattle.arrays.specs.declared.layout.Layout.TheVariants.{Texts as TextsLayout};
-ghost use Rattle.batch_stats.specs.Held.{IsStatsOf};
+ghost use Rattle.batch_stats.specs.HeldStats.{IsStatsOf};
 ghost use Rattle.batch_stats.specs.Stats.{stand, with_value};
 ghost use Rattle.batch_stats.specs.inside.Slots.{ends_with};
 ghost use Rattle.batch_stats.specs.inside.TextKeys.{key_of};

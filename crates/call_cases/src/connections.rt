@@ -1,12 +1,12 @@
 //! Connections through `flightscan pipe`, over ends in memory.
 
 use crate::infos::{push_info, push_schema_result};
-use crate::said::{Form, push_digits, push_rows, rows_of};
-use crate::words::{Names, halves};
+use crate::payload_text::{Form, push_digits, push_rows, rows_of};
+use crate::row_words::{Names, halves};
 use bytes::Bytes;
 use command_line::Request;
 use commands::pipe::pipe;
-use commands::words::read_words;
+use commands::program_words::read_words;
 use flight_calls::{Executor, Options, Setting};
 use flight_proto::FlightData;
 use grpc_frame::{Inbox, MemoryInput, MemoryOutput, Record};

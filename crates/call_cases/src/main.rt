@@ -4,7 +4,7 @@
 //! The first word of a row says what it is. Any other row is printed as it is.
 //!
 //! - `bytes NAME WORD` and `payload NAME WORD` name bytes, and print nothing. A WORD is pieces with
-//!   a `+` between (`words::Names::bytes_of`).
+//!   a `+` between (`row_words::Names::bytes_of`).
 //! - `log` begins an empty log. `put PAYLOAD PAYLOAD ..` and `fetch TICKET` are answered by a step,
 //!   and the answer is printed. `cut TICKET` prints how many rows each message of the answer has,
 //!   `bits TICKET` the first two bytes of its last body, and `runs TICKET` its rows, equal ones
@@ -26,14 +26,14 @@
 
 mod connections;
 mod infos;
+mod payload_text;
 mod puts;
-mod said;
+mod row_words;
 mod streams;
-mod words;
 
 use crate::connections::Connections;
 use crate::puts::Puts;
-use crate::words::{Names, halves};
+use crate::row_words::{Names, halves};
 use fetch_workers::Workers;
 use flight_calls::Executor;
 use hash_seed::HashSeed;

@@ -2,11 +2,11 @@
 //! and what it saw. `stdout` has what is wanted.
 #![tactic(auto)]
 
-mod alone;
 mod index;
+mod many_threads;
+mod one_thread;
 mod rows;
-mod several;
-mod told;
+mod told_logs;
 
 use hash_seed::HashSeed;
 use scan_base::Fault;
@@ -24,9 +24,9 @@ fn line(alloc: Global, name: &str, seen: Result<String, Fault>) -> Result<String
 fn main(rt: HostRuntime) -> io::Result<()> {
     let alloc = rt.alloc();
     let seed = HashSeed::new(&rt)?;
-    let seen = alone::refusals(&rt, alloc, seed);
+    let seen = one_thread::refusals(&rt, alloc, seed);
     println!(rt; "{}", line(alloc, "refusals", seen)?)?;
-    let seen = alone::expiries(&rt, alloc, seed);
+    let seen = one_thread::expiries(&rt, alloc, seed);
     println!(rt; "{}", line(alloc, "expiries", seen)?)?;
     let seen = index::an_index_stays(alloc, seed);
     println!(rt; "{}", line(alloc, "an_index_stays", seen)?)?;
@@ -34,12 +34,12 @@ fn main(rt: HostRuntime) -> io::Result<()> {
     println!(rt; "{}", line(alloc, "versions_by_number", seen)?)?;
     let seen = index::a_version_is_dropped(alloc, seed);
     println!(rt; "{}", line(alloc, "a_version_is_dropped", seen)?)?;
-    let seen = several::two_look_while_one_puts(&rt, alloc, seed);
+    let seen = many_threads::two_look_while_one_puts(&rt, alloc, seed);
     println!(rt; "{}", line(alloc, "two_look_while_one_puts", seen)?)?;
-    let seen = several::two_put_by_one_lock(&rt, alloc, seed);
+    let seen = many_threads::two_put_by_one_lock(&rt, alloc, seed);
     println!(rt; "{}", line(alloc, "two_put_by_one_lock", seen)?)?;
-    let seen = told::one_seat_tells_another(&rt, alloc, seed);
+    let seen = told_logs::one_seat_tells_another(&rt, alloc, seed);
     println!(rt; "{}", line(alloc, "one_seat_tells_another", seen)?)?;
-    let seen = told::one_seat_holds_what_expires(&rt, alloc, seed);
+    let seen = told_logs::one_seat_holds_what_expires(&rt, alloc, seed);
     println!(rt; "{}", line(alloc, "one_seat_holds_what_expires", seen)?)
 }

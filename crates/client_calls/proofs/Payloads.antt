@@ -2,7 +2,7 @@
 use Rattle.std.proofs.Common.{◌≡◌, ℕ, ◌+◌, ◌<◌, List, [], ◌∷◌, ◌++◌, length, map, take, drop, get_or, Some, None, refl, sym, ap, ◌∙◌, append_assoc, append-nil}
 use Rattle.std.specs.Prelude.{slice_get}
 use Rattle.std.proofs.lemmas.List.{map-append, take_more}
-use Rattle.proto_wire.specs.Writing.{spelling}
+use Rattle.proto_wire.specs.Writing.{field_spelling}
 use Rattle.proto_wire.specs.Calls.{chunk_entry}
 use Rattle.flight_proto.specs.FlightData.{DataSaid, data_bytes, data_head}
 use Rattle.flight_proto.specs.FlightDescriptor.{DescriptorSaid, descriptor_bytes}
@@ -10,7 +10,7 @@ use Rattle.flight_proto.specs.Message.{set_fields, spelled}
 use Rattle.flight_proto.proofs.Heads.{bodies_follow_heads}
 use Rattle.flight_info.specs.Payloads.{Payload}
 use Rattle.ipc_stream.specs.declared.message.IpcMessage.{IpcMessage}
-use Rattle.client_calls.specs.declared.putting.Target.{Target}
+use Rattle.client_calls.specs.declared.put_call.Target.{Target}
 use Rattle.client_calls.specs.Commands.{put_descriptor, put_payloads, carried_in}
 use Rattle.client_calls.specs.inside.Heads.{put_command_bytes, first_payload}
 
@@ -27,7 +27,7 @@ behind_descriptor : (descriptor : DescriptorSaid) (carried : DataSaid)
     → data_bytes (Some descriptor) (record { data_header = []; data_body = [] }) ++ data_bytes None carried ≡ data_bytes (Some descriptor) carried
 behind_descriptor descriptor carried =
     ap (λ (l : List ℕ). l ++ spelled (set_fields (chunk_entry 2 carried.data_header ∷ chunk_entry 1000 carried.data_body ∷ [])))
-    (append-nil (spelling (chunk_entry 1 (descriptor_bytes descriptor))))
+    (append-nil (field_spelling (chunk_entry 1 (descriptor_bytes descriptor))))
 
 -- the messages of the stream after the first
 abbrev pub later_payloads : List IpcMessage → List Payload

@@ -3,7 +3,7 @@ use native.Mathlib.Omega.{arith}
 use Rattle.std.proofs.Common.{◌≡◌, ◌∙◌, ◌<◌, ◌≤◌, ◌⊎◌, inl, inr, ℕ, zero, suc, ◌+◌, ◌-◌, ◌*◌, ◌/◌, List, length, map, take, drop, ap, subst}
 use Rattle.std.proofs.lemmas.List.{length-take-le, length-drop, length-map}
 use Rattle.std.proofs.Math.Nat.{add-mul, mul-add, mul-le-mul_right, div-mul-le_self, lt-div-mul-add, div-le_self}
-use Rattle.client_commands.specs.Spread.{IsEvenPart}
+use Rattle.client_commands.specs.ParallelFetch.{IsEvenPart}
 use Rattle.client_commands.specs.inside.Relaying.{IsLeft}
 
 -- after a front that has so many parts stands one part more: the quotient, rounded down

@@ -8,7 +8,7 @@ use Rattle.std.proofs.lemmas.Grind.{flat_map-append}
 use Rattle.scan_base.specs.declared.fault.Fault.{Fault}
 use Rattle.scan_base.specs.declared.fault.Fault.TheVariants.{Transport}
 use Rattle.flight_proto.specs.FlightInfo.{EndpointSaid}
-use Rattle.flight_proto.specs.Wanted.{Wanted}
+use Rattle.flight_proto.specs.InfoCommand.{InfoCommand}
 use Rattle.flight_client.specs.Stream.{StreamAt}
 use Rattle.row_stream.specs.Stream.{numbered_schema, CountsTransport, WritesStream}
 use Rattle.row_stream.specs.Writing.{WriterAt}
@@ -17,15 +17,15 @@ use Rattle.client_calls.specs.declared.failure.Failure.TheVariants.{Found}
 use Rattle.client_calls.specs.Outcome.{Line}
 use Rattle.command_ends.specs.Network.{Ends}
 use Rattle.command_ends.specs.Printing.{Said}
-use Rattle.client_commands.specs.declared.lost.Lost.{Lost}
-use Rattle.client_commands.specs.declared.lost.Lost.TheVariants.{Failed, Unconnected}
+use Rattle.client_commands.specs.declared.fetch_failure.FetchFailure.{FetchFailure}
+use Rattle.client_commands.specs.declared.fetch_failure.FetchFailure.TheVariants.{Failed, Unconnected}
 use Rattle.client_commands.specs.Fetching.{FetchesEach}
 use Rattle.client_commands.specs.InTurn.{IsWrittenWhole, RunsCame, StopsAmong, StopsInTurn}
 use Rattle.client_commands.specs.Lines.{opened_line}
-use Rattle.client_commands.specs.Spread.{EachGives, FetchesOver, Giving, IsAsked, IsEvenPart, IsRun}
+use Rattle.client_commands.specs.ParallelFetch.{EachGives, FetchesOver, Giving, IsAsked, IsEvenPart, IsRun}
 use Rattle.client_commands.specs.Streaming.{ComeSome, WhyNoMore, WritesUpTo, rows_held}
 use Rattle.client_commands.specs.inside.Relaying.{IsLeft, IsTurn, IsTurnBy, PassesRuns, Relays, StreamsOrNot}
-use Rattle.client_commands.specs.inside.Runs.{HavePassed, IsOpen, PassingAt, StopsInRun}
+use Rattle.client_commands.specs.inside.Runs.{HavePassed, IsOpen, RelayAt, StopsInRun}
 use Rattle.client_commands.proofs.Even.{all_left, part_even, part_left}
 use Rattle.client_commands.proofs.Spread.{IsEven, asked, began, gave, gives_more, lines_more, many_given, run_of}
 
@@ -76,7 +76,7 @@ come_all (e ∷ es) (s ∷ ss) old new fetched = inr (fetched.0, fetched.1, come
 
 -- ---- a turn
 
-module _ (many : ℕ) (lines : List Line) (endpoints others behind : List EndpointSaid) (begun mid : Said) (now : PassingAt) (turn : IsTurn many lines endpoints others behind begun now mid) where
+module _ (many : ℕ) (lines : List Line) (endpoints others behind : List EndpointSaid) (begun mid : Said) (now : RelayAt) (turn : IsTurn many lines endpoints others behind begun now mid) where
   -- its run came whole
   turn_came : (more : List StreamAt) (last : Line) → FetchesEach (turn.endpoint ∷ others) more turn.line last → RunsCame many lines endpoints behind (turn.streams ++ more)
   turn_came more last fetched =
@@ -107,7 +107,7 @@ module _ (many : ℕ) (lines : List Line) (endpoints others behind : List Endpoi
     before_next : RunsCame many lines endpoints ((next ∷ more) ++ rest) (turn.streams ++ streams)
     before_next = subst (λ (l : List EndpointSaid). RunsCame many lines endpoints l (turn.streams ++ streams)) (sym cut) (turn_came streams last fetched)
 
-    next_turn : (after : PassingAt) (out : Said) → IsOpen (turn.streams ++ streams) next.ticket (opened_line ends) begun after out → IsTurn many (lines ++ opened_line ends ∷ []) endpoints more rest begun after out
+    next_turn : (after : RelayAt) (out : Said) → IsOpen (turn.streams ++ streams) next.ticket (opened_line ends) begun after out → IsTurn many (lines ++ opened_line ends ∷ []) endpoints more rest begun after out
     next_turn after out opened = record {
       before = lines;
       line = opened_line ends;
@@ -152,7 +152,7 @@ module _ {N : Type 0} (Gives : Giving N) (first : Line) (handles : List N) (endp
     even_first : IsEvenPart (length endpoints) (length handles + 1) (length (next ∷ more))
     even_first = part_even (length endpoints) (length handles + 1) (length endpoints) (length handles) (length (next ∷ more)) (length rest) left_first part cut_first
 
-    pub first_turn : (now : PassingAt) (out : Said) → IsOpen [] next.ticket first begun now out → IsTurnBy Gives first handles handles endpoints more rest begun now out
+    pub first_turn : (now : RelayAt) (out : Said) → IsOpen [] next.ticket first begun now out → IsTurnBy Gives first handles handles endpoints more rest begun now out
     first_turn now out opened = record {
       done = [];
       all = refl;
@@ -198,7 +198,7 @@ module _ {N : Type 0} (Gives : Giving N) (first : Line) (handles : List N) (endp
 
   -- ---- one run more
 
-  module _ (handle : N) (left : List N) (others behind : List EndpointSaid) (mid : Said) (now : PassingAt) (it : IsTurnBy Gives first handles (handle ∷ left) endpoints others behind begun now mid)
+  module _ (handle : N) (left : List N) (others behind : List EndpointSaid) (mid : Said) (now : RelayAt) (it : IsTurnBy Gives first handles (handle ∷ left) endpoints others behind begun now mid)
       (next : EndpointSaid) (more rest : List EndpointSaid) (cut : (next ∷ more) ++ rest ≡ behind) (part : length (next ∷ more) ≡ length behind / (length left + 1)) where
     left_next : IsLeft (length endpoints) (length handles + 1) (length behind) (length left + 1)
     left_next = subst (λ (n : ℕ). IsLeft (length endpoints) (length handles + 1) (length behind) n) (omega arith) it.remains
@@ -212,11 +212,11 @@ module _ {N : Type 0} (Gives : Giving N) (first : Line) (handles : List N) (endp
     all_next : (it.done ++ handle ∷ []) ++ left ≡ handles
     all_next = append_assoc it.done (handle ∷ []) left ∙ it.all
 
-    module _ {V : Type 0} (view : V → PassingAt) (out : Said) where
-      abbrev right : V → Result V Lost
+    module _ {V : Type 0} (view : V → RelayAt) (out : Said) where
+      abbrev right : V → Result V FetchFailure
       right passing = Ok passing
 
-      abbrev wrong : Lost → Result V Lost
+      abbrev wrong : FetchFailure → Result V FetchFailure
       wrong lost = Err lost
 
       pub relayed : (passing : V) → Relays Gives view next handle it.turn.streams (it.turn.endpoint ∷ others) it.turn.line begun (Ok passing) out
@@ -233,7 +233,7 @@ module _ {N : Type 0} (Gives : Giving N) (first : Line) (handles : List N) (endp
             remains = part_left (length endpoints) (length handles + 1) (length behind) (length left) (length (next ∷ more)) (length rest) left_next part cut_next;
           }
 
-      pub relay_lost : (lost : Lost) → Relays Gives view next handle it.turn.streams (it.turn.endpoint ∷ others) it.turn.line begun (Err lost) out → PassesRuns Gives first handles endpoints (Err lost) begun out
+      pub relay_lost : (lost : FetchFailure) → Relays Gives view next handle it.turn.streams (it.turn.endpoint ∷ others) it.turn.line begun (Err lost) out → PassesRuns Gives first handles endpoints (Err lost) begun out
       relay_lost (Failed failure) (inl (same, is, stops)) =
           let e : wrong (Failed failure) ≡ wrong (Failed same) = is in
           let failed : same ≡ failure = cc in
@@ -273,7 +273,7 @@ module _ {N : Type 0} (Gives : Giving N) (first : Line) (handles : List N) (endp
 
   -- ---- the last run
 
-  module _ (others behind : List EndpointSaid) (mid : Said) (now : PassingAt) (it : IsTurnBy Gives first handles [] endpoints others behind begun now mid) where
+  module _ (others behind : List EndpointSaid) (mid : Said) (now : RelayAt) (it : IsTurnBy Gives first handles [] endpoints others behind begun now mid) where
     abbrev lines : List Line
     lines = first ∷ map opened_line it.made
 
@@ -340,8 +340,8 @@ module _ {N : Type 0} (Gives : Giving N) (first : Line) (handles : List N) (endp
 -- ---- all
 
 -- it was asked, and the runs were passed on or not
-pub streams_by : {N : Type 0} (Gives : Giving N) (Shares : N → N → N → Type 0) (streams : ℕ) (wanted : Wanted) (old new : N) (first last : Line) (endpoints parts : List EndpointSaid) (handles : List N)
-    (result : Result (Unit {0}) Lost) (out out' : Said) → parts ≡ endpoints → IsAsked Shares streams wanted old new first last endpoints handles → PassesRuns Gives last handles parts result out out'
+pub streams_by : {N : Type 0} (Gives : Giving N) (Shares : N → N → N → Type 0) (streams : ℕ) (wanted : InfoCommand) (old new : N) (first last : Line) (endpoints parts : List EndpointSaid) (handles : List N)
+    (result : Result (Unit {0}) FetchFailure) (out out' : Said) → parts ≡ endpoints → IsAsked Shares streams wanted old new first last endpoints handles → PassesRuns Gives last handles parts result out out'
     → StreamsOrNot Gives Shares streams wanted old new result first last out out'
 streams_by Gives Shares streams wanted old new first last endpoints parts handles (Ok done) out out' same is_asked passes =
     record { endpoints = endpoints; handles = handles; asked = is_asked; comes = subst (λ (l : List EndpointSaid). PassesRuns Gives last handles l (Ok done) out out') same passes }

@@ -13,9 +13,9 @@ use Rattle.arrow_schema.specs.declared.data_type.DataType.TheVariants.{Integer, 
 use Rattle.arrow_schema.specs.declared.schema.Field.{Field}
 use Rattle.arrow_schema.specs.Answer.{answered_at}
 use Rattle.arrays.specs.Batch.{BatchAt, rows_of}
-use Rattle.arrays.specs.Typed.{AreOfTypes}
+use Rattle.arrays.specs.TypedLayouts.{AreOfTypes}
 use Rattle.ipc_batch.specs.State.{Known, State}
-use Rattle.ipc_batch.specs.Said.{HasColumns, Rows}
+use Rattle.ipc_batch.specs.SaidRows.{HasColumns, Rows}
 use Rattle.ipc_batch.proofs.Lengths.{fine, both}
 use Rattle.table_versions.specs.Table.{Table, same_field, same_fields, same_name, same_type}
 use Rattle.scan_base.specs.Value.{same_flag}
@@ -33,13 +33,13 @@ use Rattle.row_stream.proofs.Broken.{breaks_before}
 use Rattle.client_calls.specs.declared.failure.Failure.{Failure}
 use Rattle.client_calls.specs.declared.failure.Failure.TheVariants.{Found}
 use Rattle.client_calls.specs.Outcome.{Line}
-use Rattle.client_calls.specs.Taking.{FetchAt, FetchGives, HasNoSchema, IsBegun, IsFetching, KeepsSchema, ended, with_batch}
+use Rattle.client_calls.specs.Taking.{FetchAt, FetchGives, HasNoSchema, IsBegun, IsFetchReader, KeepsSchema, ended, with_batch}
 use Rattle.command_ends.specs.Printing.{Said}
 use Rattle.client_commands.specs.Fetching.{FetchesEach, FetchesOne, FetchStops}
 use Rattle.client_commands.specs.Lines.{CanCount}
 use Rattle.client_commands.specs.Streaming.{ComeSome, SaysFirst, SaysSchema, Stops, WhyNoMore, WritesBroken, WritesSome, WritesUpTo, rows_held}
-use Rattle.client_commands.specs.inside.Passing.{Breaks, BreaksAtFailure, EndsAt, FitsSchema, HasPassed, IsPassing, StopsPassing, WhyUnwritten}
-use Rattle.client_commands.specs.inside.Runs.{AreSent, Fits, Follows, HavePassed, IsOpen, Opens, Passes, PassedAt, PassingAt, StopsInRun}
+use Rattle.client_commands.specs.inside.StreamRelay.{Breaks, BreaksAtFailure, EndsAt, FitsSchema, HasPassed, IsRelay, StopsPassing, WhyUnwritten}
+use Rattle.client_commands.specs.inside.Runs.{AreSent, Fits, Follows, HavePassed, IsOpen, Opens, Passes, RunStateAt, RelayAt, StopsInRun}
 use Rattle.client_commands.proofs.Fetched.{front_more, quiet, split_at}
 
 -- ---- streams that came
@@ -224,7 +224,7 @@ says_ended stream own end says = schema_there stream says.0 end says.1 ∙ ap (�
 
 -- a stream that begins has the columns of the schema that is written
 pub at_begin : (ticket : Payload) (schema own : Schema) (rows : Rows) (start : Option (List ℕ)) (begun : Line) (now : FetchAt) (out : Said) (writer : WriterAt) (it : IsBegun ticket now.state begun now.line) → (it.known).schema ≡ own
-    → same_fields schema.fields own.fields ≡ true → writer.schema ≡ numbered_schema schema → SoFar (numbered_schema schema) rows start out.bytes writer.waiting → IsPassing ticket schema own rows start begun it.stream now out writer
+    → same_fields schema.fields own.fields ≡ true → writer.schema ≡ numbered_schema schema → SoFar (numbered_schema schema) rows start out.bytes writer.waiting → IsRelay ticket schema own rows start begun it.stream now out writer
 at_begin ticket schema own rows start begun now out writer it is same written so = record {
   fetching = it.fetching;
   state = it.state_is;
@@ -235,9 +235,9 @@ at_begin ticket schema own rows start begun now out writer it is same written so
 }
 
 module _ (ticket : Payload) (schema own : Schema) (rows : Rows) (start : Option (List ℕ)) (begun : Line) (stream : StreamAt) (now : FetchAt) (out : Said) (writer : WriterAt)
-    (passing : IsPassing ticket schema own rows start begun stream now out writer) where
+    (passing : IsRelay ticket schema own rows start begun stream now out writer) where
   -- nothing more was written
-  pub same_passing : (writer' : WriterAt) (out' : Said) → writer' ≡ writer → out' ≡ out → IsPassing ticket schema own rows start begun stream now out' writer'
+  pub same_passing : (writer' : WriterAt) (out' : Said) → writer' ≡ writer → out' ≡ out → IsRelay ticket schema own rows start begun stream now out' writer'
   same_passing writer' out' same still = record {
     fetching = passing.fetching;
     state = passing.state;
@@ -249,7 +249,7 @@ module _ (ticket : Payload) (schema own : Schema) (rows : Rows) (start : Option 
   }
 
   -- a batch came
-  module _ (state : State) (line : Line) (batch : BatchAt) (fetching : IsFetching ticket (with_batch stream state (Some batch)) begun line) (kept : KeepsSchema now.state state) where
+  module _ (state : State) (line : Line) (batch : BatchAt) (fetching : IsFetchReader ticket (with_batch stream state (Some batch)) begun line) (kept : KeepsSchema now.state state) where
     abbrev with_it : StreamAt
     with_it = with_batch stream state (Some batch)
 
@@ -258,11 +258,11 @@ module _ (ticket : Payload) (schema own : Schema) (rows : Rows) (start : Option 
 
     -- and was written
     pub batch_passed : (next : FetchAt) (out' : Said) (after : WriterAt) → next.state ≡ state → next.line ≡ line → after.schema ≡ writer.schema
-        → SendsBatch {A = Unit {0}} (Ok tt) writer.schema batch out.bytes out'.bytes writer.waiting after.waiting out.failures out'.failures → IsPassing ticket schema own rows start begun with_it next out' after
+        → SendsBatch {A = Unit {0}} (Ok tt) writer.schema batch out.bytes out'.bytes writer.waiting after.waiting out.failures out'.failures → IsRelay ticket schema own rows start begun with_it next out' after
     batch_passed next out' after state_is line_is kept_schema sends =
         let sends : SendsBatch {A = Unit {0}} (Ok tt) (numbered_schema schema) batch out.bytes out'.bytes writer.waiting after.waiting out.failures out'.failures = rw passing.written at sends in
         record {
-          fetching = subst (λ (l : Line). IsFetching ticket with_it begun l) (sym line_is) fetching;
+          fetching = subst (λ (l : Line). IsFetchReader ticket with_it begun l) (sym line_is) fetching;
           state = sym state_is;
           says = says;
           same = passing.same;
@@ -343,7 +343,7 @@ breaks_sent streams begun mid out writer sent breaks = (
 )
 
 module _ (before : List StreamAt) (behind : List EndpointSaid) (endpoint : EndpointSaid) (line : Line) where
-  came_next : (stream : StreamAt) (some : Line) → IsFetching endpoint.ticket stream line some → ComeSome (endpoint ∷ behind) (stream ∷ []) line some
+  came_next : (stream : StreamAt) (some : Line) → IsFetchReader endpoint.ticket stream line some → ComeSome (endpoint ∷ behind) (stream ∷ []) line some
   came_next stream some fetching = inl (refl, fetching)
 
   came_whole : (stream : StreamAt) (some : Line) → FetchesOne endpoint (Ok stream) line some → ComeSome (endpoint ∷ behind) (stream ∷ []) line some
@@ -423,7 +423,7 @@ of_known : (ticket : Payload) (fetch : FetchAt) (line : Line) (written : Schema)
 of_known ticket fetch line written same it (known, is, fits) =
     subst (λ (k : Known). same_fields written.fields k.schema.fields ≡ same) (same_known fetch.state known it.known is it.has_schema) fits
 
-module _ {A : Type 0} (view : A → PassingAt) (streams : List StreamAt) (endpoint : EndpointSaid) (line : Line) (begun mid out : Said) (writer : WriterAt)
+module _ {A : Type 0} (view : A → RelayAt) (streams : List StreamAt) (endpoint : EndpointSaid) (line : Line) (begun mid out : Said) (writer : WriterAt)
     (sent : AreSent streams begun writer mid) where
   -- where it has the columns that are written it is open
   pub opens_by : (fetch : FetchAt) (result : Result A Failure) → IsBegun endpoint.ticket fetch.state line fetch.line → Fits view result fetch writer mid out → Opens view result streams endpoint line begun out
@@ -437,7 +437,7 @@ module _ {A : Type 0} (view : A → PassingAt) (streams : List StreamAt) (endpoi
         so = sent.so;
         quiet = sent.quiet;
       } in
-      subst (λ (now : PassingAt). IsOpen streams endpoint.ticket line begun now out) (sym fits.0)
+      subst (λ (now : RelayAt). IsOpen streams endpoint.ticket line begun now out) (sym fits.0)
       (subst (λ (o : Said). IsOpen streams endpoint.ticket line begun (record { fetch = fetch; writer = writer }) o) (sym fits.2) open_at)
   opens_by fetch (Err failure) it fits =
       let differ = of_known endpoint.ticket fetch line writer.schema false it fits.1 in
@@ -486,16 +486,16 @@ schema_unsent endpoint behind state schema fault first line begun out it is begi
     by _ begins cause counted = absurd cause
 
 -- its schema was sent, and nothing else
-pub opens_first : (endpoint : EndpointSaid) (line : Line) (begun out : Said) (now : PassingAt) (schema : Schema) (it : IsBegun endpoint.ticket now.fetch.state line now.fetch.line) → it.known.schema ≡ schema
+pub opens_first : (endpoint : EndpointSaid) (line : Line) (begun out : Said) (now : RelayAt) (schema : Schema) (it : IsBegun endpoint.ticket now.fetch.state line now.fetch.line) → it.known.schema ≡ schema
     → Begins {A = WriterAt} (λ (writer : WriterAt). writer) (Ok now.writer) (numbered_schema schema) begun.bytes out.bytes → out.failures ≡ begun.failures → IsOpen [] endpoint.ticket line begun now out
 opens_first endpoint line begun out now schema it is begins quiet =
     record { begins = it; schema = schema; follows = is; written = begins.0; so = begins.1; quiet = quiet }
 
 -- ---- a stream that is open
 
-module _ (before : List StreamAt) (endpoint : EndpointSaid) (line : Line) (begun mid : Said) (now : PassingAt) (at : IsOpen before endpoint.ticket line begun now mid) where
+module _ (before : List StreamAt) (endpoint : EndpointSaid) (line : Line) (begun mid : Said) (now : RelayAt) (at : IsOpen before endpoint.ticket line begun now mid) where
   -- its batches come next
-  pub passing_at : IsPassing endpoint.ticket at.schema at.begins.known.schema (rows_held before) begun.bytes line at.begins.stream now.fetch mid now.writer
+  pub passing_at : IsRelay endpoint.ticket at.schema at.begins.known.schema (rows_held before) begun.bytes line at.begins.stream now.fetch mid now.writer
   passing_at = at_begin endpoint.ticket at.schema at.begins.known.schema (rows_held before) begun.bytes line now.fetch mid now.writer at.begins refl
       (has_same before at.schema at.begins.known.schema at.follows) at.written at.so
 
@@ -537,7 +537,7 @@ module _ (before : List StreamAt) (endpoint : EndpointSaid) (line : Line) (begun
       by (inr (fault, is, why, ends, same)) = inr (fault, is, no_more before stops.stream at.schema fault first_is why, up_to fault ends, same)
 
   -- it came whole
-  pub stream_passed : (fetch : FetchAt) (out : Said) (after : PassedAt) → after.line ≡ fetch.line
+  pub stream_passed : (fetch : FetchAt) (out : Said) (after : RunStateAt) → after.line ≡ fetch.line
       → HasPassed endpoint.ticket at.schema at.begins.known.schema (rows_held before) begun.bytes line fetch mid out after.writer → HavePassed before (endpoint ∷ []) line begun after out
   stream_passed fetch out after is passed = record {
     streams = passed.stream ∷ [];
@@ -573,7 +573,7 @@ fetch_stops_behind front rest streams failure old middle last fetched stops = re
   why = stops.why;
 }
 
-module _ (before : List StreamAt) (front : List EndpointSaid) (line : Line) (begun mid out : Said) (now : PassedAt) (passed : HavePassed before front line begun now mid) where
+module _ (before : List StreamAt) (front : List EndpointSaid) (line : Line) (begun mid out : Said) (now : RunStateAt) (passed : HavePassed before front line begun now mid) where
   -- it stopped among those after them
   pub stops_behind : (rest : List EndpointSaid) (failure : Failure) → StopsInRun (before ++ passed.streams) rest failure now.line begun out → StopsInRun before (front ++ rest) failure line begun out
   stops_behind rest failure stops = record {
@@ -601,7 +601,7 @@ module _ (before : List StreamAt) (front : List EndpointSaid) (line : Line) (beg
       )
 
   -- these came whole, too
-  passed_behind : (rest : List EndpointSaid) (later : PassedAt) → HavePassed (before ++ passed.streams) rest now.line begun later out → HavePassed before (front ++ rest) line begun later out
+  passed_behind : (rest : List EndpointSaid) (later : RunStateAt) → HavePassed (before ++ passed.streams) rest now.line begun later out → HavePassed before (front ++ rest) line begun later out
   passed_behind rest later more = record {
     streams = passed.streams ++ more.streams;
     fetched = fetches_both front rest passed.streams more.streams line now.line later.line passed.fetched more.fetched;
@@ -609,7 +609,7 @@ module _ (before : List StreamAt) (front : List EndpointSaid) (line : Line) (beg
   }
 
   -- one stream more, or not
-  pub passes_behind : {A : Type 0} (view : A → PassedAt) (endpoint : EndpointSaid) (result : Result A Failure) → Passes view result (before ++ passed.streams) [] endpoint now.line begun out → Passes view result before front endpoint line begun out
+  pub passes_behind : {A : Type 0} (view : A → RunStateAt) (endpoint : EndpointSaid) (result : Result A Failure) → Passes view result (before ++ passed.streams) [] endpoint now.line begun out → Passes view result before front endpoint line begun out
   passes_behind view endpoint (Ok later) more = passed_behind (endpoint ∷ []) (view later) more
   passes_behind view endpoint (Err failure) stops = λ behind. stops_behind (endpoint ∷ behind) failure (stops behind)
 
@@ -617,7 +617,7 @@ module _ (before : List StreamAt) (front : List EndpointSaid) (line : Line) (beg
 
 module _ {X : Type 0} (said : X → EndpointSaid) (items : List X) (i : ℕ) (x : X) (inside : i < length items) (is : x ≡ get_or items i x) (before : List StreamAt) (front : EndpointSaid) where
   -- the next one was passed on
-  pub passed_more : (line : Line) (begun out : Said) (now : PassedAt) → HavePassed before ((front ∷ map said (take i items)) ++ said x ∷ []) line begun now out → HavePassed before (front ∷ map said (take (i + 1) items)) line begun now out
+  pub passed_more : (line : Line) (begun out : Said) (now : RunStateAt) → HavePassed before ((front ∷ map said (take i items)) ++ said x ∷ []) line begun now out → HavePassed before (front ∷ map said (take (i + 1) items)) line begun now out
   passed_more line begun out now passed =
       subst (λ (endpoints : List EndpointSaid). HavePassed before (front ∷ endpoints) line begun now out) (sym (front_more said items i x inside is)) passed
 

@@ -5,7 +5,7 @@ use Rattle.std.proofs.lemmas.List.{map-append, append-nil, append_assoc, length-
 use Rattle.std.proofs.lemmas.List.Elements.{All-append, All-from_recursion, All-weaker}
 use Rattle.std.proofs.lemmas.Grind.{flat_map-append}
 use Rattle.flight_proto.specs.FlightInfo.{EndpointSaid}
-use Rattle.flight_proto.specs.Wanted.{Wanted, wanted_bytes}
+use Rattle.flight_proto.specs.InfoCommand.{InfoCommand, wanted_bytes}
 use Rattle.grpc_frame.specs.Records.{Received}
 use Rattle.flight_client.specs.Stream.{StreamAt}
 use Rattle.client_calls.specs.declared.failure.Failure.{Failure}
@@ -14,14 +14,14 @@ use Rattle.client_calls.specs.Answers.{Stop, AnswersOne}
 use Rattle.client_calls.specs.Commands.{ReadsEndpoints}
 use Rattle.client_calls.specs.Outcome.{Line, CallsAt}
 use Rattle.command_ends.specs.Network.{Ends}
-use Rattle.client_commands.specs.Fetching.{Asks, FetchesEach, FetchStops}
+use Rattle.client_commands.specs.Fetching.{AsksPlaces, FetchesEach, FetchStops}
 use Rattle.client_commands.specs.Lines.{CanCount, opened_line}
-use Rattle.client_commands.specs.declared.apart.Refused.{Refused}
-use Rattle.client_commands.specs.declared.lost.Lost.{Lost}
-use Rattle.client_commands.specs.declared.lost.Lost.TheVariants.{Failed, Unconnected}
+use Rattle.client_commands.specs.declared.part_fetch.RefusedHandle.{RefusedHandle}
+use Rattle.client_commands.specs.declared.fetch_failure.FetchFailure.{FetchFailure}
+use Rattle.client_commands.specs.declared.fetch_failure.FetchFailure.TheVariants.{Failed, Unconnected}
 use Rattle.client_commands.specs.inside.Parts.{Apart, BothGive, FetchesAlone, FetchesPart, FetchesParts, JoinsLast, Settles, SpreadsOrNot, TriesAgain}
 use Rattle.client_commands.proofs.Even.{IsCut, front_part, last_part, only_part}
-use Rattle.client_commands.specs.Spread.{Run, IsRun, IsEvenPart, EachGives, FailsBy, FetchesBy, FetchesOver, GivesAtLast, Giving, IsAsked, RefusesTwice, SharesEach, StopsOver, UnconnectedBy}
+use Rattle.client_commands.specs.ParallelFetch.{Run, IsRun, IsEvenPart, EachGives, FailsBy, FetchesBy, FetchesOver, GivesAtLast, Giving, IsAsked, RefusesTwice, SharesHandles, StopsOver, UnconnectedBy}
 
 abbrev pub run_of : List EndpointSaid → List StreamAt → Line → Line → Run
 run_of endpoints streams old new = record { endpoints = endpoints; streams = streams; old = old; new = new }
@@ -129,7 +129,7 @@ front_stops lines front back failure stops = record {
 
 -- one handle more
 pub shares_more : {N : Type 0} (Shares : N → N → N → Type 0) (handles : List N) (handle : N) (old middle new : N)
-    → SharesEach Shares handles old middle → Shares middle handle new → SharesEach Shares (handles ++ handle ∷ []) old new
+    → SharesHandles Shares handles old middle → Shares middle handle new → SharesHandles Shares (handles ++ handle ∷ []) old new
 shares_more {N} Shares [] handle old middle new same one = (new, subst (λ (from : N). Shares from handle new) same one, refl)
 shares_more Shares (h ∷ hs) handle old middle new shared one = (shared.0, shared.1, shares_more Shares hs handle shared.0 middle new shared.2 one)
 
@@ -141,7 +141,7 @@ pub opened_counts : (ends : Ends) → CanCount (opened_line ends)
 opened_counts ends = (omega arith, omega arith)
 
 -- no read and no write failed of a call that gave endpoints
-pub asked_counts : (wanted : Wanted) (endpoints : List EndpointSaid) (old new : Line) → Asks wanted (Ok endpoints) old new → CanCount old → CanCount new
+pub asked_counts : (wanted : InfoCommand) (endpoints : List EndpointSaid) (old new : Line) → AsksPlaces wanted (Ok endpoints) old new → CanCount old → CanCount new
 asked_counts wanted endpoints old new asks can = by old.incoming.left asks
   where
     same : (n m : ℕ) → m ≡ n → n < 18446744073709551615 → m < 18446744073709551615
@@ -234,14 +234,14 @@ module _ {N : Type 0} (Gives : N → Option Ends → N → Type 0) where
     })
 
     module _ {V : Type 0} (items : V → List StreamAt) where
-      abbrev wrong : Lost → Result V Lost
+      abbrev wrong : FetchFailure → Result V FetchFailure
       wrong lost = Err lost
 
-      abbrev right : V → Result V Lost
+      abbrev right : V → Result V FetchFailure
       right streams = Ok streams
 
       -- the first parts were lost
-      pub front_lost : (lost : Lost) → FetchesParts Gives items front first init (Err lost) → FetchesParts Gives items endpoints first handles (Err lost)
+      pub front_lost : (lost : FetchFailure) → FetchesParts Gives items front first init (Err lost) → FetchesParts Gives items endpoints first handles (Err lost)
       front_lost (Failed failure) (inr memory) = inr memory
       front_lost (Failed failure) (inl stops) = rw (handles_are, parts_are) (inl (record {
         before = stops.before;
@@ -265,32 +265,32 @@ module _ {N : Type 0} (Gives : N → Option Ends → N → Type 0) where
       })
 
       -- what came of the last part at last: its handle gave a connection, or refused twice
-      abbrev AtLast : Result (Result V Failure) (Refused N) → Type 0
+      abbrev AtLast : Result (Result V Failure) (RefusedHandle N) → Type 0
       AtLast (Ok fetched) = (ends : Ends) × GivesAtLast Gives last ends × FetchesPart items back fetched (opened_line ends)
       AtLast (Err refused) = RefusesTwice Gives last
 
-      again_at_last : (refused : Refused N) (again : Result (Result V Failure) (Refused N)) → Gives last None refused.handle
+      again_at_last : (refused : RefusedHandle N) (again : Result (Result V Failure) (RefusedHandle N)) → Gives last None refused.handle
           → Apart Gives items back refused.handle again → AtLast again
       again_at_last refused (Ok fetched) none apart = (apart.0, inr (refused.handle, none, apart.1), apart.2)
       again_at_last refused (Err twice) none apart = (refused.handle, none, (twice.handle, apart))
 
-      at_last : (fetched : Result (Result V Failure) (Refused N)) (result : Result V Lost) → Apart Gives items back last fetched
-          → TriesAgain Gives items back fetched result → (settled : Result (Result V Failure) (Refused N)) × AtLast settled × Settles settled result
+      at_last : (fetched : Result (Result V Failure) (RefusedHandle N)) (result : Result V FetchFailure) → Apart Gives items back last fetched
+          → TriesAgain Gives items back fetched result → (settled : Result (Result V Failure) (RefusedHandle N)) × AtLast settled × Settles settled result
       at_last (Ok fetched) result apart settles = (Ok fetched, (apart.0, inl apart.1, apart.2), settles)
       at_last (Err refused) result apart again = (again.0, again_at_last refused again.0 apart again.1, again.2)
 
       -- the last part was lost
-      pub last_lost : (before : List StreamAt) (fetched : Result (Result V Failure) (Refused N)) (lost : Lost) → FetchesBy Gives first init front before
+      pub last_lost : (before : List StreamAt) (fetched : Result (Result V Failure) (RefusedHandle N)) (lost : FetchFailure) → FetchesBy Gives first init front before
           → Apart Gives items back last fetched → TriesAgain Gives items back fetched (Err lost) → FetchesParts Gives items endpoints first handles (Err lost)
       last_lost before fetched lost by apart again = let settled = at_last fetched (Err lost) apart again in which settled.0 settled.1 settled.2
         where
-          as_lost : (cause : Lost) → lost ≡ cause → FetchesParts Gives items endpoints first handles (wrong cause) → FetchesParts Gives items endpoints first handles (Err lost)
-          as_lost cause same parts = subst (λ (l : Lost). FetchesParts Gives items endpoints first handles (wrong l)) (sym same) parts
+          as_lost : (cause : FetchFailure) → lost ≡ cause → FetchesParts Gives items endpoints first handles (wrong cause) → FetchesParts Gives items endpoints first handles (Err lost)
+          as_lost cause same parts = subst (λ (l : FetchFailure). FetchesParts Gives items endpoints first handles (wrong l)) (sym same) parts
 
-          same_lost : (cause : Lost) → wrong lost ≡ wrong cause → lost ≡ cause
+          same_lost : (cause : FetchFailure) → wrong lost ≡ wrong cause → lost ≡ cause
           same_lost cause e = cc
 
-          which : (settled : Result (Result V Failure) (Refused N)) → AtLast settled → Settles settled (Err lost) → FetchesParts Gives items endpoints first handles (Err lost)
+          which : (settled : Result (Result V Failure) (RefusedHandle N)) → AtLast settled → Settles settled (Err lost) → FetchesParts Gives items endpoints first handles (Err lost)
           which (Ok (Ok streams)) part is = absurd cc
           which (Ok (Err failure)) part is =
               as_lost (Failed failure) (same_lost (Failed failure) is) (last_fails part.0 part.2.0 before failure by part.1 part.2.1)
@@ -298,14 +298,14 @@ module _ {N : Type 0} (Gives : N → Option Ends → N → Type 0) where
               as_lost (Unconnected refused.error) (same_lost (Unconnected refused.error) is) (last_refuses before by part)
 
       -- all parts were fetched
-      pub last_fetched : (before : List StreamAt) (fetched : Result (Result V Failure) (Refused N)) (more : V) → FetchesBy Gives first init front before
+      pub last_fetched : (before : List StreamAt) (fetched : Result (Result V Failure) (RefusedHandle N)) (more : V) → FetchesBy Gives first init front before
           → Apart Gives items back last fetched → TriesAgain Gives items back fetched (Ok more) → FetchesBy Gives first handles endpoints (before ++ items more)
       last_fetched before fetched more by apart again = let settled = at_last fetched (Ok more) apart again in which settled.0 settled.1 settled.2
         where
           same : (streams : V) → right more ≡ right streams → more ≡ streams
           same streams e = cc
 
-          which : (settled : Result (Result V Failure) (Refused N)) → AtLast settled → Settles settled (Ok more) → FetchesBy Gives first handles endpoints (before ++ items more)
+          which : (settled : Result (Result V Failure) (RefusedHandle N)) → AtLast settled → Settles settled (Ok more) → FetchesBy Gives first handles endpoints (before ++ items more)
           which (Ok (Ok streams)) part is =
               all_by part.0 part.2.0 before (items more) by part.1
               (subst (λ (v : V). FetchesEach back (items v) (opened_line part.0) part.2.0) (sym (same streams is)) part.2.1)
@@ -313,7 +313,7 @@ module _ {N : Type 0} (Gives : N → Option Ends → N → Type 0) where
           which (Err refused) part is = absurd cc
 
       -- both parts, put together
-      pub put_together : (before : Result V Lost) (behind : Result (Result V Failure) (Refused N)) (result : Result V Lost)
+      pub put_together : (before : Result V FetchFailure) (behind : Result (Result V Failure) (RefusedHandle N)) (result : Result V FetchFailure)
           → FetchesParts Gives items front first init before → Apart Gives items back last behind → BothGive Gives items back before behind result
           → FetchesParts Gives items endpoints first handles result
       put_together (Err lost) behind result parts apart is = rw is (front_lost lost parts)
@@ -322,15 +322,15 @@ module _ {N : Type 0} (Gives : N → Option Ends → N → Type 0) where
           whole : (more all : V) → items all ≡ items before ++ items more → TriesAgain Gives items back behind (Ok more) → FetchesBy Gives first handles endpoints (items all)
           whole more all is again = rw is (last_fetched (items before) behind more by apart again)
 
-          joins : (last : Result V Lost) (result : Result V Lost) → TriesAgain Gives items back behind last → JoinsLast items before last result
+          joins : (last : Result V FetchFailure) (result : Result V FetchFailure) → TriesAgain Gives items back behind last → JoinsLast items before last result
               → FetchesParts Gives items endpoints first handles result
           joins (Err lost) result again is = rw is (last_lost (items before) behind lost by apart again)
           joins (Ok more) (Ok all) again is = whole more all is again
           joins (Ok more) (Err lost) again is =
-              subst (λ (l : Lost). FetchesParts Gives items endpoints first handles (wrong l)) (sym is) (inr refl)
+              subst (λ (l : FetchFailure). FetchesParts Gives items endpoints first handles (wrong l)) (sym is) (inr refl)
 
   -- over the first connection alone, where there is no handle
-  pub alone_by : {V : Type 0} (items : V → List StreamAt) (endpoints : List EndpointSaid) (line : Line) (handles : List N) (result : Result V Lost)
+  pub alone_by : {V : Type 0} (items : V → List StreamAt) (endpoints : List EndpointSaid) (line : Line) (handles : List N) (result : Result V FetchFailure)
       → handles ≡ [] → FetchesAlone items endpoints result line → FetchesParts Gives items endpoints line handles result
   alone_by items endpoints line handles (Ok streams) none fetched =
       subst (λ (l : List N). FetchesBy Gives line l endpoints (items streams)) (sym none) (one_by line fetched.0 endpoints (items streams) fetched.1)
@@ -341,8 +341,8 @@ module _ {N : Type 0} (Gives : N → Option Ends → N → Type 0) where
 -- ---- all
 
 -- it was asked, and the rows were lost
-pub lost_spread : {N V : Type 0} (Gives : Giving N) (Shares : N → N → N → Type 0) (items : V → List StreamAt) (streams : ℕ) (wanted : Wanted)
-    (old new : N) (first last : Line) (endpoints parts : List EndpointSaid) (handles : List N) (lost : Lost) → parts ≡ endpoints
+pub lost_spread : {N V : Type 0} (Gives : Giving N) (Shares : N → N → N → Type 0) (items : V → List StreamAt) (streams : ℕ) (wanted : InfoCommand)
+    (old new : N) (first last : Line) (endpoints parts : List EndpointSaid) (handles : List N) (lost : FetchFailure) → parts ≡ endpoints
     → IsAsked Shares streams wanted old new first last endpoints handles → FetchesParts Gives items parts last handles (Err lost)
     → SpreadsOrNot Gives Shares streams wanted old new (Err lost) first last
 lost_spread Gives Shares items streams wanted old new first last endpoints parts handles (Failed failure) same is_asked fails = inr (record {

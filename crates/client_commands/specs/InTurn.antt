@@ -6,7 +6,7 @@ use Rattle.std.specs.List.{flat_map}
 use Rattle.std.specs.Io.KnownBytes.{Appends}
 use Rattle.table_versions.specs.Table.{Table}
 use Rattle.flight_proto.specs.FlightInfo.{EndpointSaid}
-use Rattle.flight_proto.specs.Wanted.{Wanted}
+use Rattle.flight_proto.specs.InfoCommand.{InfoCommand}
 use Rattle.flight_client.specs.Join.{joined}
 use Rattle.flight_client.specs.Stream.{StreamAt}
 use Rattle.row_stream.specs.Stream.{numbered_schema, IsWhole}
@@ -15,8 +15,9 @@ use Rattle.client_calls.specs.Outcome.{Line}
 use Rattle.command_ends.specs.Network.{Ends}
 use Rattle.command_ends.specs.Printing.{Said}
 use Rattle.client_commands.specs.Lines.{opened_line}
-use Rattle.client_commands.specs.Spread.{EachGives, FetchesBy, Giving, IsAsked, IsEvenPart, IsRun}
-use Rattle.client_commands.specs.Spread.{RefusesTwice, Run, StopsEarly}
+use Rattle.client_commands.specs.ParallelFetch.{EachGives, FetchesBy, Giving, IsAsked, IsEvenPart}
+use Rattle.client_commands.specs.ParallelFetch.{IsRun}
+use Rattle.client_commands.specs.ParallelFetch.{RefusesTwice, Run, StopsEarly}
 use Rattle.client_commands.specs.Streaming.{ComeSome, Stops, WritesBroken}
 
 -- ---- what came
@@ -97,7 +98,7 @@ pub record BreaksUnconnected {N : Type 0} (Gives : Giving N) (first : Line) (han
 
 -- where the rows are was asked over the first connection, and a handle was made for each further
 -- one; and so much came of these
-pub record AsksFirst {N : Type 0} (Shares : N → N → N → Type 0) (streams : ℕ) (wanted : Wanted)
+pub record AsksFirst {N : Type 0} (Shares : N → N → N → Type 0) (streams : ℕ) (wanted : InfoCommand)
     (old new : N) (first last : Line) (Comes : List EndpointSaid → List N → Type 0) : Type 0 where
   pub endpoints : List EndpointSaid
   pub handles : List N
@@ -106,7 +107,7 @@ pub record AsksFirst {N : Type 0} (Shares : N → N → N → Type 0) (streams :
 
 -- the rows that are wanted are written as they come; or a failure ends it, before the rows or among
 -- them
-abbrev pub Streams : {N : Type 0} → Giving N → (N → N → N → Type 0) → ℕ → Wanted → N → N →
+abbrev pub Streams : {N : Type 0} → Giving N → (N → N → N → Type 0) → ℕ → InfoCommand → N → N →
     Result (Unit {0}) Failure → Line → Line → Said → Said → Type 0
 Streams Gives Shares streams wanted old new (Ok done) first last out out' =
     AsksFirst Shares streams wanted old new first last
@@ -117,7 +118,8 @@ Streams Gives Shares streams wanted old new (Err failure) first last out out' =
     (λ endpoints handles. StopsInTurn Gives last handles endpoints failure out out')
 
 -- a handle gave no connection, when it was asked twice, and the stream that is written breaks off
-abbrev pub StreamsUnconnected : {N : Type 0} → Giving N → (N → N → N → Type 0) → ℕ → Wanted → N →
+abbrev pub StreamsUnconnected : {N : Type 0} → Giving N → (N → N → N → Type 0) → ℕ → InfoCommand →
+    N →
     N → Line → Line → Said → Said → Type 0
 StreamsUnconnected Gives Shares streams wanted old new first last out out' =
     AsksFirst Shares streams wanted old new first last

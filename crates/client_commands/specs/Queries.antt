@@ -1,6 +1,6 @@
 -- What a query does.
 use Rattle.std.specs.Prelude.{◌≡◌, ◌⊎◌, ℕ, List, Option, Some, None, Result, Ok, Err}
-use Rattle.flight_proto.specs.Wanted.{Wanted, rows_of}
+use Rattle.flight_proto.specs.InfoCommand.{InfoCommand, rows_of}
 use Rattle.table_versions.specs.Table.{Table}
 use Rattle.client_calls.specs.declared.failure.Failure.{Failure}
 use Rattle.client_calls.specs.Outcome.{Line}
@@ -14,8 +14,8 @@ use Rattle.client_commands.specs.Handles.{Giving}
 use Rattle.client_commands.specs.InTurn.{Streams, StreamsUnconnected}
 use Rattle.client_commands.specs.Lines.{opened_line}
 use Rattle.client_commands.specs.Rows.{text_of}
-use Rattle.client_commands.specs.Spread.{FetchesSpread, IsUnconnected}
-use Rattle.client_commands.specs.Told.{Tells, TellsFailure}
+use Rattle.client_commands.specs.ParallelFetch.{FetchesSpread, IsUnconnected}
+use Rattle.client_commands.specs.CallOutcome.{Tells, TellsFailure}
 
 -- ---- a text of all rows
 
@@ -27,7 +27,7 @@ GivesFirst Gives old middle new (Some ends) = Gives old (Some ends) middle
 -- The network gave the first connection, and the rows were not fetched, since it gave no further
 -- one: nothing is printed on the output, and why is said.
 pub record IsCutOff {N : Type 0} (Gives : Giving N) (Shares : N → N → N → Type 0) (streams : ℕ)
-    (wanted : Wanted)
+    (wanted : InfoCommand)
     (before middle behind : N) (status : ExitStatus) (old new : Desk) : Type 0 where
   pub ends : Ends
   pub given : Gives before (Some ends) middle
@@ -37,7 +37,7 @@ pub record IsCutOff {N : Type 0} (Gives : Giving N) (Shares : N → N → N → 
   pub says : EndsBy (cause_lines cause) status old new
 
 -- the rows that are wanted, fetched over up to `streams` connections, are printed as a text
-abbrev pub PrintsAll : {N : Type 0} → Giving N → (N → N → N → Type 0) → ℕ → Wanted →
+abbrev pub PrintsAll : {N : Type 0} → Giving N → (N → N → N → Type 0) → ℕ → InfoCommand →
     (Table → List ℕ) → N → N → ExitStatus → Desk → Desk → Type 0
 PrintsAll {N} Gives Shares streams wanted text before behind status old new =
     (middle : N) × (Connects (GivesFirst Gives before middle behind)
@@ -54,7 +54,7 @@ TellsEnd (Err failure) status old new = TellsFailure failure status old new
 -- the network gave the first connection, and the rows that are wanted, fetched over up to `streams`
 -- connections, were written as they came
 pub record IsPassedOn {N : Type 0} (Gives : Giving N) (Shares : N → N → N → Type 0) (streams : ℕ)
-    (wanted : Wanted)
+    (wanted : InfoCommand)
     (before middle behind : N) (status : ExitStatus) (old new : Desk) : Type 0 where
   pub ends : Ends
   pub given : Gives before (Some ends) middle
@@ -67,7 +67,7 @@ pub record IsPassedOn {N : Type 0} (Gives : Giving N) (Shares : N → N → N �
 -- the network gave the first connection, and no further one where it was needed: the stream that is
 -- written breaks off, and why is said
 pub record IsLeftOff {N : Type 0} (Gives : Giving N) (Shares : N → N → N → Type 0) (streams : ℕ)
-    (wanted : Wanted)
+    (wanted : InfoCommand)
     (before middle behind : N) (status : ExitStatus) (old new : Desk) : Type 0 where
   pub ends : Ends
   pub given : Gives before (Some ends) middle
@@ -80,7 +80,7 @@ pub record IsLeftOff {N : Type 0} (Gives : Giving N) (Shares : N → N → N →
 
 -- the rows that are wanted are written as they come; or the network gave no connection, and why is
 -- said
-abbrev pub PassesOn : {N : Type 0} → Giving N → (N → N → N → Type 0) → ℕ → Wanted → N → N →
+abbrev pub PassesOn : {N : Type 0} → Giving N → (N → N → N → Type 0) → ℕ → InfoCommand → N → N →
     ExitStatus → Desk → Desk → Type 0
 PassesOn {N} Gives Shares streams wanted before behind status old new =
     (Gives before None behind × ((cause : List ℕ) × EndsBy (cause_lines cause) status old new))
@@ -90,7 +90,7 @@ PassesOn {N} Gives Shares streams wanted before behind status old new =
 -- ---- all
 
 -- the rows that are wanted are told as a text, or else written as they come
-abbrev pub TellsWanted : {N : Type 0} → Giving N → (N → N → N → Type 0) → ℕ → Wanted →
+abbrev pub TellsWanted : {N : Type 0} → Giving N → (N → N → N → Type 0) → ℕ → InfoCommand →
     Option (Table → List ℕ) → N → N → ExitStatus → Desk → Desk → Type 0
 TellsWanted Gives Shares streams wanted (Some text) before behind status old new =
     PrintsAll Gives Shares streams wanted text before behind status old new

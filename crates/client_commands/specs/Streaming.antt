@@ -8,7 +8,7 @@ use Rattle.scan_base.specs.declared.fault.Fault.TheVariants.{SchemaMismatch, Tra
 use Rattle.arrow_schema.specs.declared.schema.Schema.{Schema}
 use Rattle.arrays.specs.Batch.{BatchAt, rows_of}
 use Rattle.ipc_batch.specs.State.{Known}
-use Rattle.ipc_batch.specs.Said.{Rows}
+use Rattle.ipc_batch.specs.SaidRows.{Rows}
 use Rattle.table_versions.specs.Table.{same_fields}
 use Rattle.flight_proto.specs.FlightInfo.{EndpointSaid}
 use Rattle.flight_client.specs.Stream.{StreamAt, schema_said}
@@ -16,7 +16,7 @@ use Rattle.row_stream.specs.Stream.{numbered_schema, BreaksOff, HasShortRows, Wr
 use Rattle.client_calls.specs.declared.failure.Failure.{Failure}
 use Rattle.client_calls.specs.declared.failure.Failure.TheVariants.{Found}
 use Rattle.client_calls.specs.Outcome.{Line}
-use Rattle.client_calls.specs.Taking.{IsFetching}
+use Rattle.client_calls.specs.Taking.{IsFetchReader}
 use Rattle.command_ends.specs.Printing.{Said}
 use Rattle.client_commands.specs.Fetching.{FetchesOne, FetchStops}
 
@@ -27,7 +27,7 @@ abbrev pub ComeSome : List EndpointSaid → List StreamAt → Line → Line → 
 ComeSome endpoints [] old new = new ≡ old
 ComeSome [] (stream ∷ streams) old new = ⊥
 ComeSome (endpoint ∷ endpoints) (stream ∷ streams) old new =
-    ((streams ≡ []) × IsFetching endpoint.ticket stream old new)
+    ((streams ≡ []) × IsFetchReader endpoint.ticket stream old new)
     ⊎ ((middle : Line) × FetchesOne endpoint (Ok stream) old middle
     × ComeSome endpoints streams middle new)
 

@@ -1,7 +1,7 @@
 -- What only the contracts of private functions cite.
 pub mod Naming
 pub mod Parts
-pub mod Passing
+pub mod StreamRelay
 pub mod Runs
 pub mod Relaying
 pub mod Forms

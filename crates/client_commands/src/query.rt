@@ -3,18 +3,18 @@
 ghost use Rattle.std.specs.Prelude.{◌≡◌, Ok, option_map};
 ghost use Rattle.grpc_frame.specs.Ends.{CanFail};
 ghost use Rattle.command_ends.specs.Printing.{said_of};
-ghost use Rattle.client_commands.specs.Told.{Tells};
+ghost use Rattle.client_commands.specs.CallOutcome.{Tells};
 ghost use Rattle.client_commands.specs.Rows.{text_of};
 ghost use Rattle.client_commands.specs.Commands.{desk_of};
 ghost use Rattle.client_commands.specs.Queries.{Queries};
 ghost use Rattle.client_commands.specs.inside.Forms.{text_in};
 ghost use Rattle.client_commands.specs.inside.Relaying.{TellsStreamed};
 
+use crate::call_outcome::{end_by_failure, end_by_printing};
 use crate::connecting::{end_unconnected, open};
-use crate::in_turn::stream_rows;
-use crate::lost::Lost;
-use crate::spreading::fetch_spread;
-use crate::telling::{end_by_failure, end_by_printing};
+use crate::fetch_failure::FetchFailure;
+use crate::parallel_fetch::fetch_spread;
+use crate::run_relay::stream_rows;
 use command_ends::{Connect, ExitStatus};
 use command_line::Format;
 use flight_client::Rows;
@@ -26,7 +26,7 @@ use std::thread::Threads;
 
 /// A query, and where the server listens.
 #[derive(Clone, Copy)]
-pub struct Querying<'a> {
+pub struct QueryCommand<'a> {
     /// The server's port.
     pub port: u16,
     /// The most connections over which its rows are fetched.
@@ -58,7 +58,7 @@ pub fn query<T: Threads, C: Connect + Drop + Send, W: Output, E: Output>(
     network: &mut C,
     output: &mut W,
     faults: &mut E,
-    query: Querying<'_>,
+    query: QueryCommand<'_>,
 ) -> ExitStatus
 where
     C::Reader: Send,
@@ -84,8 +84,8 @@ where
     };
     match fetch_spread(rt, alloc, network, connection, query) {
         Ok(rows) => tell_rows(alloc, output, faults, form, &rows),
-        Err(Lost::Failed(failure)) => end_by_failure(faults, failure),
-        Err(Lost::Unconnected(error)) => end_unconnected(alloc, faults, query.port, &error),
+        Err(FetchFailure::Failed(failure)) => end_by_failure(faults, failure),
+        Err(FetchFailure::Unconnected(error)) => end_unconnected(alloc, faults, query.port, &error),
     }
 }
 
@@ -144,7 +144,7 @@ fn end_by_streaming<E: Output>(
     alloc: Global,
     faults: &mut E,
     port: u16,
-    streamed: Result<(), Lost>,
+    streamed: Result<(), FetchFailure>,
 ) -> ExitStatus
     requires { CanFail (E.failures faults.old) }
     ensures { TellsStreamed streamed result (said_of E.Output faults.old)
@@ -152,7 +152,7 @@ fn end_by_streaming<E: Output>(
 {
     match streamed {
         Ok(()) => ExitStatus::Done,
-        Err(Lost::Failed(failure)) => end_by_failure(faults, failure),
-        Err(Lost::Unconnected(error)) => end_unconnected(alloc, faults, port, &error),
+        Err(FetchFailure::Failed(failure)) => end_by_failure(faults, failure),
+        Err(FetchFailure::Unconnected(error)) => end_unconnected(alloc, faults, port, &error),
     }
 }

@@ -1,7 +1,7 @@
 //! Columns that rows describe, and the buffers as which they are written.
 
 ghost use Rattle.std.specs.Prelude.{◌<◌, length};
-ghost use Rattle.array_buffers.specs.Written.{buffers_written};
+ghost use Rattle.array_buffers.specs.ColumnBuffers.{buffers_written};
 
 mod by_rule;
 mod case;
@@ -11,7 +11,7 @@ mod places;
 mod turns;
 
 use crate::columns::by_rule::column_by_rule;
-use crate::columns::case::Case;
+use crate::columns::case::ColumnCase;
 use crate::columns::coding::codings;
 use crate::columns::layouts::layout;
 use crate::columns::places::gather_every;
@@ -55,7 +55,7 @@ fn batch_of(alloc: Global, row: &str) -> Result<Batch> {
     if let Some(words) = row.strip_prefix("Slots ") {
         return Ok(one_column(alloc, column_of_turns(alloc, words)?)?);
     }
-    let case = Case::read(row)?;
+    let case = ColumnCase::read(row)?;
     let whole = one_column(alloc, Column::new(layout(alloc, &case)?))?;
     if case.from > case.to || case.to > whole.rows() {
         bail!("slots that are not there");

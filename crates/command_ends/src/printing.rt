@@ -16,15 +16,15 @@ use std::marker::Model;
 /// That the line of a port was printed: only `print_listening` makes one. A contract sees the port,
 /// and what the output held right after the line.
 #[derive(Drop)]
-pub struct Announced {
+pub struct PortLine {
     port: u16,
     output: Snapshot,
 }
 
-impl Model for Announced {
-    ghost use Rattle.command_ends.specs.Printing.{AnnouncedAt};
+impl Model for PortLine {
+    ghost use Rattle.command_ends.specs.Printing.{PortLineAt};
 
-    ghost Value = { AnnouncedAt };
+    ghost Value = { PortLineAt };
 
     ghost view = { λ announced. record { port = announced.port; held = announced.output.bytes } };
 }
@@ -55,7 +55,7 @@ pub fn print_listening<W: Output>(
     alloc: Global,
     output: &mut W,
     port: u16,
-) -> Result<Announced, Fault>
+) -> Result<PortLine, Fault>
     requires { CanFail (W.failures output.old) }
     ensures bytes { Writes result (W.contents output.old) (W.contents output.new)
         (listening_line port) }
@@ -67,7 +67,7 @@ pub fn print_listening<W: Output>(
     let mut outbox = Outbox::new(alloc);
     send_listening(&mut outbox, output, port)?;
     outbox.flush(output)?;
-    Ok(Announced {
+    Ok(PortLine {
         port,
         output: Snapshot::of(output),
     })

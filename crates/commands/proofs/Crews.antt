@@ -15,14 +15,14 @@ use Rattle.version_cell.specs.Merges.{MergesAll}
 use Rattle.logbook.specs.Pages.{Book}
 use Rattle.version_cell.specs.Rests.{RestAt}
 use Rattle.version_cell.specs.Seats as cell
-use Rattle.flight_core.specs.Placed.{placed}
+use Rattle.flight_core.specs.PlacedEntries.{placed}
 use Rattle.flight_core.specs.Seats.{Seat, seat_of}
 use Rattle.shared_calls.specs.Sharing.{onward, seat_at}
 use Rattle.connection_turns.specs.Drawers.{DrawerAt, drawer_at}
-use Rattle.command_line.specs.declared.request.Serving.{Serving}
+use Rattle.command_line.specs.declared.request.ServeOptions.{ServeOptions}
 use Rattle.command_ends.specs.Network.{Accepting, Ends}
-use Rattle.command_ends.specs.Printing.{AnnouncedAt, Said, listening_line}
-use Rattle.commands.specs.Shown.{IsNewSeat, WasShown}
+use Rattle.command_ends.specs.Printing.{PortLineAt, Said, listening_line}
+use Rattle.commands.specs.ShownSeat.{IsNewSeat, WasShown}
 use Rattle.commands.specs.Port.{IsDueAfter, IsFresh, IsServed, RefusesOne, ServesPort, Sharing, SharesEach, SharesSome, listeners_of, most_of, options_of}
 use Rattle.commands.specs.Serve.{DrawsAll, Pays, Work, Worker, IsPartOf, ServesSideBySide, both, first_fault, made_by, made_by_each}
 use Rattle.commands.specs.inside.Gathering.{Begun, Gathered, HasDrawn, HasWorked, HiredWorker, IsAtRest, IsNew, IsWithin, MayServe, hired_listeners, seat_in, state_of, work_of}
@@ -120,7 +120,7 @@ one_begins {L} shares at_rest port_of rests known due handed heard network liste
     }
 
 -- workers may serve, when the line of the port was printed
-pub may_serve : {L : Type 0} (at_rest : L → Type 0) (port_of : L → ℕ) (rests known : L → RestAt → Type 0) (due : L → ℕ → Option (List ℕ) → Type 0) (owed : RestAt → Ends → Ends → RestAt → Type 0) (options : Options) (heard : L) (announced : AnnouncedAt) (book : Book) (name : TableId) (all : List (HiredWorker L))
+pub may_serve : {L : Type 0} (at_rest : L → Type 0) (port_of : L → ℕ) (rests known : L → RestAt → Type 0) (due : L → ℕ → Option (List ℕ) → Type 0) (owed : RestAt → Ends → Ends → RestAt → Type 0) (options : Options) (heard : L) (announced : PortLineAt) (book : Book) (name : TableId) (all : List (HiredWorker L))
     → announced.port ≡ port_of heard → due heard announced.port announced.held → Pays onward options owed
     → All (λ hired. IsFresh (state_of hired)) all → All (IsNew name) all → All (IsAtRest at_rest port_of rests known due heard book) all
     → All (MayServe at_rest port_of rests known due owed options announced book name) all
@@ -144,7 +144,7 @@ may_serve {L} at_rest port_of rests known due owed options heard announced book 
     (All-tail (IsAtRest at_rest port_of rests known due heard book) hired all may))
 
 -- a listener may be asked for an accept, when the line of the port was printed
-pub dues_so : {L : Type 0} (due : L → ℕ → Option (List ℕ) → Type 0) (heard : L) (announced : AnnouncedAt) (port : ℕ) (before after : Option (List ℕ))
+pub dues_so : {L : Type 0} (due : L → ℕ → Option (List ℕ) → Type 0) (heard : L) (announced : PortLineAt) (port : ℕ) (before after : Option (List ℕ))
     → IsDueAfter (due heard) before → Appends before after (listening_line port) → announced.port ≡ port → announced.held ≡ after
     → due heard announced.port announced.held
 dues_so {L} due heard announced port before after dues printed same held = rw (same, held) (dues port after printed)
@@ -162,7 +162,7 @@ new_shown book held found is fresh =
 
 -- ---- workers that have ended
 
-pub none_gathered : {L : Type 0} (all : List (HiredWorker L)) (seats : cell.GatheredAt) (name : TableId) (hub : DrawerAt) → seats.seats ≡ 0 → seats.made ≡ 0 → seats.each ≡ [] → hub ≡ drawer_at name 1 0 0 → All (HasDrawn name) all
+pub none_gathered : {L : Type 0} (all : List (HiredWorker L)) (seats : cell.GatheredSeatsAt) (name : TableId) (hub : DrawerAt) → seats.seats ≡ 0 → seats.made ≡ 0 → seats.each ≡ [] → hub ≡ drawer_at name 1 0 0 → All (HasDrawn name) all
     → Gathered all all seats (Ok tt) name hub
 none_gathered {L} all seats name hub none made nothing is drawn = record {
   done = [];
@@ -189,24 +189,24 @@ ends_so {L} name hired done before more (Err fault) is none (inr failed) =
     inr (All-cons (λ (work : Work L). IsErr work.result) (work_of hired) (map work_of done) (rw (← is) refl) failed)
 
 -- the last one of those that are left has drawn, by the same word
-pub last_drawn : {L : Type 0} (name : TableId) (all left rest : List (HiredWorker L)) (hired : HiredWorker L) (seats : cell.GatheredAt) (result : Result (Unit {0}) Fault) (hub : DrawerAt)
+pub last_drawn : {L : Type 0} (name : TableId) (all left rest : List (HiredWorker L)) (hired : HiredWorker L) (seats : cell.GatheredSeatsAt) (result : Result (Unit {0}) Fault) (hub : DrawerAt)
     → Gathered all left seats result name hub → left ≡ rest ++ hired ∷ [] → HasDrawn name hired
 last_drawn {L} name all left rest hired seats result hub gathered last = (All-pop (HasDrawn name) left rest (Some hired) last gathered.others).1
 
 -- what it means to take in the seat of a worker
-pub record Takes (found : Option cell.Seat) (seats after : cell.GatheredAt) : Type 0 where
+pub record Takes (found : Option cell.Seat) (seats after : cell.GatheredSeatsAt) : Type 0 where
   pub more : Begins seats.log after.log
   pub within : Begins (seat_in found).log after.log
   pub many : after.seats ≡ seats.seats + 1
   pub made : after.made ≡ seats.made + length (seat_in found).made
   pub each : after.each ≡ (seat_in found).made ∷ seats.each
 
-pub takes_so : (found : Option cell.Seat) (scanner : cell.Seat) (seats after : cell.GatheredAt) → found ≡ Some scanner → Begins seats.log after.log → Begins scanner.log after.log → after.seats ≡ seats.seats + 1
+pub takes_so : (found : Option cell.Seat) (scanner : cell.Seat) (seats after : cell.GatheredSeatsAt) → found ≡ Some scanner → Begins seats.log after.log → Begins scanner.log after.log → after.seats ≡ seats.seats + 1
     → after.made ≡ seats.made + length scanner.made → after.each ≡ scanner.made ∷ seats.each → Takes found seats after
 takes_so found scanner seats after there more within many made each = rw there (record { more = more; within = within; many = many; made = made; each = each })
 
 -- it is done with
-pub one_gathered : {L : Type 0} (all left rest : List (HiredWorker L)) (hired : HiredWorker L) (seats after : cell.GatheredAt) (result next_result : Result (Unit {0}) Fault) (name : TableId) (hub next : DrawerAt)
+pub one_gathered : {L : Type 0} (all left rest : List (HiredWorker L)) (hired : HiredWorker L) (seats after : cell.GatheredSeatsAt) (result next_result : Result (Unit {0}) Fault) (name : TableId) (hub next : DrawerAt)
     → Gathered all left seats result name hub → left ≡ rest ++ hired ∷ []
     → Takes hired.scanner seats after → next_result ≡ both hired.served result
     → next ≡ drawer_at hub.name (hub.parts + hired.drawer.parts) (hub.drawn + hired.drawer.drawn) (hub.ended + hired.drawer.ended)
@@ -232,19 +232,19 @@ one_gathered {L} all left rest hired seats after result next_result name hub nex
     }
 
 -- what is known of workers that are all done with
-pub record AllGathered {L : Type 0} (all : List (HiredWorker L)) (seats : cell.GatheredAt) (result : Result (Unit {0}) Fault) : Type 0 where
+pub record AllGathered {L : Type 0} (all : List (HiredWorker L)) (seats : cell.GatheredSeatsAt) (result : Result (Unit {0}) Fault) : Type 0 where
   pub first : result ≡ first_fault (map work_of all)
   pub within : All (IsWithin seats.log) all
   pub many : seats.seats ≡ length all
   pub made : seats.made ≡ made_by (map work_of all)
   pub each : seats.each ≡ made_by_each (map work_of all)
 
-pub all_gathered : {L : Type 0} (all : List (HiredWorker L)) (seats : cell.GatheredAt) (result : Result (Unit {0}) Fault) (name : TableId) (hub : DrawerAt) → Gathered all [] seats result name hub
+pub all_gathered : {L : Type 0} (all : List (HiredWorker L)) (seats : cell.GatheredSeatsAt) (result : Result (Unit {0}) Fault) (name : TableId) (hub : DrawerAt) → Gathered all [] seats result name hub
     → AllGathered all seats result
 all_gathered {L} all seats result name hub gathered = rw gathered.whole (record { first = gathered.first; within = gathered.within; many = gathered.many; made = gathered.made; each = gathered.each })
 
 -- the hub has every part
-pub all_parts : {L : Type 0} (all : List (HiredWorker L)) (seats : cell.GatheredAt) (result : Result (Unit {0}) Fault) (name : TableId) (hub : DrawerAt) (parts : ℕ) → Gathered all [] seats result name hub → parts ≡ length all + 1
+pub all_parts : {L : Type 0} (all : List (HiredWorker L)) (seats : cell.GatheredSeatsAt) (result : Result (Unit {0}) Fault) (name : TableId) (hub : DrawerAt) (parts : ℕ) → Gathered all [] seats result name hub → parts ≡ length all + 1
     → hub.parts ≡ parts
 all_parts {L} all seats result name hub parts gathered whole =
     let same : length all ≡ length gathered.done = ap length gathered.whole in
@@ -252,7 +252,7 @@ all_parts {L} all seats result name hub parts gathered whole =
     omega (arith, same, held, whole)
 
 -- so all was drawn, or each worker failed
-pub all_drawn : {L : Type 0} (all : List (HiredWorker L)) (seats : cell.GatheredAt) (result : Result (Unit {0}) Fault) (name : TableId) (hub : DrawerAt) (most : ℕ) → Gathered all [] seats result name hub
+pub all_drawn : {L : Type 0} (all : List (HiredWorker L)) (seats : cell.GatheredSeatsAt) (result : Result (Unit {0}) Fault) (name : TableId) (hub : DrawerAt) (most : ℕ) → Gathered all [] seats result name hub
     → hub.drawn ≤ most → (0 < hub.ended → hub.drawn ≡ most) → DrawsAll most (map work_of all)
 all_drawn {L} all seats result name hub most gathered few none =
     rw gathered.whole (by_end gathered.ended)
@@ -334,12 +334,12 @@ same_listeners : {L : Type 0} (all : List (HiredWorker L)) → hired_listeners a
 same_listeners {L} [] = refl
 same_listeners {L} (hired ∷ all) = ap (λ (others : List L). hired.listener ∷ others) (same_listeners all)
 
-as_served : {L : Type 0} (accepts : Accepting L) (shares : Sharing L) (serving : Serving) (result : Result (Unit {0}) Fault) (heard new : L) (out out' : Said)
+as_served : {L : Type 0} (accepts : Accepting L) (shares : Sharing L) (serving : ServeOptions) (result : Result (Unit {0}) Fault) (heard new : L) (out out' : Said)
     → IsServed accepts shares serving result heard new out out' → ServesPort accepts shares serving result heard new out out'
 as_served accepts shares serving (Ok done) heard new out out' served = served
 as_served accepts shares serving (Err fault) heard new out out' served = inl served
 
-pub port_served : {L : Type 0} (accepts : Accepting L) (shares : Sharing L) (serving : Serving) (result : Result (Unit {0}) Fault) (heard new : L) (out out' : Said) (all : List (HiredWorker L))
+pub port_served : {L : Type 0} (accepts : Accepting L) (shares : Sharing L) (serving : ServeOptions) (result : Result (Unit {0}) Fault) (heard new : L) (out out' : Said) (all : List (HiredWorker L))
     → Appends out.bytes out'.bytes (listening_line serving.port) → out'.failures ≡ out.failures → length all ≡ serving.seats → SharesEach shares heard (hired_listeners all) new
     → All (λ hired. IsFresh (state_of hired)) all → ServesSideBySide accepts (options_of serving) (most_of serving.accept) (map state_of all) result
     → ServesPort accepts shares serving result heard new out out'

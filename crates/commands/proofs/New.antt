@@ -6,7 +6,7 @@ use Rattle.flight_info.proofs.Results.{same_some}
 use Rattle.flight_calls.specs.declared.setting.Options.{Options}
 use Rattle.flight_calls.specs.Laws.{IsNew}
 use Rattle.flight_core.specs.Seats.{Seat}
-use Rattle.flight_calls.specs.Owed.{Connection, Serves, connection_of}
+use Rattle.flight_calls.specs.OwedAnswers.{Connection, Serves, connection_of}
 use Rattle.flight_calls.proofs.New.{new_whole}
 use Rattle.shared_calls.specs.Sharing.{onward}
 use Rattle.command_ends.specs.Network.{Accepting, Ends}

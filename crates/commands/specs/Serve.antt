@@ -8,13 +8,13 @@ use Rattle.version_log.specs.Log.{Log, IsLog, Begins}
 use Rattle.version_cell.specs.Merges.{MergesAll}
 use Rattle.version_cell.specs.Rests.{RestAt}
 use Rattle.flight_calls.specs.declared.setting.Options.{Options}
-use Rattle.flight_core.specs.Placed.{Placed, placed}
+use Rattle.flight_core.specs.PlacedEntries.{Placed, placed}
 use Rattle.flight_core.specs.Seats.{AsksOnce, Learns, Moves, Seat}
-use Rattle.flight_calls.specs.Owed.{Connection, Serves, connection_of}
+use Rattle.flight_calls.specs.OwedAnswers.{Connection, Serves, connection_of}
 use Rattle.shared_calls.specs.Sharing.{onward}
 use Rattle.command_ends.specs.Network.{Accepting, Ends, ends_of}
 use Rattle.command_ends.specs.declared.accept_failure.AcceptFailure.TheVariants.{Broken, MayPass}
-use Rattle.commands.specs.Shown.{IsSameSeat, seat_shown}
+use Rattle.commands.specs.ShownSeat.{IsSameSeat, seat_shown}
 
 -- ---- a worker
 

@@ -3,7 +3,7 @@
 ghost use Rattle.std.specs.Prelude.{[]};
 ghost use Rattle.grpc_frame.specs.Ends.{CanFail};
 ghost use Rattle.flight_core.specs.Seats.{Seat, seat_of};
-ghost use Rattle.flight_calls.specs.Owed.{connection_of};
+ghost use Rattle.flight_calls.specs.OwedAnswers.{connection_of};
 ghost use Rattle.command_ends.specs.Printing.{said_of};
 ghost use Rattle.commands.specs.Pipe.{Pipes};
 

@@ -2,8 +2,8 @@
 
 use crate::first_run::{PUT, PUT_ANSWER};
 use flight_calls::{OneWorker, Options, Setting, serve};
-use flight_core::{Alone, Plain};
-use grpc_frame::{Counted, MemoryInput, MemoryOutput, Output};
+use flight_core::{Plain, PlainBackend};
+use grpc_frame::{CountedEnd, MemoryInput, MemoryOutput, Output};
 use hash_seed::HashSeed;
 use scan_base::Fault;
 use std::alloc::Global;
@@ -21,7 +21,7 @@ const TABLE_EXISTS: &[u8] = b"\x04\x06\x00\x0fF10 TableExists";
 
 // What is written to a connection that puts the first run's rows, or none where it did not end
 // well.
-fn put_alone(alloc: Global, backend: &mut Alone) -> MemoryOutput {
+fn put_alone(alloc: Global, backend: &mut PlainBackend) -> MemoryOutput {
     let mut writer = MemoryOutput::new(alloc);
     let setting = Setting {
         alloc,
@@ -36,7 +36,7 @@ fn put_alone(alloc: Global, backend: &mut Alone) -> MemoryOutput {
 
 #[test]
 fn two_connections(rt: HostRuntime) -> Result<(), Fail> {
-    let mut backend = Alone::new(Plain::new(rt.alloc(), HashSeed::new(&rt)?)?);
+    let mut backend = PlainBackend::new(Plain::new(rt.alloc(), HashSeed::new(&rt)?)?);
     let first = put_alone(rt.alloc(), &mut backend);
     assert!(rt; first.as_slice() == PUT_ANSWER);
     let second = put_alone(rt.alloc(), &mut backend);
@@ -46,11 +46,11 @@ fn two_connections(rt: HostRuntime) -> Result<(), Fail> {
 
 // Takes what is written, and fails at one flush: so many go well before it.
 #[derive(Drop)]
-struct Unflushed {
+struct FailingFlush {
     flushes: u32,
 }
 
-impl Write for Unflushed {
+impl Write for FailingFlush {
     fn write(&mut self, piece: &[u8]) -> io::Result<usize> {
         Ok(piece.len())
     }
@@ -68,8 +68,8 @@ impl Write for Unflushed {
 #[test]
 fn a_flush_that_fails(rt: HostRuntime) -> Result<(), Fail> {
     for flushes in 0..2u32 {
-        let mut backend = Alone::new(Plain::new(rt.alloc(), HashSeed::new(&rt)?)?);
-        let mut writer = Counted::new(Unflushed { flushes });
+        let mut backend = PlainBackend::new(Plain::new(rt.alloc(), HashSeed::new(&rt)?)?);
+        let mut writer = CountedEnd::new(FailingFlush { flushes });
         let setting = Setting {
             alloc: rt.alloc(),
             executor: &OneWorker,

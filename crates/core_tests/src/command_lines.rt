@@ -1,7 +1,7 @@
 //! Command lines, and what they ask for.
 
 use command_line::{Format, PutForm, Request};
-use commands::words::read_words;
+use commands::program_words::read_words;
 use grpc_frame::MemoryOutput;
 use scan_base::PutMode;
 use std::alloc::{AllocError, Global};

@@ -106,7 +106,7 @@ const MEMORY_LINE: &[u8] = b"fault: F21 OutOfMemory\n";
 const NO_TEXT_LINE: &[u8] = b"error: a word of the command line is not UTF-8\n";
 
 // What comes, the exit status, what is written and what is printed.
-type Case = (
+type PipeCase = (
     &'static [&'static [u8]],
     u8,
     &'static [&'static [u8]],
@@ -115,7 +115,7 @@ type Case = (
 
 // Faults of a call are its answer, the first one whatever comes after it, and the connection goes
 // on. Faulty records end it, and what follows them is not looked at.
-static CASES: [Case; 16] = [
+static CASES: [PipeCase; 16] = [
     (&[], 0, &[], NOTHING),
     (
         &[PUT, PUT],

@@ -9,7 +9,7 @@ use Rattle.arrow_schema.specs.declared.data_type.DataType.TheVariants as type
 use Rattle.arrow_schema.specs.declared.schema.Field.{Field}
 use Rattle.arrow_schema.specs.Header.{same_dictionary, shares_dictionary}
 use Rattle.arrow_schema.specs.Schema.{IsField, IsSchema}
-use Rattle.arrow_schema.specs.Written.{encoding_of}
+use Rattle.arrow_schema.specs.WrittenHeader.{encoding_of}
 
 abbrev pub ArePlain : List Field → Type 0
 ArePlain fields = All (λ (field : Field). encoding_of field.data_type ≡ None) fields

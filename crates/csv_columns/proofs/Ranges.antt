@@ -13,10 +13,10 @@ use Rattle.scan_base.specs.declared.value.Value.TheVariants.{Text}
 use Rattle.scan_base.specs.declared.value.ValueRef.{ValueRef}
 use Rattle.arrow_schema.specs.declared.data_type.DataType.TheVariants as type
 use Rattle.arrow_schema.specs.declared.data_type.DictionaryEncoding.{DictionaryEncoding}
-use Rattle.arrays.specs.Typed.{IsInteger, IsValueOf}
+use Rattle.arrays.specs.TypedLayouts.{IsInteger, IsValueOf}
 use Rattle.calendar.specs.Dates.{is_from_to}
 use Rattle.calendar.proofs.Parts.{from_to-parts}
-use Rattle.csv_columns.specs.Said.{greatest_of, kept_in, least_of}
+use Rattle.csv_columns.specs.FieldValues.{greatest_of, kept_in, least_of}
 
 -- a number between the least and the greatest is one of the type
 between : (integer : IntegerType) (number : ℤ) → least_of integer ≤ℤ number → number ≤ℤ greatest_of integer → IsInteger integer number

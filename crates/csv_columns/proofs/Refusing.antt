@@ -13,8 +13,8 @@ use Rattle.arrow_schema.specs.declared.data_type.DataType.{DataType}
 use Rattle.arrow_schema.specs.declared.data_type.DataType.TheVariants as type
 use Rattle.arrow_schema.specs.declared.schema.Field.{Field}
 use Rattle.arrow_schema.specs.Schema.{IsField}
-use Rattle.csv_columns.specs.Refused.{IsText, WhyNoColumn, WhyNoColumns, WhyNoFields, WhyNoName}
-use Rattle.csv_columns.specs.Spelled.{mark_of, spelled, word_of}
+use Rattle.csv_columns.specs.Refusals.{IsText, WhyNoColumn, WhyNoColumns, WhyNoFields, WhyNoName}
+use Rattle.csv_columns.specs.SpelledColumns.{mark_of, spelled, word_of}
 use Rattle.csv_columns.specs.inside.Marks.{IsUnmarked}
 use Rattle.csv_columns.proofs.Parsed.{cut_is, front_of, has_colon}
 use Rattle.csv_columns.proofs.Worded.{joined}

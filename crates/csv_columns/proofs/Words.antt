@@ -7,9 +7,9 @@ use Rattle.std.proofs.lemmas.List.Sums.{AllPass-from_list_all}
 use Rattle.arrow_schema.specs.declared.data_type.IntegerType.TheVariants.{Int8, Int16, Int32, Int64, UInt8, UInt16, UInt32, UInt64}
 use Rattle.arrow_schema.specs.declared.data_type.DataType.{DataType}
 use Rattle.arrow_schema.specs.declared.data_type.DataType.TheVariants.{Integer, Utf8, Bool, Decimal128, Date, Dictionary}
-use Rattle.arrow_schema.specs.Written.{encoding_of}
+use Rattle.arrow_schema.specs.WrittenHeader.{encoding_of}
 use Rattle.csv_columns.specs.declared.word.TheConstants.{TYPES}
-use Rattle.csv_columns.specs.Spelled.{word_of}
+use Rattle.csv_columns.specs.SpelledColumns.{word_of}
 
 -- ---- the bytes of a word
 

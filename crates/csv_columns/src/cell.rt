@@ -2,10 +2,10 @@
 
 ghost use Rattle.std.specs.Prelude.{◌≡◌, IfSome, option_map};
 ghost use Rattle.scan_base.specs.Value.{value_of};
-ghost use Rattle.arrays.specs.Typed.{IsValueOf};
-ghost use Rattle.csv_columns.specs.Said.{cell_in};
+ghost use Rattle.arrays.specs.TypedLayouts.{IsValueOf};
+ghost use Rattle.csv_columns.specs.FieldValues.{cell_in};
 
-use crate::said::value_in;
+use crate::field_values::value_in;
 use arrow_schema::Field;
 use scan_base::ValueRef;
 

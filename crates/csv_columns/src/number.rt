@@ -1,7 +1,7 @@
 //! Whole numbers in decimal.
 
 ghost use Rattle.std.specs.Prelude.{◌≡◌, ◌≤ℤ◌, IfSome, neg_ℤ, option_map, pos};
-ghost use Rattle.csv_columns.specs.Said.{greatest_of, kept_in, least_of, number_in};
+ghost use Rattle.csv_columns.specs.FieldValues.{greatest_of, kept_in, least_of, number_in};
 ghost use Rattle.sql_text.specs.Values.{number_of};
 
 use arrow_schema::IntegerType;

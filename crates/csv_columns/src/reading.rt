@@ -4,10 +4,10 @@ ghost use Rattle.std.specs.Prelude.{◌≡◌, ◌≢◌, ◌<◌, ℕ, None, Al
 ghost use Rattle.std.specs.Prelude.{◌∷◌, [], drop, length, take, slice_index};
 ghost use Rattle.csv.specs.Records.{fields_of, trimmed};
 ghost use Rattle.arrow_schema.specs.Schema.{IsField, IsSchema};
-ghost use Rattle.arrow_schema.specs.Written.{encoding_of};
-ghost use Rattle.csv_columns.specs.Left.{records_in};
-ghost use Rattle.csv_columns.specs.Refused.{WhyNoColumn, WhyNoColumns, WhyNoFields};
-ghost use Rattle.csv_columns.specs.Spelled.{AreSpelledAs, Spells, mark_of, spelled};
+ghost use Rattle.arrow_schema.specs.WrittenHeader.{encoding_of};
+ghost use Rattle.csv_columns.specs.TextRecords.{records_in};
+ghost use Rattle.csv_columns.specs.Refusals.{WhyNoColumn, WhyNoColumns, WhyNoFields};
+ghost use Rattle.csv_columns.specs.SpelledColumns.{AreSpelledAs, Spells, mark_of, spelled};
 ghost use Rattle.csv_columns.specs.inside.Marks.{IsUnmarked};
 
 use crate::name::name_of;

@@ -1,10 +1,10 @@
 //! Words for types.
 
 ghost use Rattle.std.specs.Prelude.{◌≡◌, ◌≢◌, None, IfSome, MatchOption};
-ghost use Rattle.arrow_schema.specs.Written.{encoding_of};
+ghost use Rattle.arrow_schema.specs.WrittenHeader.{encoding_of};
 ghost use Rattle.arrow_schema.specs.declared.data_type.DataType.{DataType};
 ghost use Rattle.arrow_schema.specs.declared.data_type.DataType.TheVariants as type;
-ghost use Rattle.csv_columns.specs.Spelled.{word_of};
+ghost use Rattle.csv_columns.specs.SpelledColumns.{word_of};
 
 use arrow_schema::{DataType, IntegerType};
 

@@ -11,12 +11,12 @@ use Rattle.scan_base.specs.declared.value.ValueRef.{ValueRef}
 use Rattle.arrow_schema.specs.declared.data_type.DataType.{DataType}
 use Rattle.arrow_schema.specs.declared.schema.Field.{Field}
 use Rattle.arrow_schema.specs.Answer.{copied_type}
-use Rattle.arrow_schema.specs.Written.{encoding_of}
+use Rattle.arrow_schema.specs.WrittenHeader.{encoding_of}
 use Rattle.arrow_schema.specs.declared.data_type.DataType.TheVariants as type
 use Rattle.std.proofs.lemmas.Option.{none-some}
 use Rattle.arrays.specs.Column.{ColumnAt, values_of}
-use Rattle.arrays.specs.Typed.{IsOfType, IsValueOf}
-use Rattle.csv_columns.specs.Said.{cell_in}
+use Rattle.arrays.specs.TypedLayouts.{IsOfType, IsValueOf}
+use Rattle.csv_columns.specs.FieldValues.{cell_in}
 use Rattle.csv_input.specs.inside.Chunks.{ChunkAt, field_in}
 use Rattle.csv_input.specs.inside.Cells.{AreCells, AreColumnsIn, HasWrongCell, HasWrongColumn, IsColumnIn, SaysCells}
 

@@ -8,7 +8,7 @@ use Rattle.arrow_schema.specs.declared.data_type.IntegerType.TheVariants.{Int32}
 use Rattle.arrow_schema.specs.declared.data_type.DataType.TheVariants as type
 use Rattle.arrays.specs.declared.layout.Layout.{Layout}
 use Rattle.arrays.specs.declared.layout.Layout.TheVariants as layout
-use Rattle.arrays.specs.Typed.{IsOfType, IsValueOf}
+use Rattle.arrays.specs.TypedLayouts.{IsOfType, IsValueOf}
 use Rattle.csv_input.proofs.Alike.{AllOf}
 
 day_number : (value : Value) → IsValueOf type.Date value → IsValueOf (type.Integer Int32) value

@@ -22,8 +22,8 @@ use Rattle.arrays.specs.Number.{AreBytes, byte_width, element_at, number_from, i
 use Rattle.arrays.specs.Validity.{is_valid, where_valid}
 use Rattle.arrays.specs.Layout.{layout_count, layout_slot}
 use Rattle.arrays.specs.Column.{slot_of, values_of, whole}
-use Rattle.arrays.specs.Typed.{IsInteger, IsValueOf}
-use Rattle.array_select.specs.inside.Filled.{low_bytes, AreOfType, AreValidUnlessNull, AreNumbersOf, FillSlots}
+use Rattle.arrays.specs.TypedLayouts.{IsInteger, IsValueOf}
+use Rattle.array_select.specs.inside.SlotFilling.{low_bytes, AreOfType, AreValidUnlessNull, AreNumbersOf, FillSlots}
 use Rattle.std.proofs.Math.Seq.{drop-append_seam, take-append_seam}
 use Rattle.byteorder.specs.Numbers.{little_from-take}
 use Rattle.bitmap.proofs.Masks.{little_drop}

@@ -5,8 +5,8 @@ use Rattle.std.proofs.lemmas.Bool.{cases_lt}
 use Rattle.std.proofs.lemmas.List.{get_or-append-add, get_or_append_left, get_or_default, length-append}
 use Rattle.std.proofs.lemmas.List.Elements.{All-append, All-nil, All-cons}
 use Rattle.arrow_schema.specs.declared.schema.Field.{Field}
-use Rattle.csv_columns.specs.Said.{cell_in}
-use Rattle.csv_input.specs.declared.outcome.Wrong.{Wrong}
+use Rattle.csv_columns.specs.FieldValues.{cell_in}
+use Rattle.csv_input.specs.declared.outcome.RecordFault.{RecordFault}
 use Rattle.csv_input.specs.Rows.{AreRight, IsFirstWrong, IsRight, IsWrong, IsWrongCell, SaysCell}
 
 -- ---- one record
@@ -68,7 +68,7 @@ pub right_none : (columns : List Field) (left : List (List (List ℕ))) → left
 right_none columns left none = λ k d low. absurd (omega (arith, low, ap length none))
 
 -- it is the first that is wrong where those before it are right
-pub wrong_first : (columns : List Field) (all read : List (List (List ℕ))) (fields : List (List ℕ)) (left rest : List (List (List ℕ))) (before : ℕ) (wrong : Wrong) → all ≡ read ++ left → left ≡ fields ∷ rest →
+pub wrong_first : (columns : List Field) (all read : List (List (List ℕ))) (fields : List (List ℕ)) (left rest : List (List (List ℕ))) (before : ℕ) (wrong : RecordFault) → all ≡ read ++ left → left ≡ fields ∷ rest →
     before ≡ length read → AreRight columns read → IsWrong columns fields wrong → IsFirstWrong columns all (record { before = before; wrong = wrong })
 wrong_first columns all read fields left rest before wrong splits took count right is =
     let whole : all ≡ read ++ fields ∷ rest = splits ∙ ap (λ (l : List (List (List ℕ))). read ++ l) took in

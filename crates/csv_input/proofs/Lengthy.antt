@@ -14,10 +14,10 @@ use Rattle.scan_base.specs.declared.value.ValueRef.{ValueRef}
 use Rattle.arrow_schema.specs.declared.schema.Field.{Field}
 use Rattle.arrow_schema.specs.declared.schema.Schema.{Schema}
 use Rattle.arrays.specs.Batch.{BatchAt}
-use Rattle.arrays.specs.Written.{text_bytes, texts_joined}
+use Rattle.arrays.specs.WrittenSlots.{text_bytes, texts_joined}
 use Rattle.std.specs.List.{flat_map}
-use Rattle.ipc_batch.specs.Written.{body_length}
-use Rattle.csv_columns.specs.Said.{cell_in}
+use Rattle.ipc_batch.specs.WrittenMessages.{body_length}
+use Rattle.csv_columns.specs.FieldValues.{cell_in}
 use Rattle.csv_input.specs.Long.{AreTooLong, WhyNoMessage, WhyNoneTold, text_said, texts_said}
 use Rattle.csv_input.specs.Rows.{AreRight, IsRight}
 use Rattle.csv_input.specs.inside.Batches.{HasTaken, IsNextBatch}

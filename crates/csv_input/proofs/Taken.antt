@@ -7,10 +7,10 @@ use Rattle.csv.specs.Reading.{records_from, strip_bom}
 use Rattle.arrow_schema.specs.declared.schema.Field.{Field}
 use Rattle.arrow_schema.specs.declared.schema.Schema.{Schema}
 use Rattle.arrays.specs.Batch.{BatchAt, rows_of}
-use Rattle.ipc_batch.specs.Written.{SaysBatch}
+use Rattle.ipc_batch.specs.WrittenMessages.{SaysBatch}
 use Rattle.ipc_stream.specs.declared.message.IpcMessage.{IpcMessage}
-use Rattle.csv_columns.specs.Left.{records_in}
-use Rattle.csv_columns.specs.Said.{cell_in}
+use Rattle.csv_columns.specs.TextRecords.{records_in}
+use Rattle.csv_columns.specs.FieldValues.{cell_in}
 use Rattle.csv_input.specs.Rows.{AreRight, IsNext, IsRight, sent_in}
 use Rattle.csv_input.specs.inside.Batches.{HasTaken, IsBatchOf, IsNextBatch}
 use Rattle.csv_input.specs.inside.Cells.{HasWrongColumn, SaysCells}

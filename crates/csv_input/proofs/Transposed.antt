@@ -7,8 +7,8 @@ use Rattle.arrow_schema.specs.declared.schema.Field.{Field}
 use Rattle.arrays.specs.declared.layout.Layout.TheVariants as layout
 use Rattle.arrays.specs.Batch.{BatchAt, row_of, rows_of}
 use Rattle.arrays.specs.Column.{ColumnAt, slot_of, values_of, whole}
-use Rattle.arrays.specs.Typed.{AreOfTypes, IsOfType}
-use Rattle.csv_columns.specs.Said.{cell_in}
+use Rattle.arrays.specs.TypedLayouts.{AreOfTypes, IsOfType}
+use Rattle.csv_columns.specs.FieldValues.{cell_in}
 use Rattle.csv_input.specs.Rows.{AreRows, IsRow}
 use Rattle.csv_input.specs.inside.Chunks.{ChunkAt, Holds}
 use Rattle.csv_input.specs.inside.Batches.{IsBatchOf}

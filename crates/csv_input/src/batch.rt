@@ -1,8 +1,8 @@
 //! A batch of records.
 
 ghost use Rattle.std.specs.Prelude.{◌≡◌, ◌<◌, None, All, IfErr, IfOk, MatchOption, length};
-ghost use Rattle.arrow_schema.specs.Written.{encoding_of};
-ghost use Rattle.arrays.specs.Typed.{AreOfTypes};
+ghost use Rattle.arrow_schema.specs.WrittenHeader.{encoding_of};
+ghost use Rattle.arrays.specs.TypedLayouts.{AreOfTypes};
 ghost use Rattle.csv_input.specs.inside.Cells.{AreColumnsIn, HasWrongColumn, WhyNoColumns};
 ghost use Rattle.csv_input.specs.inside.Batches.{IsBatchOf};
 

@@ -3,8 +3,8 @@
 ghost use Rattle.std.specs.Prelude.{◌≡◌, ◌≤◌, ◌<◌, ◌^◌, None, false, true, IfErr, IfOk};
 ghost use Rattle.std.specs.Prelude.{MatchOption, length, map};
 ghost use Rattle.scan_base.specs.Value.{value_of};
-ghost use Rattle.arrow_schema.specs.Written.{encoding_of};
-ghost use Rattle.arrays.specs.Written.{text_bytes, texts_joined};
+ghost use Rattle.arrow_schema.specs.WrittenHeader.{encoding_of};
+ghost use Rattle.arrays.specs.WrittenSlots.{text_bytes, texts_joined};
 ghost use Rattle.csv_input.specs.inside.Cells.{AreCells, HasWrongCell, IsColumnIn, WhyNoColumn};
 
 use crate::chunk::Chunk;

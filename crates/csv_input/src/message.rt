@@ -4,7 +4,7 @@ ghost use Rattle.std.specs.Prelude.{◌≡◌, ◌⊎◌, ◌≤◌, ◌^◌, �
 ghost use Rattle.scan_base.specs.Limits.{most_columns};
 ghost use Rattle.scan_base.specs.declared.fault.Fault.TheVariants.{LimitReached, OutOfMemory};
 ghost use Rattle.arrow_schema.specs.Schema.{IsSchema};
-ghost use Rattle.ipc_batch.specs.Written.{SaysBatch, body_length};
+ghost use Rattle.ipc_batch.specs.WrittenMessages.{SaysBatch, body_length};
 ghost use Rattle.csv_input.specs.Rows.{SaysRecords, sent_in};
 
 use arrays::Batch;

@@ -25,9 +25,9 @@ pub struct CsvText {
 impl Model for CsvText {
     ghost use Rattle.std.specs.Prelude.{◌≡◌, None, All};
     ghost use Rattle.arrow_schema.specs.Schema.{IsSchema};
-    ghost use Rattle.arrow_schema.specs.Written.{encoding_of};
-    ghost use Rattle.csv_columns.specs.Left.{records_in};
-    ghost use Rattle.csv_columns.specs.Found.{rows_behind};
+    ghost use Rattle.arrow_schema.specs.WrittenHeader.{encoding_of};
+    ghost use Rattle.csv_columns.specs.TextRecords.{records_in};
+    ghost use Rattle.csv_columns.specs.FittingColumns.{rows_behind};
     ghost use Rattle.csv_input.specs.Rows.{AreRight};
     ghost use Rattle.csv_input.specs.Input.{TextAt};
 
@@ -80,7 +80,7 @@ pub struct CsvRows<'a> {
 impl<'a> Model for CsvRows<'a> {
     ghost use Rattle.std.specs.Prelude.{◌≡◌, None, All};
     ghost use Rattle.arrow_schema.specs.Schema.{IsSchema};
-    ghost use Rattle.arrow_schema.specs.Written.{encoding_of};
+    ghost use Rattle.arrow_schema.specs.WrittenHeader.{encoding_of};
     ghost use Rattle.csv_input.specs.Rows.{AreRight};
     ghost use Rattle.csv_input.specs.Input.{TextAt};
 

@@ -16,7 +16,7 @@ use Rattle.arrays.specs.Indices.{IndicesAt, AreIndices, entry_of, index_stands}
 use Rattle.arrays.specs.Layout.{layout_slot}
 use Rattle.arrays.specs.declared.layout.Layout.TheVariants as layout
 use Rattle.dictionary_answers.specs.Firsts.{Leads, AreLed}
-use Rattle.dictionary_answers.specs.inside.Packed.{ArePacked, AreValidWhereSome}
+use Rattle.dictionary_answers.specs.inside.PackedPlaces.{ArePacked, AreValidWhereSome}
 
 -- a small number of 32 bits has no sign
 pub plain : (n : ℕ) → n < 2 ^ 31 → number_from Int32 n ≡ pos n

@@ -15,8 +15,8 @@ use Rattle.scan_base.specs.Value.{is_null}
 use Rattle.arrays.specs.Column.{ColumnAt, slot_of, values_of}
 use Rattle.arrays.specs.Nulls.{null_count}
 use Rattle.dictionary_answers.specs.Firsts.{AreLed, Leads}
-use Rattle.dictionary_answers.specs.Coded.{held, no_place}
-use Rattle.dictionary_answers.specs.inside.Packed.{numbers_in, shown, ArePacked, AreValidWhereSome}
+use Rattle.dictionary_answers.specs.CodedTexts.{held, no_place}
+use Rattle.dictionary_answers.specs.inside.PackedPlaces.{numbers_in, shown, ArePacked, AreValidWhereSome}
 use Rattle.dictionary_answers.proofs.Indexed.{none_null}
 use Rattle.dictionary_answers.proofs.IndicesMade.{led_at, plain}
 use Rattle.dictionary_answers.proofs.Numbers.{length-numbers, get_or-numbers, numbers_packed}

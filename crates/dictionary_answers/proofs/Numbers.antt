@@ -10,7 +10,7 @@ use Rattle.byteorder.specs.Endian.{little_from, little_bytes}
 use Rattle.byteorder.specs.Numbers.{little_from-take, little_number-reads_back, length-bytes_low_first}
 use Rattle.bitmap.proofs.Masks.{little_drop}
 use Rattle.arrays.specs.Number.{element_at}
-use Rattle.dictionary_answers.specs.inside.Packed.{numbers_in}
+use Rattle.dictionary_answers.specs.inside.PackedPlaces.{numbers_in}
 
 -- there is a number for each four bytes
 pub length-numbers : (bytes : List ℕ) → length (numbers_in bytes) ≡ length bytes / 4

@@ -4,7 +4,7 @@ use Rattle.std.proofs.lemmas.Bool.{cases_eq, eq-eqb, ne_eqb}
 use Rattle.std.proofs.lemmas.List.{length-replicate, get_or-replicate, length-set, get_or-set_same, get_or-set_other}
 use Rattle.scan_base.specs.declared.value.Value.{Value}
 use Rattle.scan_base.specs.declared.value.Value.TheVariants.{Null}
-use Rattle.dictionary_answers.specs.Coded.{held, no_place, FoundAt}
+use Rattle.dictionary_answers.specs.CodedTexts.{held, no_place, DistinctTextsAt}
 use Rattle.dictionary_answers.specs.inside.Coding.{Finds}
 use Rattle.dictionary_answers.specs.inside.Table.{AreMet, IsTable}
 use Rattle.dictionary_answers.proofs.Adding.{held_some}
@@ -19,7 +19,7 @@ table_new dictionary texts table count many e = record {
 }
 
 -- one whose index was met
-pub table_met : (dictionary : List Value) (old new : FoundAt) (table : List ℕ) (index place : ℕ) → IsTable dictionary old.texts table →
+pub table_met : (dictionary : List Value) (old new : DistinctTextsAt) (table : List ℕ) (index place : ℕ) → IsTable dictionary old.texts table →
     Finds old new place (get_or dictionary index Null) → index < length dictionary → IsTable dictionary new.texts (set table index place)
 table_met dictionary old new table index place is finds low = record {
   long = length-set table index place ∙ is.long;
@@ -37,7 +37,7 @@ table_met dictionary old new table index place is finds low = record {
 }
 
 -- a map where an index more was met
-pub kept_met : (dictionary : List Value) (old new : FoundAt) (kept more : ℕ → Option ℕ) (index place : ℕ) → AreMet dictionary old.texts kept →
+pub kept_met : (dictionary : List Value) (old new : DistinctTextsAt) (kept more : ℕ → Option ℕ) (index place : ℕ) → AreMet dictionary old.texts kept →
     Finds old new place (get_or dictionary index Null) → ((q : ℕ) → more q ≡ cond (nat_eq index q) (Some place) (kept q)) → AreMet dictionary new.texts more
 kept_met dictionary old new kept more index place are finds updates at found e = elim (cases_eq index at) [
   | inl same ↦

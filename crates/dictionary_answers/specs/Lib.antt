@@ -1,5 +1,5 @@
 pub mod Firsts
-pub mod Coded
+pub mod CodedTexts
 pub mod Answer
 pub mod inside
 pub mod Dress

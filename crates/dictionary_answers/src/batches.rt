@@ -6,14 +6,14 @@ ghost use Rattle.std.specs.Option.{option_to_list};
 ghost use Rattle.scan_base.specs.Limits.{most_values};
 ghost use Rattle.arrays.specs.Batch.{AreLong, rows_of};
 ghost use Rattle.arrays.specs.Texts.{texts_values};
-ghost use Rattle.dictionary_answers.specs.declared.coding.Stop.TheVariants.{OutOfRoom};
+ghost use Rattle.dictionary_answers.specs.declared.coded_texts.Stop.TheVariants.{OutOfRoom};
 ghost use Rattle.dictionary_answers.specs.Answer.{AreAnswered, AreCodable, IsAnswered, IsCodable};
 ghost use Rattle.dictionary_answers.specs.Answer.{coded_bytes, column_bytes, column_dictionary};
 ghost use Rattle.dictionary_answers.specs.Answer.{dictionaries_of, dictionary_seen};
 
-use crate::built::{column_over, column_validity};
-use crate::coding::Stop;
+use crate::coded_texts::Stop;
 use crate::columns::code_packed;
+use crate::index_columns::{column_over, column_validity};
 use arrays::{Batch, Cells, Column, Texts};
 use arrow_schema::{DataType, Field, Schema};
 use hash_seed::HashSeed;

@@ -9,18 +9,18 @@ ghost use Rattle.arrays.specs.Layout.{layout_slot};
 ghost use Rattle.arrays.specs.Nulls.{null_count};
 ghost use Rattle.arrays.specs.Number.{byte_width};
 ghost use Rattle.arrays.specs.declared.layout.Layout.TheVariants as layout;
-ghost use Rattle.dictionary_answers.specs.declared.coding.Stop.TheVariants.{OutOfRoom};
+ghost use Rattle.dictionary_answers.specs.declared.coded_texts.Stop.TheVariants.{OutOfRoom};
 ghost use Rattle.dictionary_answers.specs.Firsts.{bytes_in, firsts, firsts_behind};
-ghost use Rattle.dictionary_answers.specs.Coded.{AreCoded, coded_at};
+ghost use Rattle.dictionary_answers.specs.CodedTexts.{AreCoded, coded_texts_at};
 ghost use Rattle.dictionary_answers.specs.inside.Coding.{Finds, room_of};
 ghost use Rattle.dictionary_answers.specs.inside.Blocks.{AreCodedTo, IsBlock};
-ghost use Rattle.dictionary_answers.specs.inside.Packed.{numbers_in};
+ghost use Rattle.dictionary_answers.specs.inside.PackedPlaces.{numbers_in};
 ghost use Rattle.dictionary_answers.specs.inside.Table.{AreMet, IsTable};
 
-use crate::coding::{Coded, NO_PLACE, Stop};
-use crate::found::Found;
+use crate::coded_texts::{CodedTexts, NO_PLACE, Stop};
+use crate::distinct_texts::DistinctTexts;
 use crate::indices::{Block, IndexColumn, IndexElement, is_valid, valid_index};
-use crate::packed::{put_number, unpack_numbers, zeros};
+use crate::packed_numbers::{put_number, unpack_numbers, zeros};
 use arrays::{Cells, Column, Indices, Layout};
 use arrow_schema::IntegerType;
 use hash_seed::HashSeed;
@@ -47,7 +47,7 @@ pub fn code_column<'t>(
     seed: HashSeed,
     column: &'t Column,
     room: usize,
-) -> Result<Coded<'t>, Stop>
+) -> Result<CodedTexts<'t>, Stop>
     requires small { column.now.len < 2 ^ 31 }
     requires texts { All IsTextOrNull (values_of column.now) }
     ensures coded { IfOk result (AreCoded (values_of column.now) room) }
@@ -56,7 +56,7 @@ pub fn code_column<'t>(
 {
     let (found, packed) = code_packed(alloc, seed, column, room)?;
     let places = unpack_numbers(alloc, &packed)?;
-    Ok(Coded::new(found, places))
+    Ok(CodedTexts::new(found, places))
 }
 
 /// The same, where the places stand in four bytes each.
@@ -65,15 +65,16 @@ pub(crate) fn code_packed<'t>(
     seed: HashSeed,
     column: &'t Column,
     room: usize,
-) -> Result<(Found<'t>, Vec<u8>), Stop>
+) -> Result<(DistinctTexts<'t>, Vec<u8>), Stop>
     requires small { column.now.len < 2 ^ 31 }
     requires texts { All IsTextOrNull (values_of column.now) }
     ensures coded { IfOk result
-        (λ made. AreCoded (values_of column.now) room (coded_at made.0 (numbers_in made.1.items))) }
+        (λ made. AreCoded (values_of column.now) room
+        (coded_texts_at made.0 (numbers_in made.1.items))) }
     ensures full { IfErr result
         (λ stop. stop ≡ OutOfRoom → room < bytes_in (firsts (values_of column.now))) }
 {
-    let mut found = Found::new(alloc, seed, room);
+    let mut found = DistinctTexts::new(alloc, seed, room);
     let mut packed = zeros(alloc, column.len())?;
     code_slots(alloc, seed, &mut found, column, &mut packed)?;
     Ok((found, packed))
@@ -83,16 +84,16 @@ pub(crate) fn code_packed<'t>(
 fn code_slots<'t>(
     alloc: Global,
     seed: HashSeed,
-    found: &mut Found<'t>,
+    found: &mut DistinctTexts<'t>,
     column: &'t Column,
     packed: &mut [u8],
 ) -> Result<(), Stop>
     requires small { column.now.len < 2 ^ 31 }
     requires texts { All IsTextOrNull (values_of column.now) }
     requires long { length packed.old ≡ 4 * column.now.len }
-    requires none { AreCoded [] (found.old).left (coded_at found.old []) }
+    requires none { AreCoded [] (found.old).left (coded_texts_at found.old []) }
     ensures coded { OnOk result (AreCoded (values_of column.now) (found.old).left
-        (coded_at found.new (numbers_in packed.new))) }
+        (coded_texts_at found.new (numbers_in packed.new))) }
     ensures full { IfErr result
         (λ stop. stop ≡ OutOfRoom → (found.old).left < bytes_in (firsts (values_of column.now))) }
 {
@@ -106,13 +107,17 @@ fn code_slots<'t>(
 }
 
 // Codes each slot by its value.
-fn code_values<'t>(found: &mut Found<'t>, column: &'t Column, packed: &mut [u8]) -> Result<(), Stop>
+fn code_values<'t>(
+    found: &mut DistinctTexts<'t>,
+    column: &'t Column,
+    packed: &mut [u8],
+) -> Result<(), Stop>
     requires small { column.now.len < 2 ^ 31 }
     requires texts { All IsTextOrNull (values_of column.now) }
     requires long { length packed.old ≡ 4 * column.now.len }
-    requires none { AreCoded [] (found.old).left (coded_at found.old []) }
+    requires none { AreCoded [] (found.old).left (coded_texts_at found.old []) }
     ensures coded { OnOk result (AreCoded (values_of column.now) (found.old).left
-        (coded_at found.new (numbers_in packed.new))) }
+        (coded_texts_at found.new (numbers_in packed.new))) }
     ensures full { IfErr result
         (λ stop. stop ≡ OutOfRoom → (found.old).left < bytes_in (firsts (values_of column.now))) }
 {
@@ -128,16 +133,16 @@ fn code_values<'t>(found: &mut Found<'t>, column: &'t Column, packed: &mut [u8])
 fn code_indices<'t>(
     alloc: Global,
     seed: HashSeed,
-    found: &mut Found<'t>,
+    found: &mut DistinctTexts<'t>,
     of: &IndexColumn<'t>,
     packed: &mut [u8],
 ) -> Result<(), Stop>
     requires small { (of.now).column.now.len < 2 ^ 31 }
     requires cells { (of.now).column.now.layout ≡ layout.Indices (of.now).cells }
     requires long { length packed.old ≡ 4 * (of.now).column.now.len }
-    requires none { AreCoded [] (found.old).left (coded_at found.old []) }
+    requires none { AreCoded [] (found.old).left (coded_texts_at found.old []) }
     ensures coded { OnOk result (AreCoded (values_of (of.now).column.now) (found.old).left
-        (coded_at found.new (numbers_in packed.new))) }
+        (coded_texts_at found.new (numbers_in packed.new))) }
     ensures full { IfErr result (λ stop. stop ≡ OutOfRoom →
         (found.old).left < bytes_in (firsts (values_of (of.now).column.now))) }
 {
@@ -157,7 +162,7 @@ fn is_worth_a_table(cells: &Indices<'_>, slots: usize) -> bool {
 
 // Codes each slot with a map of the indices that are met.
 fn code_far<'t>(
-    found: &mut Found<'t>,
+    found: &mut DistinctTexts<'t>,
     met: &mut IndexMap<usize, u32, HashSeed>,
     of: &IndexColumn<'t>,
     packed: &mut [u8],
@@ -165,10 +170,10 @@ fn code_far<'t>(
     requires small { (of.now).column.now.len < 2 ^ 31 }
     requires cells { (of.now).column.now.layout ≡ layout.Indices (of.now).cells }
     requires long { length packed.old ≡ 4 * (of.now).column.now.len }
-    requires none { AreCoded [] (found.old).left (coded_at found.old []) }
+    requires none { AreCoded [] (found.old).left (coded_texts_at found.old []) }
     requires met { AreMet (of.now).cells.dictionary (found.old).texts (get nat_eq met.old) }
     ensures coded { OnOk result (AreCoded (values_of (of.now).column.now) (found.old).left
-        (coded_at found.new (numbers_in packed.new))) }
+        (coded_texts_at found.new (numbers_in packed.new))) }
     ensures full { IfErr result (λ stop. stop ≡ OutOfRoom →
         (found.old).left < bytes_in (firsts (values_of (of.now).column.now))) }
 {
@@ -182,7 +187,7 @@ fn code_far<'t>(
 
 // The place of a slot.
 fn far_place<'t>(
-    found: &mut Found<'t>,
+    found: &mut DistinctTexts<'t>,
     met: &mut IndexMap<usize, u32, HashSeed>,
     cells: &Indices<'t>,
     slot: usize,
@@ -206,7 +211,7 @@ fn far_place<'t>(
 
 // Codes each slot with a table, by the type of the indices.
 fn code_near<'t>(
-    found: &mut Found<'t>,
+    found: &mut DistinctTexts<'t>,
     table: &mut [u32],
     of: &IndexColumn<'t>,
     packed: &mut [u8],
@@ -214,10 +219,10 @@ fn code_near<'t>(
     requires small { (of.now).column.now.len < 2 ^ 31 }
     requires cells { (of.now).column.now.layout ≡ layout.Indices (of.now).cells }
     requires long { length packed.old ≡ 4 * (of.now).column.now.len }
-    requires none { AreCoded [] (found.old).left (coded_at found.old []) }
+    requires none { AreCoded [] (found.old).left (coded_texts_at found.old []) }
     requires table { IsTable (of.now).cells.dictionary (found.old).texts table.old }
     ensures coded { OnOk result (AreCoded (values_of (of.now).column.now) (found.old).left
-        (coded_at found.new (numbers_in packed.new))) }
+        (coded_texts_at found.new (numbers_in packed.new))) }
     ensures full { IfErr result (λ stop. stop ≡ OutOfRoom →
         (found.old).left < bytes_in (firsts (values_of (of.now).column.now))) }
 {
@@ -231,7 +236,7 @@ fn code_near<'t>(
 
 // Codes each slot of indices of a type. Where no slot is null, validity bits are not looked at.
 fn code_elements<'t, E: IndexElement>(
-    found: &mut Found<'t>,
+    found: &mut DistinctTexts<'t>,
     table: &mut [u32],
     of: &IndexColumn<'t>,
     packed: &mut [u8],
@@ -240,10 +245,10 @@ fn code_elements<'t, E: IndexElement>(
     requires cells { (of.now).column.now.layout ≡ layout.Indices (of.now).cells }
     requires width { byte_width (of.now).cells.index ≡ E.WIDTH }
     requires long { length packed.old ≡ 4 * (of.now).column.now.len }
-    requires none { AreCoded [] (found.old).left (coded_at found.old []) }
+    requires none { AreCoded [] (found.old).left (coded_texts_at found.old []) }
     requires table { IsTable (of.now).cells.dictionary (found.old).texts table.old }
     ensures coded { OnOk result (AreCoded (values_of (of.now).column.now) (found.old).left
-        (coded_at found.new (numbers_in packed.new))) }
+        (coded_texts_at found.new (numbers_in packed.new))) }
     ensures full { IfErr result (λ stop. stop ≡ OutOfRoom →
         (found.old).left < bytes_in (firsts (values_of (of.now).column.now))) }
 {
@@ -257,7 +262,7 @@ fn code_elements<'t, E: IndexElement>(
 // Codes each slot, none of which is null, block by block. A block whose indices the table has all
 // met is copied through it, in a loop that asks nothing of its slots one by one.
 fn code_valid<'t, E: IndexElement>(
-    found: &mut Found<'t>,
+    found: &mut DistinctTexts<'t>,
     table: &mut [u32],
     of: &IndexColumn<'t>,
     packed: &mut [u8],
@@ -267,10 +272,10 @@ fn code_valid<'t, E: IndexElement>(
     requires width { byte_width (of.now).cells.index ≡ E.WIDTH }
     requires valid { null_count (of.now).column.now ≡ 0 }
     requires long { length packed.old ≡ 4 * (of.now).column.now.len }
-    requires none { AreCoded [] (found.old).left (coded_at found.old []) }
+    requires none { AreCoded [] (found.old).left (coded_texts_at found.old []) }
     requires table { IsTable (of.now).cells.dictionary (found.old).texts table.old }
     ensures coded { OnOk result (AreCoded (values_of (of.now).column.now) (found.old).left
-        (coded_at found.new (numbers_in packed.new))) }
+        (coded_texts_at found.new (numbers_in packed.new))) }
     ensures full { IfErr result (λ stop. stop ≡ OutOfRoom →
         (found.old).left < bytes_in (firsts (values_of (of.now).column.now))) }
 {
@@ -289,7 +294,7 @@ fn code_valid<'t, E: IndexElement>(
 
 // Codes the slots of a block, none of which is null, after those before it.
 fn code_block<'t, E: IndexElement>(
-    found: &mut Found<'t>,
+    found: &mut DistinctTexts<'t>,
     table: &mut [u32],
     block: &Block<'_, 't>,
     packed: &mut [u8],
@@ -321,7 +326,7 @@ fn code_block<'t, E: IndexElement>(
 
 // Codes each slot, some of which are null.
 fn code_some<'t, E: IndexElement>(
-    found: &mut Found<'t>,
+    found: &mut DistinctTexts<'t>,
     table: &mut [u32],
     of: &IndexColumn<'t>,
     packed: &mut [u8],
@@ -330,10 +335,10 @@ fn code_some<'t, E: IndexElement>(
     requires cells { (of.now).column.now.layout ≡ layout.Indices (of.now).cells }
     requires width { byte_width (of.now).cells.index ≡ E.WIDTH }
     requires long { length packed.old ≡ 4 * (of.now).column.now.len }
-    requires none { AreCoded [] (found.old).left (coded_at found.old []) }
+    requires none { AreCoded [] (found.old).left (coded_texts_at found.old []) }
     requires table { IsTable (of.now).cells.dictionary (found.old).texts table.old }
     ensures coded { OnOk result (AreCoded (values_of (of.now).column.now) (found.old).left
-        (coded_at found.new (numbers_in packed.new))) }
+        (coded_texts_at found.new (numbers_in packed.new))) }
     ensures full { IfErr result (λ stop. stop ≡ OutOfRoom →
         (found.old).left < bytes_in (firsts (values_of (of.now).column.now))) }
 {
@@ -347,7 +352,7 @@ fn code_some<'t, E: IndexElement>(
 
 // The place of a slot.
 fn near_place<'t, E: IndexElement>(
-    found: &mut Found<'t>,
+    found: &mut DistinctTexts<'t>,
     table: &mut [u32],
     cells: &Indices<'t>,
     slot: usize,

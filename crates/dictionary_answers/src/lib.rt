@@ -3,16 +3,16 @@
 #![tactic(auto)]
 
 pub mod batches;
-pub mod built;
-pub mod coding;
+pub mod coded_texts;
 pub mod columns;
-pub mod dressed;
-mod found;
+mod distinct_texts;
+pub mod dressed_batch;
+pub mod index_columns;
 mod indices;
-mod packed;
+mod packed_numbers;
 
 pub use crate::batches::{CodedBatch, ColumnDictionary, code_batch};
-pub use crate::built::column_of_indices;
-pub use crate::coding::{Coded, NO_PLACE, Stop};
+pub use crate::coded_texts::{CodedTexts, NO_PLACE, Stop};
 pub use crate::columns::code_column;
-pub use crate::dressed::{DressedBatch, dress};
+pub use crate::dressed_batch::{DressedBatch, dress};
+pub use crate::index_columns::column_of_indices;

@@ -10,11 +10,11 @@ use Rattle.dictionary_answers.specs.Lengths.{dressed_length}
 use Rattle.fetch_stream.specs.Streams.{Parcel, most_body_bytes}
 use Rattle.fetch_stream.specs.declared.cutter.Cutter.{Cutter}
 use Rattle.fetch_stream.specs.declared.source.Source.{Source}
-use Rattle.fetch_stream.specs.inside.Ahead.{IsCutter, IsGoing, AnsweredAs, schema_behind, left_behind, rows_taken, rows_cut, uncut}
-use Rattle.fetch_stream.specs.inside.Cut.{Cuts, ReachesFar}
-use Rattle.fetch_stream.specs.inside.Given.{GivesNext, GivesNoneYet, GivesBatch, MayRefuseSource}
+use Rattle.fetch_stream.specs.inside.RowsAhead.{IsCutter, IsGoing, AnsweredAs, schema_behind, left_behind, rows_taken, rows_cut, uncut}
+use Rattle.fetch_stream.specs.inside.BatchCuts.{Cuts, ReachesFar}
+use Rattle.fetch_stream.specs.inside.GivenBatches.{GivesNext, GivesNoneYet, GivesBatch, MayRefuseSource}
 use Rattle.fetch_stream.specs.inside.Steps.{Ends, Fails, HasNext, SaysNext, Waits, rows_left}
-use Rattle.fetch_stream.specs.inside.Written.{SaysRows}
+use Rattle.fetch_stream.specs.inside.WrittenPayloads.{SaysRows}
 use Rattle.fetch_stream.proofs.Parts.{slice_none, slice_whole, cuts_join, length_cut}
 use Rattle.fetch_stream.proofs.Sizes.{one_row_fits}
 

@@ -15,7 +15,7 @@ use Rattle.arrow_schema.specs.declared.schema.Field.{Field}
 use Rattle.arrow_schema.specs.declared.schema.Schema.{Schema}
 use Rattle.arrow_schema.specs.Header.{schema_in, schema_message_of, schema_of}
 use Rattle.arrow_schema.specs.Schema.{IsSchema}
-use Rattle.arrow_schema.specs.Written.{schema_part, schema_bytes}
+use Rattle.arrow_schema.specs.WrittenHeader.{schema_part, schema_bytes}
 use Rattle.arrow_schema.proofs.Messages.{messages_read}
 use Rattle.arrow_schema.proofs.Again.{whole_schema, short_schema, schemas_read}
 use Rattle.arrays.specs.Column.{ColumnAt, cut}
@@ -30,22 +30,22 @@ use Rattle.flight_proto.proofs.ReadsBack.{chunk_writable, data_back, fields_back
 use Rattle.flight_proto.proofs.Heads.{bodies_follow_heads}
 use Rattle.ipc_batch.specs.State.{Known}
 use Rattle.ipc_batch.specs.Parts.{body_claimed}
-use Rattle.ipc_batch.specs.Said.{Sent, News, Rows, schema_sent, news_of, Follows, Says}
-use Rattle.ipc_batch.specs.Seen.{written_seen}
-use Rattle.ipc_batch.specs.Written.{body_length, most_header_bytes, SaysBatch}
-use Rattle.ipc_batch.specs.Dressed.{Dressing, IsDressed, AreDressed}
+use Rattle.ipc_batch.specs.SaidRows.{Sent, News, Rows, schema_sent, news_of, Follows, Says}
+use Rattle.ipc_batch.specs.MessageView.{written_seen}
+use Rattle.ipc_batch.specs.WrittenMessages.{body_length, most_header_bytes, SaysBatch}
+use Rattle.ipc_batch.specs.DressedBatches.{Dressing, IsDressed, AreDressed}
 use Rattle.ipc_batch.proofs.Dressing.{dressed_say}
 use Rattle.ipc_batch.proofs.Lengths.{both}
 use Rattle.ipc_batch.proofs.Messages.{joined}
-use Rattle.dictionary_answers.specs.declared.dressed.DressedBatch.{DressedBatch}
+use Rattle.dictionary_answers.specs.declared.dressed_batch.DressedBatch.{DressedBatch}
 use Rattle.dictionary_answers.specs.Dress.{IsDressable, AreDressable, IsDressedBatch}
 use Rattle.dictionary_answers.specs.Lengths.{bodies_length}
 use Rattle.flight_info.specs.Payloads.{Payload, message_in, PayloadsSay}
 use Rattle.flight_info.proofs.Forms.{schema_plain}
 use Rattle.fetch_stream.specs.Fetches.{HasRow, IsBare, SayDressed}
 use Rattle.fetch_stream.specs.Streams.{Parcel, HaveShortBodies, most_body_bytes}
-use Rattle.fetch_stream.specs.inside.Ahead.{AnsweredAs}
-use Rattle.fetch_stream.specs.inside.Written.{Carries, CarryDressed, IsShort, SaysRows, SaysSchema, SaysWritten}
+use Rattle.fetch_stream.specs.inside.RowsAhead.{AnsweredAs}
+use Rattle.fetch_stream.specs.inside.WrittenPayloads.{Carries, CarryDressed, IsShort, SaysRows, SaysSchema, SaysWritten}
 
 -- ---- one payload
 

@@ -5,10 +5,10 @@ ghost use Rattle.std.specs.List.{list_any};
 ghost use Rattle.scan_base.specs.Limits.{most_columns};
 ghost use Rattle.arrays.specs.Batch.{rows_of};
 ghost use Rattle.table_versions.specs.Table.{is_long_text};
-ghost use Rattle.fetch_stream.specs.inside.Ahead.{AnsweredAs, IsCutter};
-ghost use Rattle.fetch_stream.specs.inside.Cut.{Cuts};
+ghost use Rattle.fetch_stream.specs.inside.RowsAhead.{AnsweredAs, IsCutter};
+ghost use Rattle.fetch_stream.specs.inside.BatchCuts.{Cuts};
 
-use crate::message::{Writing, batch_parcel};
+use crate::message::{WriteContext, batch_parcel};
 use crate::parcel::Parcel;
 use arrays::Batch;
 use arrays::laws::batch_slices_keep_rows;
@@ -56,7 +56,11 @@ impl Cutter {
     /// # Errors
     ///
     /// `AllocError` where memory is refused. The same rows come next.
-    pub(crate) fn next(&mut self, writing: Writing, schema: &Schema) -> Result<Parcel, AllocError>
+    pub(crate) fn next(
+        &mut self,
+        writing: WriteContext,
+        schema: &Schema,
+    ) -> Result<Parcel, AllocError>
         requires placed { IsCutter self.old }
         requires more { self.old.at < self.old.batch.rows }
         requires few { length self.old.batch.columns ≤ most_columns }

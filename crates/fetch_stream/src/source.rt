@@ -2,8 +2,8 @@
 
 ghost use Rattle.std.specs.Prelude.{◌≡◌, IfOk, OnOk};
 ghost use Rattle.arrays.specs.Batch.{BatchAt};
-ghost use Rattle.fetch_stream.specs.inside.Ahead.{schema_behind, rows_taken, IsSource};
-ghost use Rattle.fetch_stream.specs.inside.Given.{GivesNoneYet, TurnsBatch};
+ghost use Rattle.fetch_stream.specs.inside.RowsAhead.{schema_behind, rows_taken, IsSource};
+ghost use Rattle.fetch_stream.specs.inside.GivenBatches.{GivesNoneYet, TurnsBatch};
 
 use arrays::Batch;
 use arrow_schema::Schema;

@@ -9,16 +9,16 @@ ghost use Rattle.arrays.specs.Batch.{rows_of};
 ghost use Rattle.table_versions.specs.Table.{is_long_text};
 ghost use Rattle.fetch_stream.specs.Streams.{Gives, GivesTurn, LooksFor};
 ghost use Rattle.fetch_stream.specs.Morsels.{whole_stream};
-ghost use Rattle.fetch_stream.specs.inside.Ahead.{IsGoing, IsSource, AnsweredAs, schema_behind};
-ghost use Rattle.fetch_stream.specs.inside.Ahead.{left_behind, rows_taken};
+ghost use Rattle.fetch_stream.specs.inside.RowsAhead.{IsGoing, IsSource, AnsweredAs, schema_behind};
+ghost use Rattle.fetch_stream.specs.inside.RowsAhead.{left_behind, rows_taken};
 ghost use Rattle.fetch_stream.specs.inside.Steps.{GivesFirst, Refills, GivesRows};
 
 use crate::cutter::Cutter;
-use crate::message::{Writing, schema_payload};
+use crate::message::{WriteContext, schema_payload};
 use crate::morsels::{MakingMorsels, Morsels};
 use crate::parcel::Parcel;
+use crate::payload_work::Work;
 use crate::source::Source;
-use crate::work::Work;
 use arrays::Batch;
 use arrays::laws::batch_slices_keep_rows;
 use arrow_schema::Schema;
@@ -48,8 +48,8 @@ pub struct FetchStream {
 impl Model for FetchStream {
     ghost use Rattle.std.specs.Prelude.{◌≡◌, ◌++◌, None};
     ghost use Rattle.fetch_stream.specs.Streams.{RunningAt};
-    ghost use Rattle.fetch_stream.specs.inside.Ahead.{IsGoing, schema_behind, left_behind};
-    ghost use Rattle.fetch_stream.specs.inside.Ahead.{rows_cut, uncut, unseen_behind};
+    ghost use Rattle.fetch_stream.specs.inside.RowsAhead.{IsGoing, schema_behind, left_behind};
+    ghost use Rattle.fetch_stream.specs.inside.RowsAhead.{rows_cut, uncut, unseen_behind};
 
     ghost Value = { RunningAt };
 
@@ -292,7 +292,7 @@ impl FetchStream {
             return Err(fault);
         }
         let given = if self.begun {
-            let writing = Writing {
+            let writing = WriteContext {
                 alloc,
                 seed: self.seed,
             };
@@ -343,7 +343,7 @@ fn refill(
 
 // A turn to the parcel of the next rows.
 fn turn_of_rows(
-    writing: Writing,
+    writing: WriteContext,
     patience: Patience,
     cutter: &mut Cutter,
     source: &mut Source,

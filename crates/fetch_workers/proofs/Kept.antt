@@ -10,7 +10,7 @@ use Rattle.scan_base.specs.contracts.value.Value as value
 use Rattle.table_versions.specs.Table.{Row}
 use Rattle.fetch_stream.specs.Streams.{StreamAt}
 use Rattle.fetch_stream.specs.Morsels.{MorselsAt, morsel_stream}
-use Rattle.fetch_workers.specs.inside.Joined.{AnswersMorsels}
+use Rattle.fetch_workers.specs.inside.JoinedMorsels.{AnswersMorsels}
 
 numbers_equal : (n m : ℕ) → IsProp (n ≡ m)
 numbers_equal = Coded-set coded_ℕ

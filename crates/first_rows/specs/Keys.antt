@@ -10,7 +10,7 @@ use Rattle.std.proofs.lemmas.Slice.Eq.{bytes_eq-Decides}
 use Rattle.scan_base.specs.declared.value.Value.{Value}
 use Rattle.scan_base.specs.declared.value.Value.TheVariants.{Null, Bool as Flag, Int, Text}
 use Rattle.scan_base.specs.Value.{same_flag}
-use Rattle.typed_plan.specs.Grouped.{same_value, same_key}
+use Rattle.typed_plan.specs.GroupedRows.{same_value, same_key}
 
 -- what a hash takes of a value: first a byte that tells its kind
 abbrev pub value_input : Value → List (List ℕ)

@@ -8,7 +8,7 @@ use Rattle.flatbuf.specs.Place.{TableAt, VectorAt, number_at, target_of, field_o
 use Rattle.flatbuf.specs.Layout.{Stands}
 use Rattle.flatbuf.specs.Block.{Part, Offset, AreWhole, little, numbers, padding, fields, children, items_part, tables_from, tables_part, buffer_of}
 use Rattle.flatbuf.specs.Fits.{FitsTables}
-use Rattle.flatbuf.specs.Written.{table_at, LeadsToBlock, ElementIs, ChildReadsBack, TextReadsBack, StructsReadBack, TablesReadBack, BufferReadsBack}
+use Rattle.flatbuf.specs.WrittenTables.{table_at, LeadsToBlock, ElementIs, ChildReadsBack, TextReadsBack, StructsReadBack, TablesReadBack, BufferReadsBack}
 use Rattle.flatbuf.proofs.Standing.{stands_first, stands_then, stands_at, stands_whole, stands_number, stands_low, stands_bytes, length-little, tables_from_whole}
 use Rattle.flatbuf.proofs.Written.{FieldsHold, fields_hold, length-numbers, length-fields, stands_head, stands_tail}
 use Rattle.flatbuf.proofs.Lengths.{length-tables}

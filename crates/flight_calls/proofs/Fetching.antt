@@ -11,7 +11,7 @@ use Rattle.version_log.specs.Log.{Log, version}
 use Rattle.flight_core.specs.Machine.{FetchBy}
 use Rattle.flight_core.specs.declared.answer.Answer.TheVariants.{Stream}
 use Rattle.flight_core.specs.Machine.{ReplyTo}
-use Rattle.flight_core.specs.Answered.{AnsweredBy, IsReplyOf}
+use Rattle.flight_core.specs.StepAnswer.{AnsweredBy, IsReplyOf}
 use Rattle.flight_calls.specs.Sends.{SendsReply}
 use Rattle.flight_core.proofs.Fetching.{shows}
 use Rattle.flight_calls.proofs.Streaming.{SendsFetch}

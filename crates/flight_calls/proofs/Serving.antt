@@ -23,7 +23,7 @@ use Rattle.flight_calls.specs.declared.request.Request.{Request}
 use Rattle.flight_calls.specs.Calls.{Call, call_records, asked_by}
 use Rattle.flight_core.specs.Seats.{Seat, Moves}
 use Rattle.flight_calls.specs.Responds.{Responds, Answers}
-use Rattle.flight_calls.specs.Owed.{calls_bytes, answer_bytes, EndsIn, EndsInside, behind_calls, IsCause, last_status, Connection, items_owed, Wrote, Why, Serves, Fails}
+use Rattle.flight_calls.specs.OwedAnswers.{calls_bytes, answer_bytes, EndsIn, EndsInside, behind_calls, IsCause, last_status, Connection, items_owed, Wrote, Why, Serves, Fails}
 use Rattle.flight_calls.specs.Ending.{RefusesBy}
 use Rattle.flight_calls.specs.Reading.{IsSoundAt, Stops, CallArrives}
 use Rattle.flight_calls.proofs.Taking.{passed_none}

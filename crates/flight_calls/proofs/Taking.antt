@@ -17,7 +17,7 @@ use Rattle.grpc_frame.proofs.Coming.{led_sound}
 use Rattle.grpc_frame.proofs.Splitting.{place_after_all-append}
 use Rattle.grpc_frame.proofs.Tapes.{Advances-nil, Advances-trans}
 use Rattle.flight_info.specs.Payloads.{Payload}
-use Rattle.flight_calls.specs.Owed.{EndsIn, EndsInside}
+use Rattle.flight_calls.specs.OwedAnswers.{EndsIn, EndsInside}
 use Rattle.flight_calls.specs.Requests.{Holds}
 use Rattle.flight_calls.specs.Reading.{Fronts, Passed, IsSoundAt, Stops, RequestArrives, CallArrives}
 use Rattle.flight_calls.specs.declared.call.Arrival.TheVariants as arrival

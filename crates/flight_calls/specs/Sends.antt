@@ -10,7 +10,7 @@ use Rattle.flight_info.specs.Payloads.{Payload, FitMessages}
 use Rattle.flight_info.specs.Replies.{ReplyAt}
 use Rattle.fetch_stream.specs.Fetches.{FetchAt, HandleMeans}
 use Rattle.fetch_stream.specs.Streams.{StreamAt, HasGiven}
-use Rattle.flight_calls.specs.Owed.{answer_bytes}
+use Rattle.flight_calls.specs.OwedAnswers.{answer_bytes}
 
 -- a reply that this holds of was written, or a beginning of it
 pub record WritesReply (Right : ReplyAt → Type 0) (result : Result (Unit {0}) Fault)

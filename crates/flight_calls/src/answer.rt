@@ -15,11 +15,11 @@ ghost use Rattle.flight_proto.specs.Expiry.{floor_bytes};
 ghost use Rattle.fetch_stream.specs.Fetches.{FetchAt};
 ghost use Rattle.fetch_stream.specs.Streams.{Opens};
 ghost use Rattle.row_sources.specs.declared.turn.Patience.TheVariants.{Endless};
-ghost use Rattle.flight_core.specs.Answered.{AnsweredBy, IsReplyOf, FitsMessages};
+ghost use Rattle.flight_core.specs.StepAnswer.{AnsweredBy, IsReplyOf, FitsMessages};
 ghost use Rattle.flight_core.specs.Asked.{Asked};
 ghost use Rattle.flight_core.specs.Machine.{ReplyTo};
 ghost use Rattle.version_log.specs.Log.{Log};
-ghost use Rattle.flight_calls.specs.Owed.{answer_bytes, last_status};
+ghost use Rattle.flight_calls.specs.OwedAnswers.{answer_bytes, last_status};
 ghost use Rattle.flight_calls.specs.Sends.{WritesReply, SendsReply, SendsRest};
 
 use crate::setting::Setting;
@@ -219,14 +219,14 @@ fn make_stream<W: Output, X: Executor>(
     ensures counted { CountsFailure result (W.failures writer.old) (W.failures writer.new) }
     ensures kind { FailsByTransport result }
 {
-    let mut watching = Watching {
+    let mut watching = OutboxWatch {
         writer,
         outbox,
         rows: 0,
         failed: None,
     };
     let made = made_stream(setting, opening, &mut watching);
-    let Watching {
+    let OutboxWatch {
         writer,
         outbox,
         rows: _,
@@ -260,7 +260,7 @@ fn made_stream<X: Executor, L: Watches>(
 
 // Where what was sent is written while a stream is made, how many rows were looked at since then,
 // and why the other end is gone.
-struct Watching<'w, 'o, W> {
+struct OutboxWatch<'w, 'o, W> {
     writer: &'w mut W,
     outbox: &'o mut Outbox,
     rows: usize,
@@ -268,11 +268,11 @@ struct Watching<'w, 'o, W> {
 }
 
 // After so many rows what was sent is written, and the other end is looked at.
-impl<'w, 'o, W: Output> Watches for Watching<'w, 'o, W> {
+impl<'w, 'o, W: Output> Watches for OutboxWatch<'w, 'o, W> {
     ghost use Rattle.std.specs.Prelude.{◌≡◌, None, refl};
     ghost use Rattle.std.proofs.Common.{◌∙◌};
     ghost use Rattle.grpc_frame.specs.Ends.{CanFail};
-    ghost use Rattle.flight_calls.specs.Watched.{IsWatched, still_watched, watched_again};
+    ghost use Rattle.flight_calls.specs.WatchedOutbox.{IsWatched, still_watched, watched_again};
 
     ghost ready = { λ w. (w.failed ≡ None) × CanFail (W.failures w.writer.now) };
 
@@ -356,7 +356,7 @@ fn send_rest<W: Output, X: Executor>(
     ensures kind { FailsByTransport result }
 {
     let slow = stream.comes_slowly();
-    let mut sending = Sending {
+    let mut sending = PayloadSender {
         writer,
         outbox,
         slow,
@@ -364,7 +364,7 @@ fn send_rest<W: Output, X: Executor>(
     let sent = setting
         .executor
         .execute(setting.alloc, stream, &mut sending);
-    let Sending {
+    let PayloadSender {
         writer,
         outbox,
         slow: _,
@@ -380,7 +380,7 @@ fn take_back<T>(lent: &mut T)
 {}
 
 // Where payloads are sent, and whether a parcel may come late after another one.
-struct Sending<'w, 'o, W> {
+struct PayloadSender<'w, 'o, W> {
     writer: &'w mut W,
     outbox: &'o mut Outbox,
     slow: bool,
@@ -394,7 +394,7 @@ struct Pace {
 }
 
 // Each payload is sent before the next one is asked for, and after the last one the Status.
-impl<'w, 'o, W: Output> ReadsPayloads for Sending<'w, 'o, W> {
+impl<'w, 'o, W: Output> ReadsPayloads for PayloadSender<'w, 'o, W> {
     ghost use Rattle.std.specs.Prelude.{◌≡◌, ◌<◌};
     ghost use Rattle.flight_calls.specs.Sends.{SendsStream};
 

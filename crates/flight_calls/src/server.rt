@@ -3,14 +3,14 @@
 ghost use Rattle.std.specs.Prelude.{◌≡◌, []};
 ghost use Rattle.grpc_frame.specs.Ends.{CanFail};
 ghost use Rattle.flight_core.specs.Seats.{Seat, seat_of, alone};
-ghost use Rattle.flight_calls.specs.Owed.{Serves, connection_of};
+ghost use Rattle.flight_calls.specs.OwedAnswers.{Serves, connection_of};
 ghost use Rattle.flight_calls.specs.Ending.{RefusesBy};
 
 use crate::answer::{write_answer, write_last_status};
 use crate::call::{Arrival, read_call};
 use crate::setting::Setting;
 use fetch_stream::Executor;
-use flight_core::{Alone, Backend, Plain};
+use flight_core::{Backend, Plain, PlainBackend};
 use grpc_frame::{Inbox, Input, Outbox, Output};
 use hash_seed::HashSeed;
 use scan_base::Fault;
@@ -84,7 +84,7 @@ pub fn serve_alone<R: Input, W: Output, X: Executor>(
         (R.failures reader.new) (W.failures writer.new) seat) }
 {
     match Plain::new(setting.alloc, seed) {
-        Ok(plain) => serve(setting, reader, writer, &mut Alone::new(plain)),
+        Ok(plain) => serve(setting, reader, writer, &mut PlainBackend::new(plain)),
         Err(fault) => refuse(writer, &mut Outbox::new(setting.alloc), fault),
     }
 }

@@ -13,7 +13,7 @@ use Rattle.arrow_schema.specs.Header.{MessageAt, message_of}
 use Rattle.arrays.specs.Batch.{BatchAt, rows_of}
 use Rattle.flight_proto.specs.FlightData.{DataSaid, data_of}
 use Rattle.ipc_batch.specs.State.{Known, State}
-use Rattle.ipc_batch.specs.Said.{Sent, News, Rows, rows_in, next_news, news_in, news_of, glance_of as message_glance, batch_sent, known_after, Follows}
+use Rattle.ipc_batch.specs.SaidRows.{Sent, News, Rows, rows_in, next_news, news_in, news_of, glance_of as message_glance, batch_sent, known_after, Follows}
 use Rattle.ipc_batch.proofs.Glances.{glances_come_first}
 use Rattle.ipc_batch.proofs.Lengths.{fine, both}
 use Rattle.ipc_batch.proofs.Messages.{first, joined, keeps, once}

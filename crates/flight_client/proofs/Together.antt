@@ -18,12 +18,12 @@ use Rattle.arrow_schema.specs.declared.schema.Field.{Field}
 use Rattle.arrow_schema.specs.declared.schema.Schema.{Schema}
 use Rattle.arrow_schema.specs.DataType.{bit_width, is_signed}
 use Rattle.ipc_batch.specs.State.{Known}
-use Rattle.ipc_batch.specs.Said.{Rows}
+use Rattle.ipc_batch.specs.SaidRows.{Rows}
 use Rattle.ipc_batch.proofs.Lengths.{fine, both}
 use Rattle.table_versions.specs.Table.{Table, same_type, same_field, same_fields}
 use Rattle.flight_client.specs.Stream.{StreamAt, ending, schema_said}
 use Rattle.flight_client.specs.Join.{Answer, SaysRows, AreOf, joined, one_schema, schema_of_all, rows_together}
-use Rattle.flight_client.specs.inside.Gathered.{gathered}
+use Rattle.flight_client.specs.inside.GatheredStreams.{gathered}
 use Rattle.flight_client.proofs.Arrivals.{held, schema_there, wanted_there}
 
 -- ---- a schema has its own columns

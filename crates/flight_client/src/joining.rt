@@ -4,8 +4,8 @@ ghost use Rattle.std.specs.Prelude.{Ok, None, List};
 ghost use Rattle.scan_base.specs.Reading.{Gives, GivesUnlessMemory, RefusesFirst};
 ghost use Rattle.arrow_schema.specs.declared.schema.Schema.{Schema};
 ghost use Rattle.flight_client.specs.Join.{Answer, AreOf, joined, schema_of_all, rows_together};
-ghost use Rattle.flight_client.specs.inside.Gathered.{gathered};
-ghost use Rattle.flight_client.specs.inside.Typed.{FitRows};
+ghost use Rattle.flight_client.specs.inside.GatheredStreams.{gathered};
+ghost use Rattle.flight_client.specs.inside.TypedColumns.{FitRows};
 
 use crate::rows::Rows;
 use crate::stream::Stream;

@@ -28,7 +28,7 @@ impl Model for Stream {
     ghost use Rattle.std.specs.List.{flat_map};
     ghost use Rattle.arrays.specs.Batch.{rows_of};
     ghost use Rattle.flight_client.specs.Stream.{StreamAt};
-    ghost use Rattle.flight_client.specs.inside.Typed.{AreTyped};
+    ghost use Rattle.flight_client.specs.inside.TypedColumns.{AreTyped};
 
     ghost Value = { StreamAt };
 

@@ -3,7 +3,7 @@
 ghost use Rattle.std.specs.Prelude.{◌≡◌, None, IfOk, IfSome, option_map};
 ghost use Rattle.arrow_schema.specs.Schema.{IsSchema};
 ghost use Rattle.scan_base.specs.Reading.{Gives, RefusesFirst};
-ghost use Rattle.ipc_batch.specs.Said.{Answers, HasColumns};
+ghost use Rattle.ipc_batch.specs.SaidRows.{Answers, HasColumns};
 ghost use Rattle.flight_client.specs.Stream.{payload_glance, payload_news};
 
 use arrays::Batch;

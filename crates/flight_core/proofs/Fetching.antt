@@ -15,12 +15,12 @@ use Rattle.fetch_stream.specs.Streams.{StreamAt, Opens}
 use Rattle.version_log.specs.Log.{Log, puts_of, puts_in, floor_of, version, Begins}
 use Rattle.version_log.proofs.Logs.{begun_puts}
 use Rattle.flight_core.specs.declared.answer.Answer.TheVariants.{Stream, Whole}
-use Rattle.flight_core.specs.Answered.{AnsweredBy, ReactsBy}
+use Rattle.flight_core.specs.StepAnswer.{AnsweredBy, ReactsBy}
 use Rattle.flight_core.specs.Asked.{Asked, fetch}
 use Rattle.flight_core.specs.Machine.{FetchBy, FetchIn, FetchShown, OpensBy, OpensIn, ReplyTo}
 use Rattle.flight_core.specs.Reacts.{IsBeyond}
 use Rattle.flight_core.specs.Seats.{Seat, Moves, AsksNone, Learns}
-use Rattle.flight_core.specs.Shown.{handle_shown}
+use Rattle.flight_core.specs.ShownHandle.{handle_shown}
 use Rattle.flight_core.proofs.Reacting.{goes_by_look}
 
 -- ---- what a ticket shows, whose handle reads

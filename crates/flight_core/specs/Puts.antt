@@ -9,7 +9,7 @@ use Rattle.arrow_schema.specs.declared.schema.Schema.{Schema}
 use Rattle.flight_proto.specs.FlightData.{data_of}
 use Rattle.flight_proto.specs.Ingest.{IngestSaid, ingest_of}
 use Rattle.ipc_batch.specs.State.{State}
-use Rattle.ipc_batch.specs.Said.{News, Rows, news_of, glance_of, rows_in}
+use Rattle.ipc_batch.specs.SaidRows.{News, Rows, news_of, glance_of, rows_in}
 use Rattle.table_versions.specs.Database.{Put}
 use Rattle.flight_info.specs.Payloads.{Payload, message_in}
 

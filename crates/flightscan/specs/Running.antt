@@ -9,28 +9,28 @@ use Rattle.grpc_frame.specs.declared.ends.Output.{Ghosts as OutputMembers}
 use Rattle.csv_input.specs.Input.{form_of}
 use Rattle.version_cell.specs.Rests.{RestAt}
 use Rattle.flight_calls.specs.declared.setting.Options.{Options}
-use Rattle.flight_calls.specs.Owed.{Connection, connection_of}
+use Rattle.flight_calls.specs.OwedAnswers.{Connection, connection_of}
 use Rattle.flight_core.specs.Seats.{Seat, seat_of}
 use Rattle.shared_calls.specs.Sharing.{onward}
 use Rattle.command_line.specs.declared.request.Format.{Format}
 use Rattle.command_line.specs.declared.request.PutForm.{PutForm}
 use Rattle.command_line.specs.declared.request.PutForm.TheVariants.{Arrow, Csv}
-use Rattle.command_line.specs.declared.request.Serving.{Serving}
+use Rattle.command_line.specs.declared.request.ServeOptions.{ServeOptions}
 use Rattle.command_line.specs.declared.request.Request.{Request}
 use Rattle.command_line.specs.declared.request.Request.TheVariants.{Pipe, Serve, Put, Query, Tables}
 use Rattle.command_line.specs.declared.request.Request.TheVariants.{Expire}
 use Rattle.command_ends.specs.Network.{Accepting, Ends}
 use Rattle.command_ends.specs.Printing.{Said, Prints, fault_line, said_of}
-use Rattle.command_ends.specs.Whole.{Source, source_of}
+use Rattle.command_ends.specs.WholeInput.{Source, source_of}
 use Rattle.command_ends.specs.declared.exit_status.ExitStatus.{ExitStatus}
 use Rattle.command_ends.specs.declared.exit_status.ExitStatus.TheVariants.{FaultAtThisEnd}
-use Rattle.client_calls.specs.declared.putting.Target.{Target}
+use Rattle.client_calls.specs.declared.put_call.Target.{Target}
 use Rattle.client_commands.specs.Commands.{Desk, Expires, ListsTables, Puts, PutsCsv, desk_of}
 use Rattle.client_commands.specs.Queries.{Queries}
 use Rattle.commands.specs.Pipe.{Pipes}
 use Rattle.commands.specs.Port.{Listens, Sharing}
 use Rattle.commands.specs.Serve.{Pays}
-use Rattle.flightscan.specs.declared.running.Streams.{Streams}
+use Rattle.flightscan.specs.declared.runner.Streams.{Streams}
 
 -- ---- the standard streams
 
@@ -135,7 +135,7 @@ PipesWith None options status old new = LacksSeed status old new
 
 -- with a seed, connections are served, by a listener that hears, accepts and is shared so
 abbrev pub ServesWith : {S L : Type 0} → Option S → Hearing L → Accepting L → Sharing L
-    → Serving → ExitStatus → L → L → Standard → Standard → Type 0
+    → ServeOptions → ExitStatus → L → L → Standard → Standard → Type 0
 ServesWith (Some seed) hears accepts shares serving status before behind old new =
     Listens accepts shares (hears before serving.port serving.idle) serving status behind old.out
     new.out old.faults new.faults

@@ -12,7 +12,7 @@ use Rattle.arrow_schema.specs.declared.data_type.DataType.TheVariants.{Integer}
 use Rattle.scan_base.specs.declared.value.Value.{Value}
 use Rattle.scan_base.specs.declared.value.Value.TheVariants.{Null, Int, Text, Bool as Flag}
 use Rattle.arrays.specs.Column.{ColumnAt, IsColumn, slot_of, values_of}
-use Rattle.arrays.specs.Typed.{IsInteger, IsValueOf, ValuesAreOfTheirType}
+use Rattle.arrays.specs.TypedLayouts.{IsInteger, IsValueOf, ValuesAreOfTheirType}
 use Rattle.group_slots.specs.Counting.{IsIntegers, IsShort}
 
 signed : (z : ℤ) → FitsSigned w64 z → IsShort z

@@ -10,16 +10,16 @@ use Rattle.arrays.specs.declared.layout.Layout.TheVariants as layout
 use Rattle.array_select.specs.declared.of_slots.SlotRef.{SlotRef}
 use Rattle.arrays.specs.Batch.{AreLong, BatchAt, row_of}
 use Rattle.array_select.specs.OfSlots.{slot_value}
-use Rattle.array_select.specs.Built.{value_or_null}
+use Rattle.array_select.specs.ColumnValues.{value_or_null}
 use Rattle.arrays.specs.Column.{ColumnAt, slot_of}
-use Rattle.arrays.specs.Typed.{AreOf, IsOfType}
-use Rattle.arrays.specs.Written.{text_bytes}
-use Rattle.typed_plan.specs.Typed.{type_at}
+use Rattle.arrays.specs.TypedLayouts.{AreOf, IsOfType}
+use Rattle.arrays.specs.WrittenSlots.{text_bytes}
+use Rattle.typed_plan.specs.TypedPlans.{type_at}
 use Rattle.group_slots.specs.declared.tally.Tally.{Tally}
 use Rattle.group_slots.proofs.Slotted.{cell_slot}
 use Rattle.grouping.specs.declared.key.Place.{Place}
 use Rattle.grouping.specs.Answers.{IsThere}
-use Rattle.grouping.specs.Fed.{AreTyped, batch_at}
+use Rattle.grouping.specs.FedRows.{AreTyped, batch_at}
 use Rattle.array_select.specs.Fitting.{has_texts}
 use Rattle.grouping.specs.inside.Answering.{count_or_none, first_cell, sum_or_none}
 use Rattle.grouping.proofs.Feeding.{as_many}

@@ -6,8 +6,7 @@
 #![tactic(auto)]
 
 mod arrivals;
-mod block;
-mod counted;
+mod counted_end;
 mod ends;
 mod head;
 mod inbox;
@@ -15,11 +14,12 @@ pub mod laws;
 mod memory;
 mod outbox;
 mod place;
+mod read_buffer;
 mod record;
 mod transcript;
 mod write;
 
-pub use crate::counted::Counted;
+pub use crate::counted_end::CountedEnd;
 pub use crate::ends::{Input, Output};
 pub use crate::inbox::Inbox;
 pub use crate::memory::{MemoryInput, MemoryOutput};

@@ -10,7 +10,7 @@ use Rattle.scan_base.specs.Predicate.{cell_in}
 use Rattle.hash_join.specs.declared.pair.Pair.{Pair}
 use Rattle.hash_join.specs.declared.walk.Walk.{Walk}
 use Rattle.hash_join.specs.Pairs.{row_at}
-use Rattle.hash_join.specs.KeyRows.{key_of}
+use Rattle.hash_join.specs.KeyRows.{row_key}
 use Rattle.hash_join.specs.Rights.{place_at, key_at, bucket_at}
 use Rattle.hash_join.specs.Hashes.{last_of}
 use Rattle.hash_join.specs.Chains.{stands, Leads}
@@ -47,7 +47,7 @@ module _ (walk : Walk) (is : IsWalk walk) where
   misses : (row : ℕ) → in_chain walk row ≡ false → joins_at walk (place_at walk.rights.now row) ≡ false
   misses row apart =
       let rights = walk.rights.now in
-      two_buckets rights.buckets (key_of walk.left) (key_at rights row)
+      two_buckets rights.buckets (row_key walk.left) (key_at rights row)
       (length-map walk.left.key.now (cell_in (row_of walk.left.batch.now.columns walk.left.row)) ∙ is.alike
       ∙ sym (length-map rights.key.items (cell_in (row_at rights.batches.items (place_at rights row))))) apart
 

@@ -6,13 +6,13 @@ use Rattle.hash_join.specs.declared.pair.Pair.{Pair}
 use Rattle.hash_join.specs.declared.walk.Walk.{Walk}
 use Rattle.hash_join.specs.Pairs.{keys_join}
 use Rattle.hash_join.specs.Hashes.{bucket_of, key_digest}
-use Rattle.hash_join.specs.KeyRows.{key_beside, key_of, IsKeyRow}
+use Rattle.hash_join.specs.KeyRows.{key_beside, row_key, IsKeyRow}
 use Rattle.hash_join.specs.Rights.{key_from, place_at, bucket_at, AreRights}
 use Rattle.hash_join.specs.Chains.{stands, AreRepeats, HasLinked}
 
 -- whether the left row joins the right row at a place
 abbrev pub joins_at : Walk → ℕ × ℕ → Bool
-joins_at walk place = keys_join (key_of walk.left) (key_from walk.rights.now place)
+joins_at walk place = keys_join (row_key walk.left) (key_from walk.rights.now place)
 
 -- the pair of the left row with the right row at a place
 abbrev pub pair_at : Walk → ℕ × ℕ → Pair
@@ -25,7 +25,7 @@ pairs_past walk from =
 
 -- the bucket of the left row
 abbrev pub bucket_left : Walk → Option ℕ
-bucket_left walk = bucket_of walk.rights.now.buckets (key_of walk.left)
+bucket_left walk = bucket_of walk.rights.now.buckets (row_key walk.left)
 
 -- the digests of parts of the keys of left rows in the batch
 abbrev pub digest_left : Walk → ℕ → ℕ → Option ℕ

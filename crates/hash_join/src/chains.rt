@@ -3,13 +3,13 @@
 ghost use Rattle.std.specs.Prelude.{◌≡◌, ◌+◌, ◌≤◌, ◌<◌, IfOk, OnOk, false, length, replicate};
 ghost use Rattle.hash_join.specs.Rights.{AreRights};
 ghost use Rattle.hash_join.specs.Chains.{AreRepeats, HasChains};
-ghost use Rattle.hash_join.specs.Seen.{AreOpen, AreOpenRepeats};
-ghost use Rattle.work_watch.specs.Told.{ToldAtLeast};
+ghost use Rattle.hash_join.specs.RowCache.{AreOpen, AreOpenRepeats};
+ghost use Rattle.work_watch.specs.WatchedWork.{ToldAtLeast};
 
-use crate::compared::Compared;
+use crate::pair_cache::PairCache;
 use crate::right_rows::RightRows;
 use crate::rights::Rights;
-use crate::seen::SeenRows;
+use crate::row_cache::RowCache;
 use std::alloc::{AllocError, Global};
 use work_watch::{Watches, tell};
 
@@ -111,7 +111,7 @@ fn no_repeats(alloc: Global, count: usize) -> Result<Vec<bool>, AllocError>
 struct OpenChains {
     heads: Vec<u32>,
     links: Vec<u32>,
-    seen: SeenRows,
+    seen: RowCache,
 }
 
 impl OpenChains {
@@ -184,7 +184,7 @@ impl OpenChains {
 #[derive(Drop)]
 struct OpenRepeats {
     repeats: Vec<bool>,
-    compared: Compared,
+    compared: PairCache,
 }
 
 impl OpenRepeats {

@@ -7,7 +7,7 @@ ghost use Rattle.arrays.specs.Number.{byte_width, integer_at};
 ghost use Rattle.arrays.specs.Validity.{is_valid, IsLong};
 ghost use Rattle.hash_join.specs.Words.{passing_word};
 
-use crate::look::Look;
+use crate::number_look::Look;
 use arrays::Element;
 use arrow_schema::IntegerType;
 use bitmap::Bits;

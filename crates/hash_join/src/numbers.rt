@@ -15,7 +15,7 @@ pub(crate) trait TakesNumbers {
 
 // Slots of integers, from one up to, not with, another.
 #[derive(Drop)]
-struct Slots<'a> {
+struct NumberSlots<'a> {
     cells: Integers<'a>,
     from: usize,
     to: usize,
@@ -64,16 +64,16 @@ fn key_column<'a>(batch: &'a Batch, key: &[usize]) -> &'a Column
 }
 
 // The slots of a column of integers.
-fn slots_of(column: &Column) -> Option<Slots<'_>> {
+fn slots_of(column: &Column) -> Option<NumberSlots<'_>> {
     let from = column.first();
     let to = from + column.len();
     match column.layout() {
-        Layout::Integers(cells) => Some(Slots { cells, from, to }),
+        Layout::Integers(cells) => Some(NumberSlots { cells, from, to }),
         _ => None,
     }
 }
 
-impl<'a> Slots<'a> {
+impl<'a> NumberSlots<'a> {
     fn give<T: TakesNumbers>(&self, taker: &mut T) {
         match self.cells.integer_type() {
             IntegerType::Int8 => self.give_as::<i8, T>(taker),

@@ -16,10 +16,10 @@ use Rattle.arrays.specs.Batch.{row_of, rows_of}
 use Rattle.arrays.specs.Column.{ColumnAt, slot_of, values_of}
 use Rattle.arrays.specs.Firsts.{firsts}
 use Rattle.ipc_batch.specs.State.{Known, State, Dictionaries, values_under, with_values}
-use Rattle.ipc_batch.specs.Said.{Sent, News, Rows, Follows, news_of}
-use Rattle.ipc_batch.specs.Dressed.{cells_in, is_coded, coded_from, SaysWhole, HasTexts, Dressing, IsDressed, AreDressed, DressedMessagesSay}
+use Rattle.ipc_batch.specs.SaidRows.{Sent, News, Rows, Follows, news_of}
+use Rattle.ipc_batch.specs.DressedBatches.{cells_in, is_coded, coded_from, SaysWhole, HasTexts, Dressing, IsDressed, AreDressed, DressedMessagesSay}
 use Rattle.ipc_batch.specs.News.{leads_to}
-use Rattle.ipc_batch.specs.Written.{SaysValues, dictionary_news}
+use Rattle.ipc_batch.specs.WrittenMessages.{SaysValues, dictionary_news}
 use Rattle.ipc_batch.proofs.Entries.{under_set, under_other}
 
 -- the dictionaries after the messages of these columns

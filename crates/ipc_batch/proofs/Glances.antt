@@ -10,7 +10,7 @@ use Rattle.arrow_schema.specs.Header.{MessageAt, message_of, schema_in}
 use Rattle.ipc_batch.specs.Parts.{PartsAt, DictionaryParts, body_claimed}
 use Rattle.ipc_batch.specs.Columns.{columns_placed}
 use Rattle.ipc_batch.specs.State.{Known, State}
-use Rattle.ipc_batch.specs.Said.{schema_sent, first_schema, first_glance, batch_parts, batch_sent, dictionary_sent, known_after, next_news, next_glance, news_in, glance_in, news_of, glance_of}
+use Rattle.ipc_batch.specs.SaidRows.{schema_sent, first_schema, first_glance, batch_parts, batch_sent, dictionary_sent, known_after, next_news, next_glance, news_in, glance_in, news_of, glance_of}
 use Rattle.ipc_batch.specs.Laws.{GlancesComeFirst}
 use Rattle.ipc_batch.proofs.Only.{Only}
 use Rattle.ipc_batch.proofs.Placed.{unplaced_batch, unplaced_dictionary}

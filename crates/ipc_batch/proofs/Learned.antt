@@ -26,7 +26,7 @@ use Rattle.ipc_batch.specs.Parts.{PartsAt, DictionaryParts, body_claimed, parts_
 use Rattle.ipc_batch.specs.State.{Known, State, values_under, with_values}
 use Rattle.ipc_batch.specs.Columns.{columns_from, buffers_wanted, counts_agree, one_texts}
 use Rattle.ipc_batch.specs.News.{Sent, News, schema_sent, batch_parts, batch_sent, leads_to, dictionary_sent, kept_of, known_after, first_schema, next_news, news_of}
-use Rattle.ipc_batch.specs.Said.{Rows, rows_in, Follows, Says}
+use Rattle.ipc_batch.specs.SaidRows.{Rows, rows_in, Follows, Says}
 use Rattle.ipc_batch.specs.Brings.{SaysMessage, SaysDictionaryBatch, Context, context_of, BringsBatch, Sets, BringsDictionary, BringsSchema, Brings}
 use Rattle.ipc_batch.specs.Laws.{IsReadAs, ReadIsBrought, BringRows, SaidIsBrought}
 use Rattle.ipc_batch.proofs.Entries.{under_set, under_other}

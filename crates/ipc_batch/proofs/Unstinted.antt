@@ -17,7 +17,7 @@ use Rattle.arrow_schema.specs.Header.{MessageAt, header_of, body_length_of, fiel
 use Rattle.arrow_schema.specs.declared.header.HeaderKind.{HeaderKind}
 use Rattle.arrow_schema.specs.declared.header.HeaderKind.TheVariants as header
 use Rattle.ipc_batch.specs.Parts.{body_claimed}
-use Rattle.ipc_batch.specs.Said.{schema_sent, first_schema}
+use Rattle.ipc_batch.specs.SaidRows.{schema_sent, first_schema}
 use Rattle.ipc_batch.proofs.Only.{Only, only_then, only_if, only_demand, only_wanted, only_each}
 
 -- a fault other than want of memory

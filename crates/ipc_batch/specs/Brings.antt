@@ -21,7 +21,7 @@ use Rattle.ipc_batch.specs.Parts.{PartsAt, nodes_in, places_in}
 use Rattle.ipc_batch.specs.State.{Known, values_under}
 use Rattle.ipc_batch.specs.Columns.{buffers_wanted}
 use Rattle.ipc_batch.specs.Holds.{HoldsColumn, HoldsColumns}
-use Rattle.ipc_batch.specs.Said.{Sent, leads_to, kept_of}
+use Rattle.ipc_batch.specs.SaidRows.{Sent, leads_to, kept_of}
 
 -- ---- tables
 

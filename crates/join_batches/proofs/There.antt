@@ -5,8 +5,8 @@ use Rattle.std.proofs.lemmas.List.Elements.{All-nil, All-cons, All-head, All-tai
 use Rattle.arrays.specs.Batch.{BatchAt, row_of}
 use Rattle.hash_join.specs.declared.pair.Pair.{Pair}
 use Rattle.hash_join.specs.declared.build.Probe.{Probe}
-use Rattle.hash_join.specs.Pairs.{BuildAt, key_in, keys_join, places, row_at, pairs_of, pairs_ahead}
-use Rattle.join_batches.specs.Rows.{batch_at, IsPair}
+use Rattle.hash_join.specs.Pairs.{BuildAt, key_values, keys_join, places, row_at, pairs_of, pairs_ahead}
+use Rattle.join_batches.specs.Rows.{batch_numbered, IsPair}
 use Rattle.join_batches.proofs.Numbered.{first_at, first_within, others_from}
 
 -- what holds of all items of each list
@@ -23,7 +23,7 @@ all_below first (suc n) end h =
 -- a place of a row of batches
 record IsPlace (all : List BatchAt) (place : ℕ × ℕ) : Type 0 where
   batch : place.0 < length all
-  row : place.1 < (batch_at all place.0).rows
+  row : place.1 < (batch_numbered all place.0).rows
 
 places_from : (all rest : List BatchAt) (number : ℕ) → drop number all ≡ rest →
     All (IsPlace all) (flat_map (λ (p : ℕ × BatchAt). map (λ row. (p.0, row)) (range_with_len 0 p.1.rows)) (zip (range_with_len number (length rest)) rest))
@@ -43,7 +43,7 @@ all_places batches = places_from batches batches 0 refl
 module _ (build : BuildAt) (left : BatchAt) (key : List ℕ) where
   pairs_there : (row from : ℕ) → row < left.rows → All (IsPair build.batches left) (pairs_of build left key row from)
   pairs_there row from low =
-      let test = λ (place : ℕ × ℕ). keys_join (key_in key (row_of left.columns row)) (key_in build.key (row_at build.batches place)) in
+      let test = λ (place : ℕ × ℕ). keys_join (key_values key (row_of left.columns row)) (key_values build.key (row_at build.batches place)) in
       let some = drop from (places build.batches) in
       All-map (IsPair build.batches left) (λ (place : ℕ × ℕ). record { left = row; batch = place.0; row = place.1 }) (filter test some)
       (All-weaker (IsPlace build.batches) (λ (place : ℕ × ℕ). IsPair build.batches left (record { left = row; batch = place.0; row = place.1 }))

@@ -9,7 +9,7 @@ use Rattle.std.proofs.lemmas.Option.{unwrap_or-slice_get}
 use Rattle.arrow_schema.specs.declared.data_type.DataType.{DataType}
 use Rattle.arrow_schema.specs.declared.data_type.DataType.TheVariants.{Utf8}
 use Rattle.arrays.specs.Column.{ColumnAt}
-use Rattle.arrays.specs.Typed.{AreOf, IsOfType}
+use Rattle.arrays.specs.TypedLayouts.{AreOf, IsOfType}
 
 -- they are as many as the types
 pub typed_long : (types : List DataType) (columns : List ColumnAt) → AreOf types columns → length columns ≡ length types

@@ -7,7 +7,7 @@ use Rattle.std.proofs.Math.ListN.{get_or-eq_default}
 use Rattle.scan_base.specs.declared.truth.Truth.{Truth}
 use Rattle.scan_base.specs.declared.truth.Truth.TheVariants.{True, False, Unknown}
 use Rattle.scan_base.specs.Truth.{truth_and, keeps}
-use Rattle.kernels.specs.Kept.{bit_among, Keeps}
+use Rattle.kernels.specs.KeptRows.{bit_among, Keeps}
 use Rattle.kernels.specs.Words.{bit}
 use Rattle.kernels.proofs.Bits.{bit_of_none}
 

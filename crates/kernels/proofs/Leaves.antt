@@ -7,8 +7,8 @@ use Rattle.scan_base.specs.declared.truth.Truth.TheVariants.{Unknown}
 use Rattle.scan_base.specs.declared.value.Value.{Value}
 use Rattle.scan_base.specs.declared.value.Value.TheVariants.{Null}
 use Rattle.arrays.specs.Column.{slot_of}
-use Rattle.kernels.specs.declared.part.ColumnPart.{ColumnPart}
-use Rattle.kernels.specs.declared.part.RowRange.{RowRange}
+use Rattle.kernels.specs.declared.column_part.ColumnPart.{ColumnPart}
+use Rattle.kernels.specs.declared.column_part.RowRange.{RowRange}
 use Rattle.kernels.specs.Parts.{cell_of, said_in, said_of}
 use Rattle.kernels.proofs.WordRows.{same_map, same_range}
 

@@ -10,10 +10,10 @@ ghost use Rattle.kernels.specs.Parts.{IsPart, said_of};
 ghost use Rattle.kernels.specs.Ranges.{validity_count};
 ghost use Rattle.kernels.specs.Words.{bit};
 
-use crate::kernel::{Kernel, Slots, mask_by};
+use crate::column_part::ColumnPart;
+use crate::kernel::{Kernel, SlotTruths, mask_by};
 use crate::longs::{is_valid, of_test, valid_word};
 use crate::mask::Mask;
-use crate::part::ColumnPart;
 use crate::word::Word;
 use arrays::{Bools, Cells, Layout};
 use bitmap::Bits;
@@ -76,7 +76,7 @@ fn flag_tests<'a>(cells: &Bools<'a>, comparison: Comparison, other: bool) -> Fla
     }
 }
 
-impl<'a> Slots for FlagTests<'a> {
+impl<'a> SlotTruths for FlagTests<'a> {
     ghost use Rattle.std.specs.Prelude.{false, get_or, if◌then◌else◌};
     ghost use Rattle.arrays.specs.Validity.{is_valid};
     ghost use Rattle.kernels.specs.Ranges.{where_known};

@@ -7,10 +7,10 @@ ghost use Rattle.kernels.specs.Nulls.{TellsNulls, null_truth};
 ghost use Rattle.kernels.specs.Parts.{IsPart, said_of};
 ghost use Rattle.kernels.specs.Ranges.{validity_count};
 
-use crate::kernel::{Kernel, Slots, mask_by};
+use crate::column_part::ColumnPart;
+use crate::kernel::{Kernel, SlotTruths, mask_by};
 use crate::longs::{is_valid, of_test, valid_word};
 use crate::mask::Mask;
-use crate::part::ColumnPart;
 use crate::word::Word;
 use arrays::{Cells, Layout};
 use bitmap::Bits;
@@ -72,7 +72,7 @@ fn null_slots<'a>(validity: &'a Option<Bits>, count: usize) -> NullSlots<'a>
     NullSlots { validity, count }
 }
 
-impl<'a> Slots for NullSlots<'a> {
+impl<'a> SlotTruths for NullSlots<'a> {
     ghost use Rattle.kernels.specs.Nulls.{null_truth};
 
     ghost count = { λ s. s.count };

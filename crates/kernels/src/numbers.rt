@@ -18,11 +18,11 @@ ghost use Rattle.kernels.specs.Parts.{IsPart, said_of};
 ghost use Rattle.kernels.specs.Ranges.{validity_count};
 ghost use Rattle.kernels.specs.Ranging.{TestsBy};
 
+use crate::column_part::ColumnPart;
 use crate::longs::longs_in;
 use crate::mask::Mask;
-use crate::part::ColumnPart;
 use crate::range::Range;
-use crate::within::{Packed, cells_in};
+use crate::range_membership::{PackedNumbers, cells_in};
 use arrays::{Cells, Decimals, Integers, Layout};
 use arrow_schema::IntegerType;
 use scan_base::Comparison;
@@ -126,7 +126,7 @@ fn integers_in(
 }
 
 // The packed numbers of slots of integers.
-fn packed_integers<'a>(cells: &Integers<'a>) -> Packed<'a>
+fn packed_integers<'a>(cells: &Integers<'a>) -> PackedNumbers<'a>
     ensures values { result.values.now ≡ (cells.now).values }
     ensures validity { result.validity.now ≡ (cells.now).validity }
     ensures count { result.count ≡ (cells.now).len }
@@ -135,7 +135,7 @@ fn packed_integers<'a>(cells: &Integers<'a>) -> Packed<'a>
     ensures bytes { AreBytes result.values.now }
 {
     let count = cells.len();
-    Packed {
+    PackedNumbers {
         values: cells.values(),
         validity: cells.validity(),
         count,
@@ -143,7 +143,7 @@ fn packed_integers<'a>(cells: &Integers<'a>) -> Packed<'a>
 }
 
 // The packed numbers of so many slots of decimals.
-fn packed_decimals<'a>(cells: &Decimals<'a>, count: usize) -> Packed<'a>
+fn packed_decimals<'a>(cells: &Decimals<'a>, count: usize) -> PackedNumbers<'a>
     requires stands { AreDecimals cells.now }
     requires count { count ≡ (cells.now).len }
     ensures values { result.values.now ≡ (cells.now).values }
@@ -152,7 +152,7 @@ fn packed_decimals<'a>(cells: &Decimals<'a>, count: usize) -> Packed<'a>
     ensures room { 16 * result.count ≤ length result.values.now }
     ensures long { validity_count result.validity.now result.count ≡ result.count }
 {
-    Packed {
+    PackedNumbers {
         values: cells.values(),
         validity: cells.validity(),
         count,

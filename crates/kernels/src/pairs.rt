@@ -12,11 +12,11 @@ ghost use Rattle.kernels.specs.Pairs.{HasNumbers};
 ghost use Rattle.kernels.specs.Parts.{IsPart};
 ghost use Rattle.kernels.specs.Words.{bit, HasTruths};
 
+use crate::column_part::ColumnPart;
 use crate::flag_pairs::{compared_bits, flag_word};
-use crate::kernel::{Kernel, Slots, slot_by_slot};
+use crate::kernel::{Kernel, SlotTruths, slot_by_slot};
 use crate::longs::valid_word;
 use crate::pack::pack;
-use crate::part::ColumnPart;
 use crate::word::Word;
 use arrays::{Cells, Column, Element, Integers, Layout};
 use arrow_schema::IntegerType;
@@ -36,7 +36,7 @@ pub(crate) struct Pairs<'a> {
     ghost rights: { count ≤ right.now.len },
 }
 
-impl<'a> Slots for Pairs<'a> {
+impl<'a> SlotTruths for Pairs<'a> {
     ghost use Rattle.scan_base.specs.Comparison.{compared};
     ghost use Rattle.arrays.specs.Column.{slot_of};
 

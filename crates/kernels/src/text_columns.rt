@@ -8,7 +8,7 @@ ghost use Rattle.arrays.specs.declared.layout.Layout.TheVariants.{Indices as Ind
 ghost use Rattle.kernels.specs.Ranges.{validity_count};
 ghost use Rattle.kernels.specs.TextPairs.{indices_into, value_of_code};
 
-use crate::among::Packed;
+use crate::code_membership::PackedIntegers;
 use crate::dictionaries::packed_indices;
 use crate::longs::is_valid;
 use crate::row_values::RowValues;
@@ -59,7 +59,7 @@ impl<'a> RowValues for PlainTexts<'a> {
 pub(crate) struct CodedTexts<'a> {
     pub(crate) column: &'a Column,
     pub(crate) dictionary: &'a Dictionary,
-    indices: Packed<'a>,
+    indices: PackedIntegers<'a>,
     first: usize,
     ghost layout: { column.now.layout ≡ IndicesLayout (indices_into dictionary.now indices) },
     ghost begins: { first ≡ column.now.first },

@@ -17,11 +17,11 @@ ghost use Rattle.kernels.specs.Tests.{tests};
 ghost use Rattle.kernels.specs.TextTests.{AreCut, cut_at, is_far, is_text_at};
 ghost use Rattle.kernels.specs.Words.{bit};
 
-use crate::kernel::{Kernel, Slots, mask_by};
+use crate::column_part::ColumnPart;
+use crate::kernel::{Kernel, SlotTruths, mask_by};
 use crate::longs::{is_valid, of_test, valid_word};
 use crate::mask::Mask;
 use crate::needle::Needle;
-use crate::part::ColumnPart;
 use crate::word::Word;
 use arrays::{Cells, Element, Layout, TextsRef};
 use bitmap::Bits;
@@ -107,7 +107,7 @@ fn equal_texts<'a>(cells: &TextsRef<'a>, count: usize, text: &'a str) -> EqualTe
     }
 }
 
-impl<'a> Slots for EqualTexts<'a> {
+impl<'a> SlotTruths for EqualTexts<'a> {
     ghost use Rattle.arrays.specs.Validity.{is_valid};
     ghost use Rattle.kernels.specs.Ranges.{where_known};
     ghost use Rattle.kernels.specs.TextTests.{is_text_at};

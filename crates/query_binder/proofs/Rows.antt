@@ -31,10 +31,10 @@ use Rattle.scan_base.specs.declared.put_options.IfExists.{IfExists}
 use Rattle.scan_base.specs.declared.put_options.IfExists.TheVariants as present
 use Rattle.scan_base.specs.declared.put_options.IfNotExist.TheVariants as absent
 use Rattle.table_versions.specs.Table.{Name, Row}
-use Rattle.table_versions.specs.Database.{Database, Put, version}
+use Rattle.table_versions.specs.Database.{Database, Put, version_after}
 use Rattle.typed_plan.specs.Meaning.{meaning}
 use Rattle.typed_plan.proofs.Whole.{whole_meaning}
-use Rattle.query_binder.specs.Bound.{rules_fault, fault_of}
+use Rattle.query_binder.specs.NameRules.{rules_fault, fault_of}
 use Rattle.query_binder.specs.ResultSchema.{result_schema}
 
 abbrev named : Name → ColumnName
@@ -234,10 +234,10 @@ log =
     ∷ put present.Append a_column ((int 6 ∷ []) ∷ (int 7 ∷ []) ∷ [])
     ∷ put present.Replace (field (codes "b") Utf8 ∷ []) [] ∷ []
 
-second_endpoint : meaning (from_t select.All) (version log 1) 2 5 ≡ (int 3 ∷ []) ∷ (int 4 ∷ []) ∷ (int 5 ∷ []) ∷ []
+second_endpoint : meaning (from_t select.All) (version_after log 1) 2 5 ≡ (int 3 ∷ []) ∷ (int 4 ∷ []) ∷ (int 5 ∷ []) ∷ []
 second_endpoint = refl
 
-first_endpoint : meaning (from_t select.All) (version log 1) 0 2 ≡ (int 1 ∷ []) ∷ (int 2 ∷ []) ∷ []
+first_endpoint : meaning (from_t select.All) (version_after log 1) 0 2 ≡ (int 1 ∷ []) ∷ (int 2 ∷ []) ∷ []
 first_endpoint = refl
 
 -- no fault, and each of them

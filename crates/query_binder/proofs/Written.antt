@@ -27,16 +27,16 @@ use Rattle.sql_query.specs.declared.query.Select.{Select}
 use Rattle.sql_query.specs.declared.query.Select.TheVariants as select
 use Rattle.sql_query.specs.declared.query.SelectItem.{SelectItem}
 use Rattle.sql_query.specs.Sentence.{Sentence, place_name}
-use Rattle.table_versions.specs.Stored.{TableAt}
+use Rattle.table_versions.specs.StoredTables.{TableAt}
 use Rattle.table_versions.specs.Table.{Name}
-use Rattle.query_binder.specs.Bound.{expression_fault, select_fault, width_fault}
+use Rattle.query_binder.specs.NameRules.{expression_fault, select_fault, width_fault}
 use Rattle.typed_plan.specs.Faults.{must, found, first_in, fault_in}
-use Rattle.query_binder.specs.Listed.{CanBeWritten}
-use Rattle.query_binder.specs.Named.{IsNameIfThere, HasNames}
-use Rattle.query_binder.specs.Over.{columns_over}
+use Rattle.query_binder.specs.SelectList.{CanBeWritten}
+use Rattle.query_binder.specs.Aliases.{IsNameIfThere, HasNames}
+use Rattle.query_binder.specs.PlaceTables.{columns_over}
 use Rattle.query_binder.specs.ResultSchema.{field_at, aggregate_name, expression_field, item_field, list_fields, numbered_fields, select_fields}
 use Rattle.typed_plan.specs.Scope.{Scope, ScopeColumn, columns_in, column_of, numbered}
-use Rattle.typed_plan.specs.Typed.{types_of}
+use Rattle.typed_plan.specs.TypedPlans.{types_of}
 use Rattle.query_binder.proofs.ScopeTypes.{numbered_within, scope_types, type_in}
 use Rattle.query_binder.proofs.PlannedOutput.{all_types}
 use Rattle.typed_plan.proofs.TypedNames.{then_none}

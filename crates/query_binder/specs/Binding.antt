@@ -2,12 +2,12 @@
 use Rattle.std.specs.Prelude.{◌≡◌, ℕ, None}
 use Rattle.sql_query.specs.Sentence.{Sentence}
 use Rattle.table_versions.specs.Database.{Database}
-use Rattle.query_binder.specs.Bound.{fault_of}
+use Rattle.query_binder.specs.NameRules.{fault_of}
 use Rattle.typed_plan.specs.Meaning.{meaning}
 use Rattle.query_binder.specs.ResultSchema.{result_schema}
 use Rattle.typed_plan.specs.Plan.{PlanAt, plan_rows}
-use Rattle.query_binder.specs.Planned.{plan_for}
-use Rattle.typed_plan.specs.Typed.{IsOver, IsTyped}
+use Rattle.query_binder.specs.PlannedTree.{plan_for}
+use Rattle.typed_plan.specs.TypedPlans.{IsOver, IsTyped}
 
 -- the plan gives the rows that the query means, on each range of the first place
 abbrev pub Means : PlanAt → Sentence → Database → Type 0

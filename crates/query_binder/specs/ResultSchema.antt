@@ -17,7 +17,7 @@ use Rattle.sql_query.specs.Sentence.{Sentence}
 use Rattle.table_versions.specs.Table.{Name}
 use Rattle.table_versions.specs.Database.{Database}
 use Rattle.typed_plan.specs.Scope.{Scope, ScopeColumn, numbered}
-use Rattle.typed_plan.specs.Joined.{scope_of}
+use Rattle.typed_plan.specs.JoinedRows.{scope_of}
 
 -- the result's column of this number, counted from 0, for a column of the scope; a query with a
 -- name that means none is refused before

@@ -4,7 +4,7 @@
 mod answer;
 pub mod binding;
 mod chain;
-mod grouped;
+mod group_by;
 mod joining;
 mod places;
 mod predicate;

@@ -4,8 +4,8 @@ ghost use Rattle.std.specs.Prelude.{◌≡◌, ◌≤◌, ◌<◌, ◌∷◌, []
 ghost use Rattle.arrow_schema.specs.declared.data_type.DataType.TheVariants.{Integer};
 ghost use Rattle.arrow_schema.specs.declared.data_type.IntegerType.TheVariants.{Int64};
 ghost use Rattle.arrays.specs.Batch.{BatchAt};
-ghost use Rattle.arrays.specs.Typed.{AreOf};
-ghost use Rattle.grouping.specs.Fed.{AreTyped, HasItems};
+ghost use Rattle.arrays.specs.TypedLayouts.{AreOf};
+ghost use Rattle.grouping.specs.FedRows.{AreTyped, HasItems};
 
 use crate::rows::push_rows;
 use array_select::{Selection, column_of_int64s};
@@ -16,7 +16,7 @@ use hash_seed::HashSeed;
 use scan_base::Fault;
 use std::alloc::{AllocError, Global};
 use typed_plan::Aggregate;
-use work_watch::Unwatched;
+use work_watch::NoWatch;
 
 static TYPES: [DataType; 2] = [
     DataType::Integer(IntegerType::Int64),
@@ -149,7 +149,7 @@ fn merged_of(alloc: Global, seed: HashSeed, shape: Grouping<'_>) -> Result<Optio
 {
     let mut groups = groups_of(alloc, seed, shape, 0)?;
     let others = groups_of(alloc, seed, shape, 1)?;
-    groups.merge(alloc, others, &mut Unwatched)?;
+    groups.merge(alloc, others, &mut NoWatch)?;
     let mut answers = groups.finish(alloc)?;
     Ok(answers.next(alloc, shape.batches)?)
 }

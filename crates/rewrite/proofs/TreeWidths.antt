@@ -5,13 +5,13 @@ use Rattle.std.proofs.lemmas.List.{length-map, length-append}
 use Rattle.std.proofs.lemmas.List.FromFn.{length-range_with_len}
 use Rattle.arrow_schema.specs.declared.schema.Schema.{Schema}
 use Rattle.rewrite.specs.Places.{tree_width}
-use Rattle.rewrite.specs.Pruned.{numbers_of}
+use Rattle.rewrite.specs.PrunedColumns.{numbers_of}
 use Rattle.table_versions.specs.Table.{Name}
 use Rattle.typed_plan.specs.declared.plan.Columns.{Columns}
 use Rattle.typed_plan.specs.declared.plan.Columns.TheVariants.{All, These}
 use Rattle.typed_plan.specs.declared.plan.JoinKey.{JoinKey}
 use Rattle.typed_plan.specs.Plan.{Tree, scan, joined}
-use Rattle.typed_plan.specs.Typed.{tree_types, type_at, types_of}
+use Rattle.typed_plan.specs.TypedPlans.{tree_types, type_at, types_of}
 
 pub all_width : (table : Name) (schema : Schema) → tree_width (scan table schema All) ≡ length schema.fields
 all_width table schema = length-map schema.fields (λ field. field.data_type)

@@ -12,10 +12,10 @@ use Rattle.typed_plan.proofs.ClassFollows.{predicate_follows}
 use Rattle.typed_plan.specs.declared.class.Class.{Class}
 use Rattle.typed_plan.specs.declared.plan.Output.{Output}
 use Rattle.typed_plan.specs.Faults.{fault_in, operand_class, items_fault, predicate_fault}
-use Rattle.typed_plan.specs.Numbered.{predicate_map}
+use Rattle.typed_plan.specs.NumberedPredicates.{predicate_map}
 use Rattle.arrow_schema.specs.Answer.{answered_from}
 use Rattle.typed_plan.specs.Plan.{Tree, PlanAt}
-use Rattle.typed_plan.specs.Typed.{class_if_there, class_of_number, tree_types, is_place, IsTypedTree, IsTyped, HasOutput, output_types}
+use Rattle.typed_plan.specs.TypedPlans.{class_if_there, class_of_number, tree_types, is_place, IsTypedTree, IsTyped, HasOutput, output_types}
 
 -- ---- predicates whose columns have the same classes
 

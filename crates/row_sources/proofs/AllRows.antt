@@ -5,12 +5,12 @@ use Rattle.std.proofs.lemmas.Grind.{flat_map-append}
 use Rattle.std.proofs.lemmas.List.{map-append, length-map}
 use Rattle.std.proofs.lemmas.List.Elements.{All-push}
 use Rattle.arrays.specs.Batch.{BatchAt, rows_of}
-use Rattle.arrays.specs.Typed.{AreOf}
+use Rattle.arrays.specs.TypedLayouts.{AreOf}
 use Rattle.arrow_schema.specs.declared.data_type.DataType.{DataType}
 use Rattle.table_versions.specs.Table.{Row}
 use Rattle.table_versions.proofs.Rowing.{length-rows_of}
 use Rattle.row_sources.specs.declared.piece.Piece.{Piece}
-use Rattle.row_sources.specs.Collected.{plain_rows, IsBatchOf, AreCollected}
+use Rattle.row_sources.specs.CollectedRows.{plain_rows, IsBatchOf, AreCollected}
 use Rattle.row_sources.specs.Running.{RowsAt, GoesOn, FindsPiece, Ends}
 
 pub numbers_off : (number : ℕ) (rows : List Row) → plain_rows (map (λ row. (number, row)) rows) ≡ rows

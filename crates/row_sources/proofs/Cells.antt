@@ -12,7 +12,7 @@ use Rattle.scan_base.specs.declared.value.Value.TheVariants.{Null}
 use Rattle.scan_base.specs.Predicate.{cell_in}
 use Rattle.table_versions.specs.Table.{Row}
 use Rattle.shared_pages.proofs.Lists.{all_at}
-use Rattle.batch_skipping.specs.Chosen.{are_within, listed, columns_at}
+use Rattle.batch_skipping.specs.ChosenColumns.{are_within, listed, columns_at}
 
 -- the cell of a row that is made number by number
 pub cell-map : {X : Type 0} (f : X → Value) (xs : List X) (i : ℕ) (d : X) → i < length xs →

@@ -8,16 +8,16 @@ use Rattle.std.proofs.lemmas.List.FromFn.{length-range_with_len}
 use Rattle.std.proofs.lemmas.Simd.{map-map}
 use Rattle.arrays.specs.Batch.{BatchAt, rows_of}
 use Rattle.table_versions.specs.Standing.{rows_before}
-use Rattle.table_versions.specs.Stored.{TableAt, table_of}
+use Rattle.table_versions.specs.StoredTables.{TableAt, table_of}
 use Rattle.table_versions.specs.Table.{Row}
 use Rattle.table_versions.proofs.Rowing.{length-rows_of, rows-cons}
-use Rattle.typed_plan.specs.Joined.{rows_between}
+use Rattle.typed_plan.specs.JoinedRows.{rows_between}
 use Rattle.batch_skipping.specs.Narrow.{BeginsInFirst}
-use Rattle.batch_skipping.specs.Opened.{has_row_in, batches_in}
+use Rattle.batch_skipping.specs.OpenedBatches.{has_row_in, batches_in}
 use Rattle.row_sources.specs.declared.cursor.Cursor.{Cursor}
 use Rattle.row_sources.specs.Parts.{parts, numbered_parts, numbered_rows}
 use Rattle.row_sources.specs.Parting.{ComeInOrder, of_number, part_of}
-use Rattle.row_sources.specs.Placed.{begin_in, end_in, IsPlaced, Begins, rows_ahead}
+use Rattle.row_sources.specs.PlaceCursor.{begin_in, end_in, IsPlaced, Begins, rows_ahead}
 use Rattle.row_sources.specs.Running.{RowsAt}
 use Rattle.row_sources.proofs.ByNumber.{counted, counted_all, counted_at, with_number}
 use Rattle.row_sources.proofs.Narrowing.{there_at}

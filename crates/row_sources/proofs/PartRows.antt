@@ -4,10 +4,10 @@ use Rattle.std.specs.List.{flat_map, last_or}
 use Rattle.std.proofs.lemmas.Bool.{cases_Bool}
 use Rattle.join_batches.specs.Joiner.{JoinerAt, joined_with}
 use Rattle.table_versions.specs.Table.{Row}
-use Rattle.row_sources.specs.Joined.{IsJoined, joined_at, numbered_joined}
+use Rattle.row_sources.specs.JoinedRows.{IsJoined, joined_at, numbered_joined}
 use Rattle.row_sources.specs.Parting.{ComeInOrder, of_number, part_of}
 use Rattle.row_sources.specs.Picking.{PickAt, given_numbered, holds}
-use Rattle.row_sources.specs.Picked.{given}
+use Rattle.row_sources.specs.PickedRows.{given}
 use Rattle.row_sources.specs.Running.{RowsAt, picked_of}
 use Rattle.row_sources.proofs.ByNumber.{each_number, each_order, each_renamed, of_each}
 

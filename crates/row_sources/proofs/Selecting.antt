@@ -10,11 +10,11 @@ use Rattle.arrays.specs.Batch.{BatchAt, AreLong, rows_of, row_of}
 use Rattle.arrays.specs.Column.{ColumnAt, slot_of, cut}
 use Rattle.arrays.specs.Layout.{layout_slot}
 use Rattle.array_select.specs.Selection.{AreRising}
-use Rattle.arrays.specs.Typed.{AreOf}
+use Rattle.arrays.specs.TypedLayouts.{AreOf}
 use Rattle.scan_base.specs.declared.value.Value.{Value}
 use Rattle.scan_base.specs.declared.value.Value.TheVariants.{Null}
 use Rattle.table_versions.specs.Table.{Row}
-use Rattle.row_sources.specs.Picked.{HasSlotsAt}
+use Rattle.row_sources.specs.PickedRows.{HasSlotsAt}
 use Rattle.row_sources.proofs.Cells.{range_more}
 
 -- ---- the numbers of a range that pass a test

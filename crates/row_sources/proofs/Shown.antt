@@ -4,15 +4,15 @@ use Rattle.std.proofs.lemmas.Bool.{ltb-true, and_parts}
 use Rattle.std.proofs.lemmas.Option.{slice_get-map}
 use Rattle.arrays.specs.Batch.{row_of}
 use Rattle.arrays.specs.Column.{ColumnAt, slot_of}
-use Rattle.arrays.specs.Typed.{AreOf, AreOfTypes, IsOfType}
+use Rattle.arrays.specs.TypedLayouts.{AreOf, AreOfTypes, IsOfType}
 use Rattle.arrow_schema.specs.declared.schema.Field.{Field}
 use Rattle.arrow_schema.specs.declared.data_type.DataType.{DataType}
 use Rattle.scan_base.specs.declared.value.Value.{Value}
 use Rattle.scan_base.specs.declared.value.Value.TheVariants.{Null}
 use Rattle.scan_base.specs.Predicate.{cell_in}
 use Rattle.table_versions.specs.Table.{Row}
-use Rattle.typed_plan.specs.Typed.{type_at, types_of}
-use Rattle.batch_skipping.specs.Chosen.{are_within, listed, columns_at}
+use Rattle.typed_plan.specs.TypedPlans.{type_at, types_of}
+use Rattle.batch_skipping.specs.ChosenColumns.{are_within, listed, columns_at}
 
 -- an item of a list
 item_at : {X : Type 0} (xs : List X) (i : ℕ) → i < length xs → (x : X) × (slice_get xs i ≡ Some x)

@@ -10,10 +10,10 @@ use Rattle.scan_base.specs.Predicate.{cell_in}
 use Rattle.table_versions.specs.Table.{Row}
 use Rattle.typed_plan.specs.declared.plan.Columns.{Columns}
 use Rattle.typed_plan.specs.declared.plan.Columns.TheVariants as columns
-use Rattle.typed_plan.specs.Typed.{has_columns, type_at, types_taken}
+use Rattle.typed_plan.specs.TypedPlans.{has_columns, type_at, types_taken}
 use Rattle.row_sources.specs.Showing.{shown_of, cells}
-use Rattle.batch_skipping.specs.Chosen.{are_within}
-use Rattle.row_sources.specs.Chosen.{numbers_at}
+use Rattle.batch_skipping.specs.ChosenColumns.{are_within}
+use Rattle.row_sources.specs.ChosenColumns.{numbers_at}
 use Rattle.row_sources.specs.Picking.{PickAt, cells_at, holds}
 use Rattle.row_sources.specs.Running.{RowsAt, picked_of}
 use Rattle.row_sources.proofs.Cells.{cell-map, within_at}

@@ -3,13 +3,13 @@
 ghost use Rattle.std.specs.Prelude.{◌≡◌, ◌≤◌, ◌+◌, ◌^◌, ◌<◌, [], IfOk, OnOk, length};
 ghost use Rattle.array_select.specs.Room.{most_batch_rows};
 ghost use Rattle.row_sources.specs.Picking.{IsPick, chosen_rows, pick_of};
-ghost use Rattle.row_sources.specs.Picked.{Picks};
+ghost use Rattle.row_sources.specs.PickedRows.{Picks};
 
+use crate::batch_slice::BatchSlice;
 use crate::columns::{gather_of, slice_of};
-use crate::part::Part;
 use array_select::{MOST_BATCH_ROWS, Selection};
 use arrays::Batch;
-use kernels::Columns;
+use kernels::PredicateColumns;
 use scan_base::Predicate;
 use std::alloc::{AllocError, Global};
 use work_watch::comparisons_in;
@@ -52,7 +52,7 @@ impl Picker {
     pub fn pick(
         &self,
         alloc: Global,
-        part: &Part<'_>,
+        part: &BatchSlice<'_>,
         selection: &mut Selection,
     ) -> Result<Option<Batch>, AllocError>
         requires pick { IsPick (length part.now.batch.now.columns) (pick_of self.now) }
@@ -101,7 +101,7 @@ impl Picker {
     pub fn select(
         &self,
         alloc: Global,
-        part: &Part<'_>,
+        part: &BatchSlice<'_>,
         selection: &mut Selection,
     ) -> Result<(), AllocError>
         requires pick { IsPick (length part.now.batch.now.columns) (pick_of self.now) }
@@ -111,7 +111,7 @@ impl Picker {
         requires empty { selection.old ≡ [] }
         ensures { OnOk result (selection.new ≡ chosen_rows (pick_of self.now) part.now) }
     {
-        let columns = Columns {
+        let columns = PredicateColumns {
             columns: part.batch.columns(),
             read: self.read.as_slice(),
             count: part.batch.rows(),
@@ -131,7 +131,7 @@ impl Picker {
     pub(crate) fn give(
         &self,
         alloc: Global,
-        part: &Part<'_>,
+        part: &BatchSlice<'_>,
         selection: &Selection,
     ) -> Result<Option<Batch>, AllocError>
         requires pick { IsPick (length part.now.batch.now.columns) (pick_of self.now) }
@@ -152,7 +152,7 @@ impl Picker {
     fn selected(
         &self,
         alloc: Global,
-        part: &Part<'_>,
+        part: &BatchSlice<'_>,
         selection: &Selection,
     ) -> Result<Option<Batch>, AllocError>
         requires pick { IsPick (length part.now.batch.now.columns) (pick_of self.now) }
@@ -170,7 +170,7 @@ impl Picker {
         if to - from > rows.len() {
             return Ok(Some(gather_of(alloc, batch, selection, shown)?));
         }
-        let run = Part { batch, from, to };
+        let run = BatchSlice { batch, from, to };
         Ok(Some(slice_of(alloc, &run, shown)?))
     }
 }

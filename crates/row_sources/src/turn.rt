@@ -38,14 +38,14 @@ pub enum Patience {
 
 /// What a turn works with.
 #[derive(Drop)]
-pub struct Looking {
+pub struct TurnContext {
     /// Where its memory comes from.
     pub alloc: Global,
     /// How many rows it still looks at.
     pub patience: Patience,
 }
 
-impl Looking {
+impl TurnContext {
     // So many rows are looked at together. One counts as often as the filters of a picker compare
     // in it, and fewer than 64 as 64.
     pub(crate) fn spend(&mut self, rows: usize, picker: &Picker)

@@ -15,8 +15,8 @@ use Rattle.arrow_schema.proofs.Answered.{answered_typed, answered_apart}
 use Rattle.arrays.specs.declared.layout.Layout.{Layout}
 use Rattle.arrays.specs.declared.layout.Layout.TheVariants as layout
 use Rattle.arrays.specs.Column.{ColumnAt}
-use Rattle.arrays.specs.Typed.{IsOfType, AreOfTypes}
-use Rattle.dictionary_answers.specs.Dress.{HoldsTexts, IsDressable, AreDressable, IsNumbered, AreNumbered}
+use Rattle.arrays.specs.TypedLayouts.{IsOfType, AreOfTypes}
+use Rattle.dictionary_answers.specs.Dress.{IsTextLayout, IsDressable, AreDressable, IsNumbered, AreNumbered}
 use Rattle.row_stream.specs.Stream.{numbered_from, numbered_schema}
 
 -- one column more
@@ -78,7 +78,7 @@ all_numbered number (field ∷ fields) = (one_numbered number field.data_type, a
 
 -- ---- columns of them
 
-texts_by : (encoding : DictionaryEncoding) (known : Layout) → IsOfType (Dictionary encoding) known → HoldsTexts known
+texts_by : (encoding : DictionaryEncoding) (known : Layout) → IsOfType (Dictionary encoding) known → IsTextLayout known
 texts_by encoding (layout.Indices cells) is = tt
 texts_by encoding (layout.Texts cells) is = absurd is
 texts_by encoding (layout.Integers cells) is = absurd is

@@ -5,7 +5,7 @@ use Rattle.scan_base.specs.declared.fault.Fault.{Fault}
 use Rattle.scan_base.specs.declared.fault.Fault.TheVariants.{Transport}
 use Rattle.arrow_schema.specs.declared.schema.Schema.{Schema}
 use Rattle.arrays.specs.Batch.{BatchAt, rows_of}
-use Rattle.ipc_batch.specs.Said.{Rows, Says}
+use Rattle.ipc_batch.specs.SaidRows.{Rows, Says}
 use Rattle.ipc_stream.specs.declared.message.IpcMessage.{IpcMessage}
 use Rattle.ipc_stream.specs.Stream.{frame, IsMessage}
 use Rattle.grpc_frame.specs.Sending.{Sent as Outgone}

@@ -3,8 +3,8 @@
 ghost use Rattle.std.specs.Prelude.{◌≡◌, ◌∷◌, [], ℕ, List, Option, MatchResult};
 ghost use Rattle.arrow_schema.specs.declared.schema.Schema.{Schema};
 ghost use Rattle.arrow_schema.specs.Schema.{IsSchema};
-ghost use Rattle.arrays.specs.Typed.{AreOfTypes};
-ghost use Rattle.ipc_batch.specs.Said.{Rows};
+ghost use Rattle.arrays.specs.TypedLayouts.{AreOfTypes};
+ghost use Rattle.ipc_batch.specs.SaidRows.{Rows};
 ghost use Rattle.grpc_frame.specs.Ends.{CanFail, FailsByTransport};
 ghost use Rattle.row_stream.specs.Stream.{numbered_schema, BreaksOff, CountsTransport};
 ghost use Rattle.row_stream.specs.Stream.{CountsWrites, IsCause, WritesStream};

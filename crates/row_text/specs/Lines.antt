@@ -2,7 +2,7 @@
 -- lines of names.
 use Rattle.std.specs.Prelude.{ℕ, ◌==◌, List, [], ◌∷◌, ◌++◌, codes, if◌then◌else◌}
 use Rattle.std.specs.List.{flat_map}
-use Rattle.calendar.specs.Shown.{date_shown}
+use Rattle.calendar.specs.DateText.{date_shown}
 use Rattle.scan_base.specs.declared.value.Value.{Value}
 use Rattle.arrow_schema.specs.declared.schema.Field.{Field}
 use Rattle.arrow_schema.specs.declared.schema.Schema.{Schema}

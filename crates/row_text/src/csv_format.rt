@@ -39,16 +39,16 @@ pub fn write_csv<W: Output>(
     ensures fault { FailsByTransport result }
 {
     let fields = schema.fields.as_slice();
-    write_all(alloc, &Records { fields }, fields, batches, output)
+    write_all(alloc, &CsvFormat { fields }, fields, batches, output)
 }
 
 // Records of columns of these fields.
 #[derive(Clone, Copy)]
-struct Records<'a> {
+struct CsvFormat<'a> {
     fields: &'a [Field],
 }
 
-impl<'a> ValueFormat for Records<'a> {
+impl<'a> ValueFormat for CsvFormat<'a> {
     ghost use Rattle.row_text.specs.Records.{csv_notation};
 
     ghost notation = { csv_notation };
@@ -83,7 +83,7 @@ impl<'a> ValueFormat for Records<'a> {
     }
 }
 
-impl<'a> RowFormat for Records<'a> {
+impl<'a> RowFormat for CsvFormat<'a> {
     ghost use Rattle.row_text.specs.Records.{csv_format};
 
     ghost format = { λ records. csv_format records.fields.now };
@@ -147,9 +147,9 @@ fn stands_in_quotes(text: &[u8]) -> bool
 }
 
 // The spelling of a text in quotes, which stand twice in it.
-struct Doubled;
+struct DoubleQuotes;
 
-impl Spelling for Doubled {
+impl Spelling for DoubleQuotes {
     ghost use Rattle.row_text.specs.inside.Quotes.{doubled_byte};
 
     ghost spelled = { doubled_byte };
@@ -171,6 +171,6 @@ fn send_quoted<W: Output>(writer: &mut W, outbox: &mut Outbox, text: &str) -> Re
     ensures fault { FailsByTransport result }
 {
     outbox.send_part(writer, b"\"")?;
-    send_spelled(&Doubled, writer, outbox, text)?;
+    send_spelled(&DoubleQuotes, writer, outbox, text)?;
     outbox.send_part(writer, b"\"")
 }

@@ -7,7 +7,7 @@ ghost use Rattle.grpc_frame.specs.Sending.{Sends};
 ghost use Rattle.row_text.specs.Lines.{lines_of, name_line};
 
 use crate::format::{Cell, RowFormat};
-use crate::text::{Escaped, Spelling, send_spelled};
+use crate::text::{BackslashEscapes, Spelling, send_spelled};
 use crate::value::{TypedValue, ValueFormat, send_value, type_shown};
 use crate::walk::write_all;
 use arrays::Batch;
@@ -67,7 +67,7 @@ fn send_name_line<W: Output>(writer: &mut W, outbox: &mut Outbox, name: &str) ->
     ensures counted { CountsFailure result (W.failures writer.old) (W.failures writer.new) }
     ensures fault { FailsByTransport result }
 {
-    send_spelled(&Escaped, writer, outbox, name)?;
+    send_spelled(&BackslashEscapes, writer, outbox, name)?;
     outbox.send_part(writer, b"\n")
 }
 
@@ -97,7 +97,7 @@ impl<'a> ValueFormat for Lines<'a> {
         text: &str,
     ) -> Result<(), Fault> {
         outbox.send_part(writer, b"'")?;
-        send_spelled(&Quoted, writer, outbox, text)?;
+        send_spelled(&SingleQuotes, writer, outbox, text)?;
         outbox.send_part(writer, b"'")
     }
 
@@ -135,7 +135,7 @@ impl<'a> RowFormat for Lines<'a> {
         _number: usize,
         field: &Field,
     ) -> Result<(), Fault> {
-        send_spelled(&Escaped, writer, outbox, field.name.as_str())
+        send_spelled(&BackslashEscapes, writer, outbox, field.name.as_str())
     }
 
     fn send_cell<W: Output>(
@@ -151,9 +151,9 @@ impl<'a> RowFormat for Lines<'a> {
 }
 
 // The spelling of a text in single quotes, which stand twice in it.
-struct Quoted;
+struct SingleQuotes;
 
-impl Spelling for Quoted {
+impl Spelling for SingleQuotes {
     ghost use Rattle.row_text.specs.Lines.{quoted_byte};
 
     ghost spelled = { quoted_byte };
@@ -161,7 +161,7 @@ impl Spelling for Quoted {
     fn escape(&self, byte: u8) -> Option<&'static [u8]> {
         match byte {
             b'\'' => Some(b"''"),
-            _ => Escaped.escape(byte),
+            _ => BackslashEscapes.escape(byte),
         }
     }
 }

@@ -8,8 +8,8 @@ use Rattle.std.proofs.lemmas.Option.{slice_get-map}
 use Rattle.arrow_schema.specs.declared.data_type.DataType.{DataType}
 use Rattle.arrays.specs.Batch.{BatchAt, row_of, rows_of}
 use Rattle.arrays.specs.Column.{ColumnAt, IsColumn, slot_of}
-use Rattle.arrays.specs.Typed.{AreOf, AreOfTypes, IsOfType}
-use Rattle.batch_skipping.specs.Can.{can}
+use Rattle.arrays.specs.TypedLayouts.{AreOf, AreOfTypes, IsOfType}
+use Rattle.batch_skipping.specs.PredicateTruths.{can}
 use Rattle.batch_skipping.specs.Laws.{IsBatch}
 use Rattle.batch_skipping.proofs.InBatch.{skipped_rows_are_not_kept}
 use Rattle.batch_stats.specs.Columns.{stats_in}
@@ -17,18 +17,18 @@ use Rattle.scan_base.specs.declared.value.Value.{Value}
 use Rattle.scan_base.specs.declared.value.Value.TheVariants.{Null}
 use Rattle.scan_base.specs.Predicate.{Pred, cell_in, names_only}
 use Rattle.scan_base.specs.Truth.{keeps}
-use Rattle.table_versions.specs.Kept.{IsKept, Stands}
-use Rattle.table_versions.specs.Stored.{TableAt, table_of}
+use Rattle.table_versions.specs.KeptTables.{IsKept, Stands}
+use Rattle.table_versions.specs.StoredTables.{TableAt, table_of}
 use Rattle.table_versions.specs.Table.{Row}
 use Rattle.typed_plan.specs.declared.plan.Columns.{Columns}
 use Rattle.typed_plan.specs.declared.plan.Columns.TheVariants as columns
 use Rattle.typed_plan.specs.Plan.{is_true, taken}
-use Rattle.typed_plan.specs.Typed.{has_columns, type_at, types_of}
+use Rattle.typed_plan.specs.TypedPlans.{has_columns, type_at, types_of}
 use Rattle.typed_plan.proofs.Numbered.{truth_of-map}
 use Rattle.rewrite.specs.Conjuncts.{all_true, is_between}
-use Rattle.rewrite.specs.Pushed.{moved}
-use Rattle.batch_skipping.specs.Chosen.{are_within, columns_at, listed}
-use Rattle.batch_skipping.specs.Opened.{batch_can, can_hold, given_columns, given_width}
+use Rattle.rewrite.specs.PushedFilters.{moved}
+use Rattle.batch_skipping.specs.ChosenColumns.{are_within, columns_at, listed}
+use Rattle.batch_skipping.specs.OpenedBatches.{batch_can, can_hold, given_columns, given_width}
 use Rattle.row_sources.proofs.Narrowing.{there_at, one_of}
 use Rattle.scan_exec.proofs.NarrowGiven.{through}
 use Rattle.scan_exec.proofs.NarrowLaw.{Holds}

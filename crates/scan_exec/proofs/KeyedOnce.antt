@@ -12,14 +12,14 @@ use Rattle.table_versions.specs.Table.{Row}
 use Rattle.typed_plan.specs.declared.plan.Aggregate.{Aggregate}
 use Rattle.typed_plan.specs.declared.plan.Aggregate.TheVariants.{Key, CountRows, Count, Sum}
 use Rattle.typed_plan.specs.declared.plan.Output.TheVariants.{Groups}
-use Rattle.typed_plan.specs.Grouped.{Group, same_key, same_value, with_row}
+use Rattle.typed_plan.specs.GroupedRows.{Group, same_key, same_value, with_row}
 use Rattle.typed_plan.specs.Plan.{answered, groups_by}
-use Rattle.typed_plan.specs.Typed.{has_item, item_type, type_at}
-use Rattle.batch_skipping.specs.Chosen.{are_within}
+use Rattle.typed_plan.specs.TypedPlans.{has_item, item_type, type_at}
+use Rattle.batch_skipping.specs.ChosenColumns.{are_within}
 use Rattle.row_sources.specs.Running.{RowsAt}
 use Rattle.row_sources.proofs.Cells.{cell-map, within_at}
 use Rattle.scan_exec.specs.Answering.{answer_for}
-use Rattle.scan_exec.specs.Different.{KeyedBy, column_at, item_by}
+use Rattle.scan_exec.specs.DistinctItems.{KeyedBy, column_at, item_by}
 use Rattle.scan_exec.specs.Giving.{GivingAt}
 
 -- of no key

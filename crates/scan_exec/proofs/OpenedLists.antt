@@ -1,10 +1,10 @@
 -- The lists of places, one by one.
 use Rattle.std.proofs.Common.{◌≡◌, ◌≤◌, ◌<◌, ℕ, zero, suc, ◌+◌, List, [], ◌∷◌, ◌++◌, length, map, drop, get_or, sym, ap, ◌∙◌, subst, arith, append_assoc, append-nil}
 use Rattle.std.proofs.lemmas.List.{drop_all, length-map}
-use Rattle.table_versions.specs.Stored.{TableAt}
-use Rattle.batch_skipping.specs.declared.opened.OpenedList.{OpenedList}
+use Rattle.table_versions.specs.StoredTables.{TableAt}
+use Rattle.batch_skipping.specs.declared.opened_batches.OpenedList.{OpenedList}
 use Rattle.batch_skipping.specs.Narrow.{CanNarrow, narrowed}
-use Rattle.batch_skipping.specs.Opened.{numbered_batches}
+use Rattle.batch_skipping.specs.OpenedBatches.{numbered_batches}
 use Rattle.row_sources.specs.OpenedTables.{CanAll, narrow_all}
 
 abbrev pub numbers_of : List OpenedList → List (List ℕ)

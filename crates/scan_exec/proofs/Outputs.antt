@@ -10,9 +10,9 @@ use Rattle.typed_plan.specs.declared.plan.Aggregate.{Aggregate}
 use Rattle.typed_plan.specs.declared.plan.Aggregate.TheVariants.{Key, CountRows, Count, Sum}
 use Rattle.typed_plan.specs.declared.plan.Output.{Output}
 use Rattle.typed_plan.specs.declared.plan.Output.TheVariants.{Project, Groups}
-use Rattle.typed_plan.specs.Typed.{HasOutput, IsTyped, has_columns, has_item, tree_types, type_at}
+use Rattle.typed_plan.specs.TypedPlans.{HasOutput, IsTyped, has_columns, has_item, tree_types, type_at}
 use Rattle.typed_plan.specs.View.{BoundAt, plan_of, tree_of}
-use Rattle.row_sources.specs.Begun.{IsBegun}
+use Rattle.row_sources.specs.BegunRows.{IsBegun}
 use Rattle.row_sources.specs.Running.{RowsAt}
 use Rattle.row_sources.proofs.Lying.{all_alike}
 use Rattle.scan_exec.proofs.Beginning.{type_copied}

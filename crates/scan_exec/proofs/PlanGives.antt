@@ -5,20 +5,20 @@ use Rattle.std.proofs.lemmas.List.{length-map, map-append}
 use Rattle.std.proofs.lemmas.Simd.{map-map}
 use Rattle.arrays.specs.Batch.{BatchAt, rows_of}
 use Rattle.table_versions.specs.Database.{table_at}
-use Rattle.table_versions.specs.Stored.{TableAt, CatalogAt, tables_of}
+use Rattle.table_versions.specs.StoredTables.{TableAt, CatalogAt, tables_of}
 use Rattle.table_versions.specs.Table.{Row}
 use Rattle.typed_plan.specs.declared.plan.Columns.{Columns}
 use Rattle.typed_plan.specs.declared.plan.Columns.TheVariants.{All, These}
 use Rattle.typed_plan.specs.declared.plan.Output.{Output}
 use Rattle.typed_plan.specs.declared.plan.Output.TheVariants.{Project, Groups}
-use Rattle.typed_plan.specs.Held.{HoldsFrom, tree_schemas, tree_tables}
-use Rattle.typed_plan.specs.Joined.{rows_between}
+use Rattle.typed_plan.specs.HeldTables.{HoldsFrom, tree_schemas, tree_tables}
+use Rattle.typed_plan.specs.JoinedRows.{rows_between}
 use Rattle.typed_plan.specs.Plan.{Tree, plan_rows, output_rows, tree_rows, taken}
-use Rattle.typed_plan.specs.Typed.{IsTyped, is_grouping}
+use Rattle.typed_plan.specs.TypedPlans.{IsTyped, is_grouping}
 use Rattle.typed_plan.specs.View.{BoundAt, plan_of, tree_of}
 use Rattle.typed_plan.proofs.Scans.{some_table}
 use Rattle.rewrite.specs.Places.{rows_over}
-use Rattle.scan_exec.specs.Given.{rows_from, given_of}
+use Rattle.scan_exec.specs.GivenRows.{rows_from, given_of}
 use Rattle.row_sources.specs.Parts.{further_rows, first_batches, parts, numbered_parts}
 use Rattle.scan_exec.proofs.PartsJoin.{parts_join, parts_numbered}
 use Rattle.scan_exec.proofs.TreeGives.{taken-append, over-append, over_none, over_tables}

@@ -10,7 +10,7 @@ use Rattle.arrow_schema.specs.Answer.{copied_type}
 use Rattle.arrow_schema.specs.declared.data_type.DataType.{DataType}
 use Rattle.arrow_schema.specs.declared.data_type.DataType.TheVariants.{Utf8}
 use Rattle.arrays.specs.Batch.{BatchAt, cut_batch, rows_of}
-use Rattle.arrays.specs.Typed.{AreOf}
+use Rattle.arrays.specs.TypedLayouts.{AreOf}
 use Rattle.scan_base.specs.Predicate.{Pred}
 use Rattle.scan_base.specs.View.{pred_of}
 use Rattle.scan_base.specs.declared.value.Value.{Value}
@@ -20,19 +20,19 @@ use Rattle.typed_plan.specs.declared.plan.Aggregate.{Aggregate}
 use Rattle.typed_plan.specs.declared.plan.Aggregate.TheVariants.{Key}
 use Rattle.typed_plan.specs.declared.plan.Output.TheVariants.{Groups}
 use Rattle.typed_plan.specs.Plan.{answered, groups_by}
-use Rattle.typed_plan.specs.Grouped.{Group}
-use Rattle.typed_plan.specs.Typed.{item_type, type_at}
-use Rattle.batch_skipping.specs.Chosen.{are_within}
-use Rattle.row_sources.specs.declared.part.Part.{Part}
+use Rattle.typed_plan.specs.GroupedRows.{Group}
+use Rattle.typed_plan.specs.TypedPlans.{item_type, type_at}
+use Rattle.batch_skipping.specs.ChosenColumns.{are_within}
+use Rattle.row_sources.specs.declared.batch_slice.BatchSlice.{BatchSlice}
 use Rattle.row_sources.specs.declared.picker.Picker.{Picker}
-use Rattle.row_sources.specs.Picked.{Picks, given_of_part}
+use Rattle.row_sources.specs.PickedRows.{Picks, given_of_part}
 use Rattle.row_sources.specs.Picking.{IsPick, cells_at, holds, pick_of}
 use Rattle.row_sources.specs.Running.{RowsAt}
 use Rattle.row_sources.proofs.Cells.{cell-map}
 use Rattle.row_sources.proofs.Giving.{filter-all}
 use Rattle.row_sources.proofs.JoinSteps.{as_many, whole_part}
 use Rattle.scan_exec.specs.Answering.{answer_for}
-use Rattle.scan_exec.specs.Different.{StandFor, item_at}
+use Rattle.scan_exec.specs.DistinctItems.{StandFor, item_at}
 use Rattle.scan_exec.specs.Giving.{GivingAt, GivingOn, GivesBatch, GivesNone, GivesNext, MakesReady}
 use Rattle.scan_exec.specs.ShownGroups.{ShowsAll, with_cells}
 
@@ -85,7 +85,7 @@ module _ (before after : GivingAt) (picker : Picker) (shows : ShowsAll before pi
       types (Err refused) on = on.types
 
   -- what is given of all rows of a batch
-  given_whole : (part : Part) → part.from ≡ 0 → part.to ≡ part.batch.now.rows →
+  given_whole : (part : BatchSlice) → part.from ≡ 0 → part.to ≡ part.batch.now.rows →
       given_of_part (pick_of picker) part ≡ map (cells_at picker.shown.items) (rows_of part.batch.now)
   given_whole part from to =
       ap (map (cells_at picker.shown.items))
@@ -120,7 +120,7 @@ module _ (before after : GivingAt) (picker : Picker) (shows : ShowsAll before pi
   }
 
   -- what is picked of it comes next
-  pub shown_next : (part : Part) (result : Result (Option BatchAt) AllocError) → GivesBatch before part.batch.now after → part.from ≡ 0 → part.to ≡ part.batch.now.rows →
+  pub shown_next : (part : BatchSlice) (result : Result (Option BatchAt) AllocError) → GivesBatch before part.batch.now after → part.from ≡ 0 → part.to ≡ part.batch.now.rows →
       Picks (pick_of picker) part result → GivesNext (with_cells picker.shown.items before) result (with_cells picker.shown.items after)
   shown_next part (Ok (Some made)) gives from to picks =
       batch_shown part.batch.now made gives (picks.rows ∙ given_whole part from to) picks.some (picks.typed before.types gives.typed)

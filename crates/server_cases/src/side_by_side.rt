@@ -3,10 +3,10 @@
 
 ghost use Rattle.std.specs.Prelude.{◌<◌, ◌≡◌};
 
-use crate::breaking::push_stream;
 use crate::clients::STREAM;
+use crate::stopped_queries::push_stream;
 use crate::texts::push_text;
-use client_commands::query::{Querying, query};
+use client_commands::query::{QueryCommand, query};
 use command_ends::Connect;
 use command_line::Format;
 use grpc_frame::{Input, MemoryInput, MemoryOutput};
@@ -27,7 +27,7 @@ pub(crate) const INFO: &[u8] =
 
 // An input of which the reads after so many free ones wait until a counter is above a number, for
 // 10,000 turns at most. It counts that it was closed.
-struct Gated<'a, R> {
+struct GatedInput<'a, R> {
     rt: &'a R,
     input: MemoryInput<'a>,
     closed: &'a AtomicU64,
@@ -36,9 +36,9 @@ struct Gated<'a, R> {
     free: u32,
 }
 
-impl<R> Drop for Gated<'_, R> {
+impl<R> Drop for GatedInput<'_, R> {
     fn drop(self) {
-        let Gated {
+        let GatedInput {
             rt: _,
             input: _,
             closed,
@@ -64,7 +64,7 @@ fn wait_for<R: Clock>(rt: &R, counter: &AtomicU64, above: u64) {
     counter.fetch_add(LATE, Ordering::SeqCst);
 }
 
-impl<R: Clock> Input for Gated<'_, R> {
+impl<R: Clock> Input for GatedInput<'_, R> {
     ghost use Rattle.std.specs.Prelude.{Some, length};
     ghost use Rattle.grpc_frame.specs.Ends.{tape_of};
 
@@ -91,7 +91,7 @@ impl<R: Clock> Input for Gated<'_, R> {
 // is closed. Or, where that is begun ahead, those after the schema of the first stream, which has
 // come with the first 13 pieces, wait until it is made.
 #[derive(Drop)]
-struct Two<'a, R> {
+struct ConnectionPair<'a, R> {
     rt: &'a R,
     alloc: Global,
     first: &'a [u8],
@@ -101,8 +101,8 @@ struct Two<'a, R> {
     ahead: bool,
 }
 
-impl<'a, R: Clock> Connect for Two<'a, R> {
-    type Reader = Gated<'a, R>;
+impl<'a, R: Clock> Connect for ConnectionPair<'a, R> {
+    type Reader = GatedInput<'a, R>;
 
     type Writer = MemoryOutput;
 
@@ -111,7 +111,7 @@ impl<'a, R: Clock> Connect for Two<'a, R> {
     ghost shares = { λ _ _ _. Unit {0} };
 
     fn share(&mut self) -> Self {
-        Two {
+        ConnectionPair {
             rt: self.rt,
             alloc: self.alloc,
             first: self.first,
@@ -122,7 +122,7 @@ impl<'a, R: Clock> Connect for Two<'a, R> {
         }
     }
 
-    fn connect(&mut self, _port: u16) -> io::Result<(Gated<'a, R>, MemoryOutput)> {
+    fn connect(&mut self, _port: u16) -> io::Result<(GatedInput<'a, R>, MemoryOutput)> {
         let place = self.made.fetch_add(1, Ordering::SeqCst);
         let (bytes, free) = match (place, self.ahead) {
             (0, false) => (self.first, 1),
@@ -132,7 +132,7 @@ impl<'a, R: Clock> Connect for Two<'a, R> {
         };
         let counter = if self.ahead { self.made } else { self.closed };
         let input = MemoryInput::new(bytes).in_pieces_of(INFO.len().max(1));
-        let gated = Gated {
+        let gated = GatedInput {
             rt: self.rt,
             input,
             closed: self.closed,
@@ -205,7 +205,7 @@ where
     let second = with_stream(alloc, b"", b"vwxyz")?;
     let closed = AtomicU64::new(0);
     let made = AtomicU64::new(0);
-    let mut network = Two {
+    let mut network = ConnectionPair {
         rt,
         alloc,
         first: &first,
@@ -224,7 +224,7 @@ where
 fn told_query<R>(
     rt: &R,
     alloc: Global,
-    network: &mut Two<'_, R>,
+    network: &mut ConnectionPair<'_, R>,
     format: Format,
 ) -> io::Result<String>
 where
@@ -232,7 +232,7 @@ where
 {
     let mut output = MemoryOutput::new(alloc);
     let mut faults = MemoryOutput::new(alloc);
-    let querying = Querying {
+    let querying = QueryCommand {
         port: 1,
         streams: 3,
         sql: "SELECT s FROM t",

@@ -22,7 +22,7 @@ use Rattle.sql_parse.specs.Clauses.{alias, selection, item, list, place, equal, 
 use Rattle.sql_parse.specs.Clauses.{filter, source, ending, query}
 use Rattle.sql_parse.specs.Tokens.{Mark, same_word, same_symbol}
 use Rattle.sql_parse.proofs.EveryKind.{kinds}
-use Rattle.sql_parse.specs.Within.{members, filter_members, select_items, IsWithinLimits}
+use Rattle.sql_parse.specs.SentenceLimits.{members, filter_members, select_items, IsWithinLimits}
 use Rattle.sql_parse.proofs.Everywhere.{apart}
 use Rattle.sql_parse.proofs.Gathered.{ends_apart, Ending, ends, any_solid, any_ends}
 use Rattle.sql_parse.proofs.Parts.{if_said}

@@ -2,7 +2,7 @@ pub mod Tokens
 pub mod Productions
 pub mod Clauses
 pub mod Notation
-pub mod Factored
+pub mod FactoredGrammar
 pub mod Answers
 pub mod Calls
 pub mod Steps
@@ -10,6 +10,6 @@ pub mod PredicateSteps
 pub mod ClauseSteps
 pub mod QuerySteps
 pub mod Limits
-pub mod Within
+pub mod SentenceLimits
 pub mod Parse
 pub mod Laws

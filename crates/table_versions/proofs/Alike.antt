@@ -14,10 +14,10 @@ use Rattle.arrays.specs.declared.layout.Layout.{Layout}
 use Rattle.arrays.specs.declared.layout.Layout.TheVariants as layout
 use Rattle.arrays.specs.Column.{ColumnAt}
 use Rattle.arrays.specs.Batch.{BatchAt}
-use Rattle.arrays.specs.Typed.{IsOfType, AreOfTypes, IsValueOf}
+use Rattle.arrays.specs.TypedLayouts.{IsOfType, AreOfTypes, IsValueOf}
 use Rattle.scan_base.specs.Value.{is_null, same_flag}
 use Rattle.table_versions.specs.Table.{Row, same_type, same_field, same_fields, same_name, has_bad_null}
-use Rattle.table_versions.specs.Kept.{AreSound}
+use Rattle.table_versions.specs.KeptTables.{AreSound}
 use Rattle.table_versions.specs.Valid.{IsRow}
 
 -- integers of one width, with or without a sign, are of one type

@@ -8,13 +8,13 @@ use Rattle.std.proofs.lemmas.List.Folds.{list_all-append}
 use Rattle.std.proofs.lemmas.Option.{slice_get-map, slice_get_within}
 use Rattle.arrow_schema.specs.declared.schema.Schema.{Schema}
 use Rattle.arrays.specs.Batch.{BatchAt, rows_of}
-use Rattle.arrays.specs.Typed.{AreOfTypes}
+use Rattle.arrays.specs.TypedLayouts.{AreOfTypes}
 use Rattle.scan_base.specs.Limits.{most_rows}
 use Rattle.table_versions.specs.declared.placed_batch.PlacedBatch.{PlacedBatch}
 use Rattle.table_versions.specs.Batches.{placed_table, AreStarts, ArePlaced}
-use Rattle.table_versions.specs.Kept.{AreSound, IsKept, Stands}
+use Rattle.table_versions.specs.KeptTables.{AreSound, IsKept, Stands}
 use Rattle.table_versions.specs.Standing.{rows_before, StandsIn}
-use Rattle.table_versions.specs.Stored.{has_rows}
+use Rattle.table_versions.specs.StoredTables.{has_rows}
 use Rattle.table_versions.proofs.ListTests.{all_push}
 use Rattle.shared_pages.proofs.Lists.{slice_get-append_left, slice_get-append_right}
 use Rattle.table_versions.proofs.Rowing.{rows-push, length-filled-le}

@@ -8,10 +8,10 @@ use Rattle.arrow_schema.specs.declared.data_type.DataType.{DataType}
 use Rattle.arrow_schema.specs.declared.schema.Field.{Field}
 use Rattle.arrays.specs.Batch.{BatchAt, row_of, rows_of}
 use Rattle.arrays.specs.Column.{ColumnAt, IsColumn, slot_of, values_of}
-use Rattle.arrays.specs.Typed.{IsOfType, AreOfTypes, IsValueOf, ValuesAreOfTheirType}
-use Rattle.table_versions.specs.Stored.{PutAt, put_of}
-use Rattle.table_versions.specs.Kept.{Stands}
-use Rattle.table_versions.specs.Kept.{IsStorable}
+use Rattle.arrays.specs.TypedLayouts.{IsOfType, AreOfTypes, IsValueOf, ValuesAreOfTheirType}
+use Rattle.table_versions.specs.StoredTables.{PutAt, put_of}
+use Rattle.table_versions.specs.KeptTables.{Stands}
+use Rattle.table_versions.specs.KeptTables.{IsStorable}
 use Rattle.table_versions.specs.Valid.{HasTypes, IsPut}
 use Rattle.table_versions.proofs.Storable.{AreTyped}
 

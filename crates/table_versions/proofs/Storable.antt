@@ -9,10 +9,10 @@ use Rattle.arrow_schema.specs.declared.schema.Field.{Field}
 use Rattle.arrow_schema.specs.declared.schema.Schema.{Schema}
 use Rattle.arrays.specs.Column.{ColumnAt}
 use Rattle.arrays.specs.Batch.{BatchAt, rows_of}
-use Rattle.arrays.specs.Typed.{AreOfTypes}
+use Rattle.arrays.specs.TypedLayouts.{AreOfTypes}
 use Rattle.table_versions.specs.Table.{Row, has_bad_null, is_long_text}
-use Rattle.table_versions.specs.Stored.{TableAt, has_rows}
-use Rattle.table_versions.specs.Kept.{IsStorable, AreSound, IsKept}
+use Rattle.table_versions.specs.StoredTables.{TableAt, has_rows}
+use Rattle.table_versions.specs.KeptTables.{IsStorable, AreSound, IsKept}
 use Rattle.shared_pages.proofs.Lists.{all_at}
 
 abbrev pub AreTyped : List Field → BatchAt → Type 0

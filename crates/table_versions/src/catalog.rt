@@ -32,8 +32,8 @@ pub struct CatalogVersion {
 impl Model for CatalogVersion {
     ghost use Rattle.std.specs.Prelude.{List, ℕ, map};
     ghost use Rattle.std.specs.Arc.{arc_value};
-    ghost use Rattle.table_versions.specs.Kept.{IsCatalog};
-    ghost use Rattle.table_versions.specs.Stored.{TableAt};
+    ghost use Rattle.table_versions.specs.KeptTables.{IsCatalog};
+    ghost use Rattle.table_versions.specs.StoredTables.{TableAt};
 
     ghost Value = { List (List ℕ × TableAt) };
 

@@ -5,7 +5,7 @@ pub mod catalog;
 mod cells;
 pub mod commit;
 pub mod fields;
-mod growing;
+mod growing_table;
 mod handles;
 pub mod laws;
 pub mod limits;

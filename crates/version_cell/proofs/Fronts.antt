@@ -9,7 +9,7 @@ use Rattle.table_versions.specs.Database.{Put}
 use Rattle.version_log.specs.Log.{Log, added, expired, Begins}
 use Rattle.version_log.specs.Expiry.{IsExpired}
 use Rattle.version_cell.specs.Puts.{IsAnswered}
-use Rattle.version_cell.specs.Signed.{Signed, GoesOn}
+use Rattle.version_cell.specs.SignedEntries.{SignedEntry, GoesOn}
 
 -- each list begins with itself
 pub prefix_self : {A : Type 0} (xs : List A) → IsPrefix xs xs
@@ -41,7 +41,7 @@ pub prefix_length : {A : Type 0} (xs ys : List A) → IsPrefix xs ys → length 
 prefix_length xs ys p = omega (arith, sym (ap length p.1) ∙ length-append xs p.0)
 
 -- of two beginnings of one log, the one that is found no longer begins the other
-pub either_begins : (b : Bool) (xs ys zs : List Signed) (m n : ℕ) → m ≡ length xs → n ≡ length ys → IsPrefix xs zs → IsPrefix ys zs → leb m n ≡ b
+pub either_begins : (b : Bool) (xs ys zs : List SignedEntry) (m n : ℕ) → m ≡ length xs → n ≡ length ys → IsPrefix xs zs → IsPrefix ys zs → leb m n ≡ b
     → MatchBool b (GoesOn xs ys) (GoesOn ys xs)
 either_begins true xs ys zs m n e f p q is = let front = prefix_shorter xs ys zs p q (grind (arith, nat_tests)) in (front.0, sym front.1)
 either_begins false xs ys zs m n e f p q is = let front = prefix_shorter ys xs zs q p (grind (arith, nat_tests)) in (front.0, sym front.1)

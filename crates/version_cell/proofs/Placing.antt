@@ -3,7 +3,7 @@ use Rattle.std.proofs.Common.{◌≡◌, ℕ, ◌+◌, ◌<◌, List, [], ◌∷
 use Rattle.std.specs.List.{enumerate_from}
 use Rattle.std.proofs.lemmas.List.FromFn.{length-enumerate_from}
 use Rattle.version_log.specs.Log.{Log}
-use Rattle.version_cell.specs.Placed.{placed}
+use Rattle.version_cell.specs.PlacedEntries.{placed}
 
 pub numbered-append : {X : Type 0} (place : ℕ) (xs more : List X)
     → enumerate_from place (xs ++ more) ≡ enumerate_from place xs ++ enumerate_from (place + length xs) more

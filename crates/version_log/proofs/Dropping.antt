@@ -4,7 +4,7 @@ use Rattle.std.proofs.lemmas.List.{length-drop, drop-append-le}
 use Rattle.std.proofs.Math.Seq.{drop-append-add}
 use Rattle.scan_base.specs.Limits.{most_commits}
 use Rattle.shared_pages.proofs.Lists.{slice_get-append_right}
-use Rattle.table_versions.specs.Stored.{CatalogAt, VersionAt}
+use Rattle.table_versions.specs.StoredTables.{CatalogAt, VersionAt}
 use Rattle.version_log.specs.Index.{index_at, IsNewest}
 
 pub slice_get-drop : {X : Type 0} (k i : ℕ) (xs : List X) → slice_get (drop k xs) i ≡ slice_get xs (k + i)

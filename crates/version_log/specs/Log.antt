@@ -31,11 +31,11 @@ floor_of (expired version ∷ log) = max version (floor_of log)
 
 -- the newest database of a log
 abbrev pub database_of : Log → Database
-database_of log = puts.database_of (puts_of log)
+database_of log = puts.database_after (puts_of log)
 
 -- the database after the first n puts of a log
 abbrev pub version : Log → ℕ → Database
-version log n = puts.version (puts_of log) n
+version log n = puts.version_after (puts_of log) n
 
 -- each put of a log was accepted by the version before it
 abbrev pub IsLog : Log → Type 0

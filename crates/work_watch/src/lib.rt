@@ -4,5 +4,5 @@
 pub mod watch;
 mod weight;
 
-pub use crate::watch::{Unwatched, Watches, tell};
+pub use crate::watch::{NoWatch, Watches, tell};
 pub use crate::weight::comparisons_in;

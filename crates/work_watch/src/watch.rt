@@ -42,9 +42,9 @@ pub trait Watches {
 
 /// Nobody watches: the work goes on to its end.
 #[derive(Clone, Copy, Drop)]
-pub struct Unwatched;
+pub struct NoWatch;
 
-impl Watches for Unwatched {
+impl Watches for NoWatch {
     ghost ready = { λ _. Unit {0} };
 
     ghost watched = { λ _ _. Unit {0} };

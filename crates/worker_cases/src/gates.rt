@@ -1,6 +1,6 @@
 //! Gates that show that workers are at work at once, and that each morsel passes one.
 
-use crate::collected::answers_of;
+use crate::all_answers::answers_of;
 use crate::numbers::Numbers;
 use scan_workers::{Gate, run};
 use std::alloc::{AllocError, Global};

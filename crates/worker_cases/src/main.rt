@@ -2,13 +2,13 @@
 //! wanted.
 #![tactic(auto)]
 
-mod collected;
+mod all_answers;
 mod gates;
 mod numbers;
-mod stopped;
+mod stopped_reader;
 mod turns;
 mod window;
-mod woken;
+mod woken_workers;
 
 use std::alloc::{AllocError, Global};
 use std::io;
@@ -23,15 +23,15 @@ fn line(alloc: Global, name: &str, came: Result<String, AllocError>) -> Result<S
 
 fn main(rt: HostRuntime) -> io::Result<()> {
     let alloc = rt.alloc();
-    let came = collected::no_morsel(&rt, alloc);
+    let came = all_answers::no_morsel(&rt, alloc);
     println!(rt; "{}", line(alloc, "no_morsel", came)?)?;
-    let came = collected::three_morsels(&rt, alloc);
+    let came = all_answers::three_morsels(&rt, alloc);
     println!(rt; "{}", line(alloc, "three_morsels", came)?)?;
-    let came = collected::many_morsels(&rt, alloc);
+    let came = all_answers::many_morsels(&rt, alloc);
     println!(rt; "{}", line(alloc, "many_morsels", came)?)?;
-    let came = collected::one_growth_is_refused(&rt, alloc);
+    let came = all_answers::one_growth_is_refused(&rt, alloc);
     println!(rt; "{}", line(alloc, "one_growth_is_refused", came)?)?;
-    let came = collected::a_call_is_refused(&rt, alloc);
+    let came = all_answers::a_call_is_refused(&rt, alloc);
     println!(rt; "{}", line(alloc, "a_call_is_refused", came)?)?;
     let came = gates::a_held_worker_holds_no_other(&rt, alloc);
     println!(rt; "{}", line(alloc, "a_held_worker_holds_no_other", came)?)?;
@@ -42,7 +42,7 @@ fn main(rt: HostRuntime) -> io::Result<()> {
         "{}",
         line(alloc, "each_morsel_passes_the_gate_once", came)?
     )?;
-    let came = stopped::stops_at_a_refusal(&rt, alloc);
+    let came = stopped_reader::stops_at_a_refusal(&rt, alloc);
     println!(rt; "{}", line(alloc, "stops_at_a_refusal", came)?)?;
     let came = window::at_most_as_many_as_workers(&rt, alloc);
     println!(rt; "{}", line(alloc, "at_most_as_many_as_workers", came)?)?;
@@ -55,6 +55,6 @@ fn main(rt: HostRuntime) -> io::Result<()> {
     println!(rt; "{}", line(alloc, "answers_come_in_turns", came)?)?;
     let came = turns::workers_stop_between_turns(&rt, alloc);
     println!(rt; "{}", line(alloc, "workers_stop_between_turns", came)?)?;
-    let came = woken::workers_are_woken(&rt, alloc);
+    let came = woken_workers::workers_are_woken(&rt, alloc);
     println!(rt; "{}", line(alloc, "workers_are_woken", came)?)
 }

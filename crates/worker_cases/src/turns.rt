@@ -10,7 +10,7 @@ use std::time::{Clock, Duration};
 
 // The answer to a morsel: its number, and how many turns it still takes.
 #[derive(Drop)]
-struct Made {
+struct MorselTurns {
     number: usize,
     left: usize,
 }
@@ -32,7 +32,7 @@ impl InTurns {
 }
 
 impl Work for InTurns {
-    type Answer = Made;
+    type Answer = MorselTurns;
 
     ghost use Rattle.std.specs.Prelude.{◌≡◌};
 
@@ -51,15 +51,15 @@ impl Work for InTurns {
         true
     }
 
-    fn answer(&self, _alloc: Global, morsel: usize) -> Made {
+    fn answer(&self, _alloc: Global, morsel: usize) -> MorselTurns {
         self.begun.fetch_add(1, Ordering::SeqCst);
-        Made {
+        MorselTurns {
             number: morsel,
             left: 3,
         }
     }
 
-    fn go_on(&self, _alloc: Global, answer: &mut Made) -> bool {
+    fn go_on(&self, _alloc: Global, answer: &mut MorselTurns) -> bool {
         answer.left = answer.left.saturating_sub(1);
         self.endless && answer.number == 0 || answer.left > 0
     }
@@ -73,14 +73,14 @@ struct ByTurns {
 
 impl ByTurns {
     // Counts an answer, if it is that of the next morsel.
-    fn count(&mut self, made: &Made) {
+    fn count(&mut self, made: &MorselTurns) {
         if made.number == self.read {
             self.read = self.read.saturating_add(1);
         }
     }
 }
 
-impl Reads<Made> for ByTurns {
+impl Reads<MorselTurns> for ByTurns {
     type Out = bool;
 
     ghost takes = { λ _ _ _. Unit {0} };
@@ -88,7 +88,7 @@ impl Reads<Made> for ByTurns {
     ghost reads = { λ _ _ _ _ _. Unit {0} };
 
     // Whether it came to the end.
-    fn read<P: Answers<Made>>(&mut self, answers: &mut P) -> bool {
+    fn read<P: Answers<MorselTurns>>(&mut self, answers: &mut P) -> bool {
         for _ in 0..u64::MAX {
             match answers.turn() {
                 NextAnswer::Given(made) => self.count(&made),
@@ -123,7 +123,7 @@ impl<'a, R: Clock> ManyTurns<'a, R> {
     }
 }
 
-impl<'a, R: Clock> Reads<Made> for ManyTurns<'a, R> {
+impl<'a, R: Clock> Reads<MorselTurns> for ManyTurns<'a, R> {
     type Out = bool;
 
     ghost takes = { λ _ _ _. Unit {0} };
@@ -131,7 +131,7 @@ impl<'a, R: Clock> Reads<Made> for ManyTurns<'a, R> {
     ghost reads = { λ _ _ _ _ _. Unit {0} };
 
     // Whether each turn was over before the answer was there.
-    fn read<P: Answers<Made>>(&mut self, answers: &mut P) -> bool {
+    fn read<P: Answers<MorselTurns>>(&mut self, answers: &mut P) -> bool {
         self.wait();
         for _ in 0..TURNS {
             if !matches!(answers.turn(), NextAnswer::Going) {

@@ -43,7 +43,7 @@ impl Counts {
 
 // What is counted of morsels that are chosen, and of answers that are made.
 #[derive(Drop)]
-struct Held {
+struct MorselCounts {
     chosen: Counts,
     made: Counts,
 }
@@ -51,13 +51,13 @@ struct Held {
 // 200 morsels. Each is counted as it is chosen, and as it is made: at once, or later where it is
 // chosen first.
 #[derive(Drop)]
-struct Counted<'a> {
-    held: &'a Held,
+struct CountedWork<'a> {
+    held: &'a MorselCounts,
     chooses_first: bool,
 }
 
 // The answer to a morsel tells whether it is made, and not chosen alone.
-impl<'a> Work for Counted<'a> {
+impl<'a> Work for CountedWork<'a> {
     type Answer = bool;
 
     ghost ready = { λ _. Unit {0} };
@@ -94,11 +94,11 @@ impl<'a> Work for Counted<'a> {
 // It takes its time over each answer, so that others go ahead. One that was chosen alone it makes
 // itself.
 #[derive(Drop)]
-struct Slow<'a> {
-    held: &'a Held,
+struct SlowWork<'a> {
+    held: &'a MorselCounts,
 }
 
-impl<'a> Reads<bool> for Slow<'a> {
+impl<'a> Reads<bool> for SlowWork<'a> {
     type Out = ();
 
     ghost takes = { λ _ _ _. Unit {0} };
@@ -118,7 +118,7 @@ impl<'a> Reads<bool> for Slow<'a> {
 
 // So many answers are made at once at most, and so many morsels chosen.
 #[derive(Drop)]
-struct Most {
+struct MostCounts {
     chosen: u64,
     made: u64,
 }
@@ -129,18 +129,18 @@ fn most_of<R: Threads + Wait + Sync>(
     alloc: Global,
     workers: usize,
     chooses_first: bool,
-) -> Result<Most, AllocError> {
-    let held = Held {
+) -> Result<MostCounts, AllocError> {
+    let held = MorselCounts {
         chosen: Counts::new(),
         made: Counts::new(),
     };
-    let mut reader = Slow { held: &held };
-    let work = Counted {
+    let mut reader = SlowWork { held: &held };
+    let work = CountedWork {
         held: &held,
         chooses_first,
     };
     in_order(rt, alloc, &work, workers, &NoGate, &mut reader)?;
-    Ok(Most {
+    Ok(MostCounts {
         chosen: held.chosen.most.load(Ordering::SeqCst),
         made: held.made.most.load(Ordering::SeqCst),
     })

@@ -3,7 +3,7 @@
 use Rattle.std.specs.Prelude.{◌≡◌, ◌⊎◌, ◌≤◌, ℕ, ◌+◌, List, [], ◌∷◌, ◌++◌, map, length, Some, None}
 use Rattle.std.specs.Prelude.{Result, Ok, Err}
 use Rattle.flight_proto.specs.FlightInfo.{EndpointSaid}
-use Rattle.flight_proto.specs.Wanted.{Wanted}
+use Rattle.flight_proto.specs.InfoCommand.{InfoCommand}
 use Rattle.flight_info.specs.Payloads.{Payload}
 use Rattle.flight_client.specs.Stream.{StreamAt}
 use Rattle.client_calls.specs.declared.failure.Failure.{Failure}
@@ -13,24 +13,26 @@ use Rattle.command_ends.specs.Network.{Ends}
 use Rattle.command_ends.specs.Printing.{Said, Prints, cause_lines}
 use Rattle.command_ends.specs.declared.exit_status.ExitStatus.{ExitStatus}
 use Rattle.command_ends.specs.declared.exit_status.ExitStatus.TheVariants.{FaultAtThisEnd}
-use Rattle.client_commands.specs.declared.apart.Refused.{Refused}
-use Rattle.client_commands.specs.declared.lost.Lost.{Lost}
-use Rattle.client_commands.specs.declared.lost.Lost.TheVariants.{Failed, Unconnected}
+use Rattle.client_commands.specs.declared.part_fetch.RefusedHandle.{RefusedHandle}
+use Rattle.client_commands.specs.declared.fetch_failure.FetchFailure.{FetchFailure}
+use Rattle.client_commands.specs.declared.fetch_failure.FetchFailure.TheVariants.{Failed}
+use Rattle.client_commands.specs.declared.fetch_failure.FetchFailure.TheVariants.{Unconnected}
 use Rattle.client_commands.specs.Fetching.{FetchesEach}
 use Rattle.client_commands.specs.InTurn.{BreaksUnconnected, IsWrittenWhole, RunsCame, StopsInTurn}
 use Rattle.client_commands.specs.InTurn.{Streams, StreamsUnconnected}
 use Rattle.client_commands.specs.Lines.{opened_line}
 use Rattle.client_commands.specs.Queries.{TellsEnd}
-use Rattle.client_commands.specs.Spread.{EachGives, GivesAtLast, Giving, IsEvenPart, RefusesTwice}
+use Rattle.client_commands.specs.ParallelFetch.{EachGives, GivesAtLast, Giving, IsEvenPart}
+use Rattle.client_commands.specs.ParallelFetch.{RefusesTwice}
 use Rattle.client_commands.specs.Streaming.{WritesBroken}
-use Rattle.client_commands.specs.inside.Runs.{IsOpen, Opens, PassingAt, StopsInRun}
+use Rattle.client_commands.specs.inside.Runs.{IsOpen, Opens, RelayAt, StopsInRun}
 
 -- ---- the next connection
 
 -- a handle gave a connection, over which a stream was begun, seen by `view`, or failed; or it gave
 -- none
 abbrev pub Ahead : {N V : Type 0} → Giving N → (V → FetchAt) → Payload → N →
-    Result (Result V Failure) (Refused N) → Type 0
+    Result (Result V Failure) (RefusedHandle N) → Type 0
 Ahead {N} Gives view ticket handle (Ok begun) =
     (ends : Ends) × ((new : N) × Gives handle (Some ends) new)
     × BeginsFetch view ticket begun (opened_line ends)
@@ -38,7 +40,7 @@ Ahead Gives view ticket handle (Err refused) = Gives handle None refused.handle
 
 -- the same, where a handle that gave none was asked once more
 abbrev pub BeginsAtLast : {N V : Type 0} → Giving N → (V → FetchAt) → Payload → N →
-    Result V Lost → Type 0
+    Result V FetchFailure → Type 0
 BeginsAtLast Gives view ticket handle (Ok fetching) =
     (ends : Ends) × GivesAtLast Gives handle ends
     × BeginsFetch view ticket (Ok fetching) (opened_line ends)
@@ -49,8 +51,8 @@ BeginsAtLast Gives view ticket handle (Err (Unconnected error)) = RefusesTwice G
 
 -- after these streams the stream of an endpoint is begun over a connection of a handle, or not, and
 -- what is written breaks off
-abbrev pub TakesOver : {N V : Type 0} → Giving N → (V → PassingAt) → EndpointSaid → N →
-    List StreamAt → Said → Result V Lost → Said → Type 0
+abbrev pub TakesOver : {N V : Type 0} → Giving N → (V → RelayAt) → EndpointSaid → N →
+    List StreamAt → Said → Result V FetchFailure → Said → Type 0
 TakesOver Gives view endpoint handle streams begun (Ok passing) out =
     (ends : Ends) × GivesAtLast Gives handle ends
     × Opens view (Ok passing) streams endpoint (opened_line ends) begun out
@@ -63,17 +65,17 @@ TakesOver Gives view endpoint handle streams begun (Err (Unconnected error)) out
 -- ---- a run, and the next one
 
 -- a run came whole over a connection after these streams, and the next one was taken over, or not
-pub record PassesThen {N V : Type 0} (Gives : Giving N) (view : V → PassingAt) (next : EndpointSaid)
+pub record PassesThen {N V : Type 0} (Gives : Giving N) (view : V → RelayAt) (next : EndpointSaid)
     (handle : N) (before : List StreamAt) (run : List EndpointSaid) (line : Line) (begun : Said)
-    (result : Result V Lost) (out : Said) : Type 0 where
+    (result : Result V FetchFailure) (out : Said) : Type 0 where
   pub streams : List StreamAt
   pub last : Line
   pub fetched : FetchesEach run streams line last
   pub takes : TakesOver Gives view next handle (before ++ streams) begun result out
 
 -- it did, or it stopped within the run
-abbrev pub Relays : {N V : Type 0} → Giving N → (V → PassingAt) → EndpointSaid → N → List StreamAt →
-    List EndpointSaid → Line → Said → Result V Lost → Said → Type 0
+abbrev pub Relays : {N V : Type 0} → Giving N → (V → RelayAt) → EndpointSaid → N → List StreamAt →
+    List EndpointSaid → Line → Said → Result V FetchFailure → Said → Type 0
 Relays Gives view next handle before run line begun result out =
     ((failure : Failure) × (result ≡ Err (Failed failure))
     × StopsInRun before run failure line begun out)
@@ -82,7 +84,7 @@ Relays Gives view next handle before run line begun result out =
 -- the runs of all but the last of these connections came whole. Over the last one the first stream
 -- of its run is open; these are the run's other endpoints, and those of the runs after it
 pub record IsTurn (many : ℕ) (lines : List Line) (endpoints others behind : List EndpointSaid)
-    (begun : Said) (now : PassingAt) (out : Said) : Type 0 where
+    (begun : Said) (now : RelayAt) (out : Said) : Type 0 where
   pub before : List Line
   pub line : Line
   pub over : before ++ line ∷ [] ≡ lines
@@ -102,7 +104,7 @@ pub record IsLeft (whole many rest others : ℕ) : Type 0 where
 -- the same over the first connection and those of handles, of which these are left
 pub record IsTurnBy {N : Type 0} (Gives : Giving N) (first : Line) (handles left : List N)
     (endpoints others behind : List EndpointSaid)
-    (begun : Said) (now : PassingAt) (out : Said) : Type 0 where
+    (begun : Said) (now : RelayAt) (out : Said) : Type 0 where
   pub done : List N
   pub all : done ++ left ≡ handles
   pub made : List Ends
@@ -115,7 +117,7 @@ pub record IsTurnBy {N : Type 0} (Gives : Giving N) (first : Line) (handles left
 
 -- all runs were passed on, and the stream was ended; or not, and why
 abbrev pub PassesRuns : {N : Type 0} → Giving N → Line → List N → List EndpointSaid →
-    Result (Unit {0}) Lost → Said → Said → Type 0
+    Result (Unit {0}) FetchFailure → Said → Said → Type 0
 PassesRuns Gives first handles endpoints (Ok done) out out' =
     IsWrittenWhole Gives first handles endpoints out out'
 PassesRuns Gives first handles endpoints (Err (Failed failure)) out out' =
@@ -124,8 +126,8 @@ PassesRuns Gives first handles endpoints (Err (Unconnected error)) out out' =
     BreaksUnconnected Gives first handles endpoints out out'
 
 -- the rows of a query are written as they come, or not, and why
-abbrev pub StreamsOrNot : {N : Type 0} → Giving N → (N → N → N → Type 0) → ℕ → Wanted → N → N →
-    Result (Unit {0}) Lost → Line → Line → Said → Said → Type 0
+abbrev pub StreamsOrNot : {N : Type 0} → Giving N → (N → N → N → Type 0) → ℕ → InfoCommand → N → N →
+    Result (Unit {0}) FetchFailure → Line → Line → Said → Said → Type 0
 StreamsOrNot Gives Shares streams wanted old new (Ok done) first last out out' =
     Streams Gives Shares streams wanted old new (Ok done) first last out out'
 StreamsOrNot Gives Shares streams wanted old new (Err (Failed failure)) first last out out' =
@@ -134,7 +136,7 @@ StreamsOrNot Gives Shares streams wanted old new (Err (Unconnected error)) first
     StreamsUnconnected Gives Shares streams wanted old new first last out out'
 
 -- nothing is said where all was written; and else the failure, or that there was no connection
-abbrev pub TellsStreamed : Result (Unit {0}) Lost → ExitStatus → Said → Said → Type 0
+abbrev pub TellsStreamed : Result (Unit {0}) FetchFailure → ExitStatus → Said → Said → Type 0
 TellsStreamed (Ok done) status old new = TellsEnd (Ok done) status old new
 TellsStreamed (Err (Failed failure)) status old new = TellsEnd (Err failure) status old new
 TellsStreamed (Err (Unconnected error)) status old new =

@@ -16,17 +16,17 @@ use Rattle.client_calls.specs.Taking.{FetchAt, IsBegun}
 use Rattle.command_ends.specs.Printing.{Said}
 use Rattle.client_commands.specs.Fetching.{FetchesEach}
 use Rattle.client_commands.specs.Streaming.{ComeSome, SaysFirst, Stops, rows_held}
-use Rattle.client_commands.specs.inside.Passing.{Breaks, FitsSchema, HasOther}
+use Rattle.client_commands.specs.inside.StreamRelay.{Breaks, FitsSchema, HasOther}
 
 -- ---- a stream after others
 
 -- a stream that is begun, and who writes its rows
-pub record PassingAt : Type 0 where
+pub record RelayAt : Type 0 where
   pub fetch : FetchAt
   pub writer : WriterAt
 
 -- a connection whose streams were passed on, and who writes
-pub record PassedAt : Type 0 where
+pub record RunStateAt : Type 0 where
   pub line : Line
   pub writer : WriterAt
 
@@ -52,7 +52,7 @@ Follows streams schema own =
 -- after these streams one is begun over a connection, and may be written; the rows before it were
 -- sent, and none of its own
 pub record IsOpen (before : List StreamAt) (ticket : Payload) (line : Line) (begun : Said)
-    (now : PassingAt) (out : Said) : Type 0 where
+    (now : RelayAt) (out : Said) : Type 0 where
   pub begins : IsBegun ticket (now.fetch).state line (now.fetch).line
   pub schema : Schema
   pub follows : Follows before schema (begins.known).schema
@@ -64,7 +64,7 @@ pub record IsOpen (before : List StreamAt) (ticket : Payload) (line : Line) (beg
 -- after these streams those of these endpoints came whole over a connection; all join, and their
 -- rows were sent
 pub record HavePassed (before : List StreamAt) (endpoints : List EndpointSaid) (line : Line)
-    (begun : Said) (now : PassedAt) (out : Said) : Type 0 where
+    (begun : Said) (now : RunStateAt) (out : Said) : Type 0 where
   pub streams : List StreamAt
   pub fetched : FetchesEach endpoints streams line now.line
   pub sent : AreSent (before ++ streams) begun now.writer out
@@ -80,7 +80,7 @@ pub record StopsInRun (before : List StreamAt) (endpoints : List EndpointSaid) (
 
 -- a stream that is begun has the columns that are written; or it has others (F11), and what is
 -- written breaks off
-abbrev pub Fits : {A : Type 0} → (A → PassingAt) → Result A Failure → FetchAt → WriterAt → Said →
+abbrev pub Fits : {A : Type 0} → (A → RelayAt) → Result A Failure → FetchAt → WriterAt → Said →
     Said → Type 0
 Fits view (Ok passing) fetch writer out out' =
     (view passing ≡ record { fetch = fetch; writer = writer })
@@ -90,7 +90,7 @@ Fits view (Err failure) fetch writer out out' =
 
 -- the stream of one more endpoint is begun after these, or it stopped there, whatever endpoints
 -- come after that
-abbrev pub Opens : {A : Type 0} → (A → PassingAt) → Result A Failure → List StreamAt →
+abbrev pub Opens : {A : Type 0} → (A → RelayAt) → Result A Failure → List StreamAt →
     EndpointSaid → Line → Said → Said → Type 0
 Opens view (Ok passing) before endpoint line begun out =
     IsOpen before endpoint.ticket line begun (view passing) out
@@ -99,7 +99,7 @@ Opens view (Err failure) before endpoint line begun out =
 
 -- after these streams, and those of the first endpoints, the stream of one more was passed on; or
 -- it stopped there
-abbrev pub Passes : {A : Type 0} → (A → PassedAt) → Result A Failure → List StreamAt →
+abbrev pub Passes : {A : Type 0} → (A → RunStateAt) → Result A Failure → List StreamAt →
     List EndpointSaid → EndpointSaid → Line → Said → Said → Type 0
 Passes view (Ok passed) before front endpoint line begun out =
     HavePassed before (front ++ endpoint ∷ []) line begun (view passed) out
@@ -121,7 +121,7 @@ RunPasses view (Err failure) before run line begun out =
 
 -- whatever came before a stream that is open, it is passed on, and those of these endpoints after
 -- it
-abbrev pub PassesRun : {A : Type 0} → (A → WriterAt) → Result A Failure → PassingAt →
+abbrev pub PassesRun : {A : Type 0} → (A → WriterAt) → Result A Failure → RelayAt →
     List EndpointSaid → Said → Said → Type 0
 PassesRun view result passing others out out' =
     (before : List StreamAt) (endpoint : EndpointSaid) (line : Line) (begun : Said)

@@ -2,10 +2,10 @@
 
 ghost use Rattle.std.specs.Prelude.{◌≡◌, ◌<◌, All, IfOk};
 ghost use Rattle.arrow_schema.specs.declared.data_type.DataType.{DataType};
-ghost use Rattle.arrays.specs.Typed.{IsOfType};
+ghost use Rattle.arrays.specs.TypedLayouts.{IsOfType};
 ghost use Rattle.array_select.specs.OfSlots.{IsSlotOf};
 
-use crate::columns::case::Case;
+use crate::columns::case::ColumnCase;
 use crate::columns::layouts::layout;
 use crate::pieces::first_word;
 use anyhow::{Result, bail};
@@ -31,7 +31,7 @@ pub fn column_of_turns(alloc: Global, words: &str) -> Result<Column> {
         count: count.parse::<u32>()?,
         step: step.parse::<u32>()?,
     };
-    let case = Case::read(row)?;
+    let case = ColumnCase::read(row)?;
     let whole = Column::new(layout(alloc, &case)?);
     if case.from > case.to || case.to > whole.len() {
         bail!("slots that are not there");

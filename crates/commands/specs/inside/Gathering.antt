@@ -12,10 +12,10 @@ use Rattle.flight_core.specs.Seats.{Seat, seat_of}
 use Rattle.shared_calls.specs.Sharing.{onward, seat_at}
 use Rattle.connection_turns.specs.Drawers.{DrawerAt, drawer_at}
 use Rattle.command_ends.specs.Network.{Accepting, Ends}
-use Rattle.command_ends.specs.Printing.{AnnouncedAt}
-use Rattle.commands.specs.declared.crew.Hired as declared
+use Rattle.command_ends.specs.Printing.{PortLineAt}
+use Rattle.commands.specs.declared.crew.CrewMember as declared
 use Rattle.commands.specs.Port.{IsFresh, Sharing, SharesEach}
-use Rattle.commands.specs.Shown.{IsNewSeat}
+use Rattle.commands.specs.ShownSeat.{IsNewSeat}
 use Rattle.commands.specs.Serve.{Pays, Work, Worker, ServesUpTo, drawn_by, first_fault, made_by}
 use Rattle.commands.specs.Serve.{made_by_each, worker_of}
 
@@ -26,7 +26,7 @@ seat_in None = seat_of [] 0
 
 -- a worker as the code has it
 abbrev pub HiredWorker : Type 0 → Type 0
-HiredWorker L = declared.Hired L cell.Seat DrawerAt
+HiredWorker L = declared.CrewMember L cell.Seat DrawerAt
 
 abbrev pub state_of : {L : Type 0} → HiredWorker L → Worker L
 state_of hired = worker_of hired.listener (seat_in hired.scanner)
@@ -57,7 +57,7 @@ pub record IsAtRest {L : Type 0} (at_rest : L → Type 0) (port_of : L → ℕ)
 pub record MayServe {L : Type 0} (at_rest : L → Type 0) (port_of : L → ℕ)
     (rests known : L → RestAt → Type 0) (due : L → ℕ → Option (List ℕ) → Type 0)
     (owed : RestAt → Ends → Ends → RestAt → Type 0) (options : Options)
-    (announced : AnnouncedAt) (book : Book) (name : TableId) (hired : HiredWorker L) : Type 0 where
+    (announced : PortLineAt) (book : Book) (name : TableId) (hired : HiredWorker L) : Type 0 where
   pub new : IsNew name hired
   pub fresh : seat_in hired.scanner ≡ seat_of [] 0
   pub free : at_rest hired.listener
@@ -86,7 +86,7 @@ IsWithin history hired = Begins (seat_in hired.scanner).log history
 
 -- those after the ones that are left are done with: their seats are taken in, and the hub has all
 -- that they drew
-pub record Gathered {L : Type 0} (all left : List (HiredWorker L)) (seats : cell.GatheredAt)
+pub record Gathered {L : Type 0} (all left : List (HiredWorker L)) (seats : cell.GatheredSeatsAt)
     (result : Result (Unit {0}) Fault) (name : TableId) (hub : DrawerAt) : Type 0 where
   pub done : List (HiredWorker L)
   pub whole : all ≡ left ++ done

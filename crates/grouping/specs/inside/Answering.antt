@@ -4,7 +4,7 @@ use Rattle.scan_base.specs.declared.value.Value.{Value}
 use Rattle.scan_base.specs.Predicate.{cell_in}
 use Rattle.arrays.specs.Batch.{BatchAt}
 use Rattle.group_slots.specs.declared.tally.Tally.{Tally}
-use Rattle.grouping.specs.Answers.{row_in}
+use Rattle.grouping.specs.Answers.{placed_row}
 use Rattle.grouping.specs.declared.key.Place.{Place}
 
 -- a count, as a number of a column
@@ -17,4 +17,4 @@ sum_or_none tally = if tally.count == 0 then None else Some tally.sum
 
 -- the cell of a first row
 abbrev pub first_cell : List BatchAt → ℕ → Place → Value
-first_cell batches column first = cell_in (row_in batches first) column
+first_cell batches column first = cell_in (placed_row batches first) column

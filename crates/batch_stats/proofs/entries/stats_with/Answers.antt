@@ -4,7 +4,7 @@ use Rattle.arrays.specs.Column.{slot_of, values_of}
 use Rattle.arrays.specs.Layout.{layout_slot}
 use Rattle.arrays.specs.Number.{byte_width, element_at}
 use Rattle.arrays.specs.Validity.{is_valid}
-use Rattle.batch_stats.specs.Held.{ends_held}
+use Rattle.batch_stats.specs.HeldStats.{ends_held}
 use Rattle.batch_stats.specs.Stats.{ends_of, with_value}
 use Rattle.batch_stats.specs.inside.Slots.{ends_with}
 use Rattle.batch_stats.proofs.Coded.{begun, coded, known_more, known_still, looked, own_stands, passed, passed_null}

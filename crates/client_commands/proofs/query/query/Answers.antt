@@ -1,12 +1,12 @@
 use Rattle.std.proofs.Common.{ℕ, List, Option, Some, None, Result, Ok, Err, inl, inr, refl}
-use Rattle.flight_proto.specs.Wanted.{Wanted, rows_of}
+use Rattle.flight_proto.specs.InfoCommand.{InfoCommand, rows_of}
 use Rattle.table_versions.specs.Table.{Table}
 use Rattle.command_ends.specs.Printing.{cause_lines, said_of}
 use Rattle.command_ends.specs.declared.exit_status.ExitStatus.{ExitStatus}
 use Rattle.client_calls.specs.Outcome.{Line}
 use Rattle.command_ends.specs.Network.{Ends}
-use Rattle.client_commands.specs.declared.lost.Lost.{Lost}
-use Rattle.client_commands.specs.declared.lost.Lost.TheVariants.{Failed, Unconnected}
+use Rattle.client_commands.specs.declared.fetch_failure.FetchFailure.{FetchFailure}
+use Rattle.client_commands.specs.declared.fetch_failure.FetchFailure.TheVariants.{Failed, Unconnected}
 use Rattle.client_commands.specs.Commands.{Desk, EndsBy, desk_of}
 use Rattle.client_commands.specs.Handles.{Giving}
 use Rattle.client_commands.specs.Lines.{opened_line}
@@ -16,13 +16,13 @@ use Rattle.client_commands.specs.inside.Relaying.{StreamsOrNot, TellsStreamed}
 use Rattle.client_commands.proofs.query.query.Goals as goal
 
 -- the network gave no connection, whatever is told of rows
-unconnected : {N : Type 0} (Gives : Giving N) (Shares : N → N → N → Type 0) (streams : ℕ) (wanted : Wanted) (text : Option (Table → List ℕ)) (before behind : N) (status : ExitStatus) (old new : Desk)
+unconnected : {N : Type 0} (Gives : Giving N) (Shares : N → N → N → Type 0) (streams : ℕ) (wanted : InfoCommand) (text : Option (Table → List ℕ)) (before behind : N) (status : ExitStatus) (old new : Desk)
     → Gives before None behind → ((cause : List ℕ) × EndsBy (cause_lines cause) status old new) → TellsWanted Gives Shares streams wanted text before behind status old new
 unconnected Gives Shares streams wanted (Some text) before behind status old new none ends = (behind, inl (inl (none, ends)))
 unconnected Gives Shares streams wanted None before behind status old new none ends = inl (none, ends)
 
 -- it gave the first one, and what was written is told
-told : {N : Type 0} (Gives : Giving N) (Shares : N → N → N → Type 0) (streams : ℕ) (wanted : Wanted) (before middle behind : N) (ends : Ends) (last : Line) (result : Result (Unit {0}) Lost) (status : ExitStatus) (old new : Desk)
+told : {N : Type 0} (Gives : Giving N) (Shares : N → N → N → Type 0) (streams : ℕ) (wanted : InfoCommand) (before middle behind : N) (ends : Ends) (last : Line) (result : Result (Unit {0}) FetchFailure) (status : ExitStatus) (old new : Desk)
     → Gives before (Some ends) middle → StreamsOrNot Gives Shares streams wanted middle behind result (opened_line ends) last old.out new.out → TellsStreamed result status old.faults new.faults
     → TellsWanted Gives Shares streams wanted None before behind status old new
 told Gives Shares streams wanted before middle behind ends last (Ok done) status old new given written tells =

@@ -7,8 +7,8 @@ use Rattle.scan_base.specs.declared.fault.Fault.TheVariants.{OutOfMemory}
 use Rattle.arrow_schema.specs.declared.data_type.DataType.{DataType}
 use Rattle.arrow_schema.specs.declared.schema.Field.{Field}
 use Rattle.arrow_schema.specs.Schema.{IsField, IsName}
-use Rattle.arrow_schema.specs.Written.{encoding_of}
-use Rattle.csv_columns.specs.Found.{column_of, column_seen, name_of}
+use Rattle.arrow_schema.specs.WrittenHeader.{encoding_of}
+use Rattle.csv_columns.specs.FittingColumns.{column_of, column_seen, name_of}
 use Rattle.csv_columns.proofs.Each.{each_more}
 use Rattle.csv_columns.proofs.columns.fields_in.Goals as goal
 

@@ -3,9 +3,9 @@ use Rattle.scan_base.specs.declared.value.Value.{Value}
 use Rattle.scan_base.specs.declared.value.Value.TheVariants.{Null}
 use Rattle.arrays.specs.Column.{slot_of, values_of}
 use Rattle.dictionary_answers.specs.Firsts.{bytes_in, firsts, firsts_behind}
-use Rattle.dictionary_answers.specs.Coded.{coded_at}
+use Rattle.dictionary_answers.specs.CodedTexts.{coded_texts_at}
 use Rattle.dictionary_answers.specs.inside.Coding.{Finds, room_of}
-use Rattle.dictionary_answers.specs.inside.Packed.{numbers_in}
+use Rattle.dictionary_answers.specs.inside.PackedPlaces.{numbers_in}
 use Rattle.dictionary_answers.specs.inside.Table.{IsTable}
 use Rattle.dictionary_answers.proofs.Indexed.{index_led, room_for, slot_within}
 use Rattle.dictionary_answers.proofs.Slots.{coded_on, few_texts, none_fit}
@@ -25,7 +25,7 @@ place_of_index-requires-clause-few g c =
     let found = c.loop-place.found in
     omega (
       arith,
-      few_texts (slot_of c.args.block.now.of.now.column.now) c.loop-place.place (room_of found) (coded_at found (take c.loop-place.place (numbers_in c.loop-place.packed))) c.loop-place.invariant.coded,
+      few_texts (slot_of c.args.block.now.of.now.column.now) c.loop-place.place (room_of found) (coded_texts_at found (take c.loop-place.place (numbers_in c.loop-place.packed))) c.loop-place.invariant.coded,
       c.loop-place-test.true,
       c.requires.block.within,
       c.requires.small,
@@ -55,7 +55,7 @@ returns-in_err-number-clause-full g c =
     c.values-values.ensures c.dictionary-dictionary.ensures c.first-first.ensures c.len-slots.ensures.stands c.len-count.ensures.stands c.requires.block.valid low c.index_at-index.ensures in
     let step : bytes_in found.texts + found.left < bytes_in (firsts_behind found.texts (get_or c.dictionary-dictionary.result.now c.index_at-index.result Null ∷ [])) → room_of c.args.found.now < bytes_in (firsts (values_of column)) =
     λ full. subst (λ (room : ℕ). room < bytes_in (firsts (values_of column))) c.loop-place.invariant.room
-    (none_fit (slot_of column) place column.len (room_of found) (coded_at found (take place (numbers_in c.loop-place.packed))) c.loop-place.invariant.coded low
+    (none_fit (slot_of column) place column.len (room_of found) (coded_texts_at found (take place (numbers_in c.loop-place.packed))) c.loop-place.invariant.coded low
     (subst (λ (v : Value). bytes_in found.texts + found.left < bytes_in (firsts_behind found.texts (v ∷ []))) led.1 full)) in
     search (rules, step)
 

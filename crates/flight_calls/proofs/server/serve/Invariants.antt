@@ -1,6 +1,6 @@
 use Rattle.std.proofs.Common.{◌≡◌, []}
 use Rattle.grpc_frame.specs.Arrivals.{work_left}
-use Rattle.flight_calls.specs.Owed.{connection_of}
+use Rattle.flight_calls.specs.OwedAnswers.{connection_of}
 use Rattle.flight_calls.proofs.Serving.{Progress}
 use Rattle.flight_calls.proofs.server.serve.Given as goal
 

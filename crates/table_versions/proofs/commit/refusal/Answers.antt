@@ -2,7 +2,7 @@ use Rattle.std.proofs.Common.{◌≡◌, ◌∙◌, length, rules, sym, ap}
 use Rattle.std.specs.Option.{option_copied}
 use Rattle.scan_base.specs.Reading.{first_fault}
 use Rattle.table_versions.specs.Database.{table_at, faults_at}
-use Rattle.table_versions.specs.Stored.{CatalogAt, plain, put_of}
+use Rattle.table_versions.specs.StoredTables.{CatalogAt, plain, put_of}
 use Rattle.table_versions.proofs.Stores.{faults}
 use Rattle.table_versions.proofs.commit.refusal.Goals as goal
 

@@ -2,7 +2,7 @@ use Rattle.std.proofs.Common.{ℕ, List, [], Option, Bor, map, length, sym, ap, 
 use Rattle.std.proofs.lemmas.List.{length-map}
 use Rattle.std.proofs.lemmas.List.FromFn.{length-map-range_with_len}
 use Rattle.arrays.specs.Column.{slot_of, values_of}
-use Rattle.dictionary_answers.specs.Coded.{held}
+use Rattle.dictionary_answers.specs.CodedTexts.{held}
 use Rattle.dictionary_answers.specs.Firsts.{AreLed}
 use Rattle.dictionary_answers.proofs.Places.{few_behind}
 use Rattle.column_cases.proofs.columns.coding.coded_alone.Goals as goal

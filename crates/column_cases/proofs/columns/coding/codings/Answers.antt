@@ -9,7 +9,7 @@ use Rattle.arrays.specs.declared.layout.Layout.TheVariants as layout
 use Rattle.arrays.specs.Column.{ColumnAt, IsColumn, values_of}
 use Rattle.arrays.specs.Indices.{IndicesAt}
 use Rattle.arrays.specs.Texts.{TextsAt}
-use Rattle.arrays.specs.Typed.{IsOfType, IsValueOf, ValuesAreOfTheirType}
+use Rattle.arrays.specs.TypedLayouts.{IsOfType, IsValueOf, ValuesAreOfTheirType}
 use Rattle.column_cases.proofs.columns.coding.codings.Goals as goal
 
 text_if : (value : Value) → IsValueOf Utf8 value → IsTextOrNull value
