@@ -54,8 +54,8 @@ greatest n [] = n
 greatest n (m ∷ ms) = greatest (max n m) ms
 
 -- the values of a column, by its number
-abbrev pub column_values : List (List Value) → ℕ → List Value
-column_values rows number = map (λ row. get_or row number Null) rows
+abbrev pub values_of_column : List (List Value) → ℕ → List Value
+values_of_column rows number = map (λ row. get_or row number Null) rows
 
 -- how wide a column is: as its name or its widest value, whichever is wider
 abbrev pub column_width : Field → List Value → ℕ
@@ -66,7 +66,7 @@ column_width field values =
 abbrev pub widths_from : List Field → ℕ → List (List Value) → List ℕ
 widths_from [] number rows = []
 widths_from (field ∷ fields) number rows =
-    column_width field (column_values rows number) ∷ widths_from fields (number + 1) rows
+    column_width field (values_of_column rows number) ∷ widths_from fields (number + 1) rows
 
 -- ---- cells
 

@@ -8,7 +8,7 @@ ghost use Rattle.scan_base.specs.declared.value.Value.TheVariants.{Int};
 ghost use Rattle.arrow_schema.specs.declared.data_type.DataType.TheVariants.{Date};
 ghost use Rattle.arrays.specs.Batch.{rows_of};
 ghost use Rattle.arrays.specs.Column.{values_of};
-ghost use Rattle.row_text.specs.Tables.{column_values, column_width, greatest, is_escaped};
+ghost use Rattle.row_text.specs.Tables.{values_of_column, column_width, greatest, is_escaped};
 ghost use Rattle.row_text.specs.Tables.{text_width, value_width, widths_from};
 
 use arrays::{Batch, Cells, Column};
@@ -88,7 +88,7 @@ fn widest_of_column(data_type: DataType, column: &Column, start: usize) -> usize
 fn column_width(field: &Field, number: usize, batches: &[Batch]) -> usize
     requires { All (λ batch. number < length batch.columns) batches.now }
     ensures { result
-        ≡ column_width field.now (column_values (flat_map rows_of batches.now) number) }
+        ≡ column_width field.now (values_of_column (flat_map rows_of batches.now) number) }
 {
     let mut widest = text_width(field.name.as_str());
     for batch in batches {
