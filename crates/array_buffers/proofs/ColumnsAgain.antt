@@ -7,11 +7,11 @@ use Rattle.std.proofs.lemmas.Bool.{le-leb}
 use Rattle.std.proofs.lemmas.List.FromFn.{length-map-range_with_len, get_or-map-range_with_len}
 use Rattle.scan_base.specs.declared.value.Value.{Value}
 use Rattle.scan_base.specs.declared.value.Value.TheVariants.{Null, Bool, Int, Text}
-use Rattle.arrow_schema.specs.declared.data_type.DictionaryEncoding.{DictionaryEncoding}
-use Rattle.arrow_schema.specs.declared.data_type.IntegerType.{IntegerType}
-use Rattle.arrow_schema.specs.declared.data_type.IntegerType.TheVariants.{Int32}
-use Rattle.arrow_schema.specs.declared.data_type.DataType.{DataType}
-use Rattle.arrow_schema.specs.declared.data_type.DataType.TheVariants as type
+use Rattle.arrow_types.specs.declared.data_type.DictionaryEncoding.{DictionaryEncoding}
+use Rattle.arrow_types.specs.declared.data_type.IntegerType.{IntegerType}
+use Rattle.arrow_types.specs.declared.data_type.IntegerType.TheVariants.{Int32}
+use Rattle.arrow_types.specs.declared.data_type.DataType.{DataType}
+use Rattle.arrow_types.specs.declared.data_type.DataType.TheVariants as type
 use Rattle.arrays.specs.declared.layout.Layout.{Layout}
 use Rattle.arrays.specs.declared.layout.Layout.TheVariants as layout
 use Rattle.arrays.specs.Number.{byte_width, integer_at, decimal_at, number_from}

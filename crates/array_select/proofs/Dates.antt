@@ -2,8 +2,8 @@
 use Rattle.std.proofs.Common.{ℕ, List, get_or, All}
 use Rattle.scan_base.specs.declared.value.Value.{Value}
 use Rattle.scan_base.specs.declared.value.Value.TheVariants.{Null, Bool, Int, Text}
-use Rattle.arrow_schema.specs.declared.data_type.IntegerType.TheVariants.{Int32}
-use Rattle.arrow_schema.specs.declared.data_type.DataType.TheVariants as type
+use Rattle.arrow_types.specs.declared.data_type.IntegerType.TheVariants.{Int32}
+use Rattle.arrow_types.specs.declared.data_type.DataType.TheVariants as type
 use Rattle.arrays.specs.declared.layout.Layout.{Layout}
 use Rattle.arrays.specs.declared.layout.Layout.TheVariants as layout
 use Rattle.arrays.specs.declared.slots.Values.{Values}

@@ -1,7 +1,7 @@
 -- The values of slots that were gathered at places, whichever of these are valid.
 use Rattle.std.proofs.Common.{◌≡◌, ℕ, ◌+◌, Bool, false, List, length, map, get_or, Option, refl, ap, ◌∙◌, arith}
 use Rattle.std.proofs.lemmas.List.{length-map}
-use Rattle.arrow_schema.specs.declared.data_type.IntegerType.{IntegerType}
+use Rattle.arrow_types.specs.declared.data_type.IntegerType.{IntegerType}
 use Rattle.arrays.specs.declared.slots.Values.TheVariants as kind
 use Rattle.arrays.specs.declared.layout.Layout.TheVariants as layout
 use Rattle.arrays.specs.Number.{byte_width, AreBytes}

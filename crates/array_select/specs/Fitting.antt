@@ -1,7 +1,7 @@
 -- How many values stand in one column of a batch.
 use Rattle.std.specs.Prelude.{◌≤◌, ◌<◌, ◌^◌, ℕ, Bool, true, false, List, length, take}
-use Rattle.arrow_schema.specs.declared.data_type.DataType.{DataType}
-use Rattle.arrow_schema.specs.declared.data_type.DataType.TheVariants.{Utf8, Dictionary}
+use Rattle.arrow_types.specs.declared.data_type.DataType.{DataType}
+use Rattle.arrow_types.specs.declared.data_type.DataType.TheVariants.{Utf8, Dictionary}
 use Rattle.arrays.specs.Written.{texts_joined}
 use Rattle.array_select.specs.Room.{most_column_bytes}
 use Rattle.scan_base.specs.declared.value.Value.{Value}

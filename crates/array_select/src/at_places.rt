@@ -1,7 +1,7 @@
 //! Slots of a column at places, in buffers of their own.
 
 ghost use Rattle.std.specs.Prelude.{◌≡◌, ◌<◌, ◌≤◌, ◌+◌, ◌*◌, ℕ, All, IfOk, get_or, length, map};
-ghost use Rattle.arrow_schema.specs.declared.data_type.DataType.{DataType};
+ghost use Rattle.arrow_types.specs.declared.data_type.DataType.{DataType};
 ghost use Rattle.arrays.specs.declared.layout.Layout.TheVariants as layout;
 ghost use Rattle.arrays.specs.Number.{byte_width};
 ghost use Rattle.arrays.specs.Validity.{IsLong};
@@ -14,7 +14,7 @@ ghost use Rattle.array_select.specs.inside.Gathered.{AreValuesAt, AreGathered};
 use crate::gather_texts::gather_texts;
 use crate::selection::Selection;
 use arrays::{Bools, Cells, Column, Decimals, Indices, Integers, Layout, Slots, Values, are_bytes};
-use arrow_schema::IntegerType;
+use arrow_types::IntegerType;
 use bitmap::Bits;
 use bytes::Bytes;
 use std::alloc::{AllocError, Global};

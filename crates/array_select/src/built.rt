@@ -2,8 +2,8 @@
 
 ghost use Rattle.std.specs.Prelude.{◌≡◌, ◌<◌, ◌^◌, IfOk, length, map};
 ghost use Rattle.scan_base.specs.declared.value.Value.TheVariants as value;
-ghost use Rattle.arrow_schema.specs.declared.data_type.IntegerType.TheVariants as integer;
-ghost use Rattle.arrow_schema.specs.declared.data_type.DataType.TheVariants as type;
+ghost use Rattle.arrow_types.specs.declared.data_type.IntegerType.TheVariants as integer;
+ghost use Rattle.arrow_types.specs.declared.data_type.DataType.TheVariants as type;
 ghost use Rattle.arrays.specs.Column.{values_of};
 ghost use Rattle.arrays.specs.Typed.{IsOfType};
 ghost use Rattle.arrays.specs.Written.{texts_joined};
@@ -11,7 +11,7 @@ ghost use Rattle.array_select.specs.Built.{value_or_null};
 
 use crate::filled::fill_column;
 use arrays::Column;
-use arrow_schema::{DataType, IntegerType};
+use arrow_types::{DataType, IntegerType};
 use std::alloc::{AllocError, Global};
 
 /// A column of Int64 of these values, null where there is none.

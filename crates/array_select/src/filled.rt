@@ -2,9 +2,9 @@
 
 ghost use Rattle.std.specs.Prelude.{◌≡◌, ◌≤◌, ◌<◌, ◌^◌, All, IfOk, length, map};
 ghost use Rattle.scan_base.specs.Value.{value_of};
-ghost use Rattle.arrow_schema.specs.Answer.{copied_type};
-ghost use Rattle.arrow_schema.specs.declared.data_type.DataType.{DataType};
-ghost use Rattle.arrow_schema.specs.declared.data_type.DataType.TheVariants as type;
+ghost use Rattle.arrow_types.specs.Answer.{copied_type};
+ghost use Rattle.arrow_types.specs.declared.data_type.DataType.{DataType};
+ghost use Rattle.arrow_types.specs.declared.data_type.DataType.TheVariants as type;
 ghost use Rattle.arrays.specs.Column.{values_of};
 ghost use Rattle.arrays.specs.Typed.{IsOfType};
 ghost use Rattle.arrays.specs.Written.{texts_joined};
@@ -14,7 +14,7 @@ ghost use Rattle.array_select.specs.inside.Filled.{AreValidUnlessNull, AreNumber
 use crate::filled_texts::fill_texts;
 use crate::source::Source;
 use arrays::{Column, Slots, Values, are_bytes, byte_width, is_null};
-use arrow_schema::{DataType, IntegerType};
+use arrow_types::{DataType, IntegerType};
 use bitmap::{Bits, BitsBuilder};
 use bytes::Bytes;
 use scan_base::ValueRef;

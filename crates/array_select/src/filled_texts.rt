@@ -1,7 +1,7 @@
 //! Columns of texts that are filled slot by slot.
 
 ghost use Rattle.std.specs.Prelude.{◌≡◌, ◌<◌, ◌^◌, All, IfOk, length, map};
-ghost use Rattle.arrow_schema.specs.declared.data_type.DataType.TheVariants.{Utf8};
+ghost use Rattle.arrow_types.specs.declared.data_type.DataType.TheVariants.{Utf8};
 ghost use Rattle.scan_base.specs.Value.{value_of};
 ghost use Rattle.arrays.specs.Written.{text_bytes, offsets_from, texts_joined};
 ghost use Rattle.array_select.specs.inside.Filled.{AreOfType, FillSlots};

@@ -1,7 +1,7 @@
 //! Packed numbers and truth values of several columns at places, in buffers of their own.
 
 ghost use Rattle.std.specs.Prelude.{◌≡◌, ◌≤◌, ◌<◌, ◌+◌, ◌*◌, ℕ, All, IfOk, length, map, true};
-ghost use Rattle.arrow_schema.specs.declared.data_type.DataType.TheVariants as type;
+ghost use Rattle.arrow_types.specs.declared.data_type.DataType.TheVariants as type;
 ghost use Rattle.byteorder.specs.Endian.{little_from};
 ghost use Rattle.arrays.specs.Number.{byte_width, element_at, number_from, signed_from};
 ghost use Rattle.arrays.specs.Column.{IsColumn};
@@ -15,7 +15,7 @@ ghost use Rattle.array_select.specs.inside.GatheredMany.{HaveRoom, HasCellsAt};
 use crate::filled::flag_of;
 use crate::many_places::SlotPlaces;
 use arrays::{Cells, Column, Layout, Values, are_bytes, byte_width};
-use arrow_schema::IntegerType;
+use arrow_types::IntegerType;
 use bitmap::{Bits, BitsBuilder};
 use bytes::Bytes;
 use std::alloc::{AllocError, Global};

@@ -3,7 +3,7 @@
 ghost use Rattle.std.specs.Prelude.{◌≡◌, ◌<◌, ◌^◌, All, IfOk, length, get_or};
 ghost use Rattle.scan_base.specs.Value.{value_of};
 ghost use Rattle.scan_base.specs.declared.value.Value.TheVariants.{Null};
-ghost use Rattle.arrow_schema.specs.declared.data_type.DataType.TheVariants.{Utf8};
+ghost use Rattle.arrow_types.specs.declared.data_type.DataType.TheVariants.{Utf8};
 ghost use Rattle.arrays.specs.Column.{IsColumn};
 ghost use Rattle.arrays.specs.Typed.{IsOfType};
 ghost use Rattle.arrays.specs.Written.{text_bytes, offsets_from, texts_joined};

@@ -2,7 +2,7 @@
 
 ghost use Rattle.std.specs.Prelude.{◌≡◌, ◌<◌, ◌^◌, All, IfOk, false, get_or, length, map, nat_le};
 ghost use Rattle.std.specs.Prelude.{not};
-ghost use Rattle.arrow_schema.specs.Answer.{copied_type};
+ghost use Rattle.arrow_types.specs.Answer.{copied_type};
 ghost use Rattle.scan_base.specs.Value.{is_null};
 ghost use Rattle.scan_base.specs.declared.value.Value.TheVariants.{Null};
 ghost use Rattle.arrays.specs.Column.{slot_of, values_of, IsColumn};
@@ -14,7 +14,7 @@ ghost use Rattle.array_select.specs.inside.Filled.{AreValidUnlessNull, FillSlots
 ghost use Rattle.array_select.specs.inside.GatheredMany.{columns_of, values_at, AreThere};
 
 use arrays::{Cells, Column, Nulls, Slots, Values, is_null};
-use arrow_schema::DataType;
+use arrow_types::DataType;
 use bitmap::{Bits, BitsBuilder};
 use std::alloc::{AllocError, Global};
 

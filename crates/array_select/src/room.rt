@@ -5,7 +5,7 @@ ghost use Rattle.array_select.specs.OfSlots.{slot_value};
 ghost use Rattle.array_select.specs.Fitting.{Fits, NoneFits, has_texts};
 
 use crate::of_slots::{SlotRef, texts_fit};
-use arrow_schema::DataType;
+use arrow_types::DataType;
 use std::alloc::AllocError;
 
 /// As many rows as a batch has that is made of rows.

@@ -4,7 +4,7 @@ ghost use Rattle.std.specs.Prelude.{◌≡◌, ◌≤◌, ◌+◌, ◌*◌, leng
 ghost use Rattle.arrays.specs.Number.{byte_width, integer_at, decimal_at, AreBytes};
 
 use crate::element::Element;
-use arrow_schema::IntegerType;
+use arrow_types::IntegerType;
 
 /// How many bytes a number has.
 pub fn byte_width(integer: IntegerType) -> usize

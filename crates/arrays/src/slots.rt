@@ -23,7 +23,7 @@ use crate::layout::Layout;
 use crate::numbers::{has_decimals, has_elements};
 use crate::texts::{Texts, TextsRef};
 use crate::validity::{is_valid, read_validity, share};
-use arrow_schema::IntegerType;
+use arrow_types::IntegerType;
 use bitmap::Bits;
 use bytes::Bytes;
 use scan_base::{Fault, ValueRef};

@@ -3,18 +3,18 @@ use Rattle.std.specs.Prelude.{◌≡◌, ℕ, Bool, true, false, List, [], ◌�
 use Rattle.std.specs.Prelude.{replicate, Option, Some, None, option_map, Ok}
 use Rattle.flatbuf.specs.Block.{Part, Given, Absent, Number, Offset, little, padded, table_part}
 use Rattle.flatbuf.specs.Block.{text_part, tables_part}
+use Rattle.arrow_types.specs.declared.data_type.IntegerType.{IntegerType}
+use Rattle.arrow_types.specs.declared.data_type.DataType.{DataType}
+use Rattle.arrow_types.specs.declared.data_type.DataType.TheVariants.{Integer, Utf8, Bool as Flags}
+use Rattle.arrow_types.specs.declared.data_type.DataType.TheVariants.{Decimal128, Date, Dictionary}
+use Rattle.arrow_types.specs.declared.data_type.DictionaryEncoding.{DictionaryEncoding}
+use Rattle.arrow_types.specs.declared.schema.Field.{Field}
+use Rattle.arrow_types.specs.declared.schema.Schema.{Schema}
+use Rattle.arrow_types.specs.DataType.{bit_width, is_signed, encoding_of}
+use Rattle.arrow_types.specs.Schema.{IsSchema}
 use Rattle.arrow_schema.specs.declared.header.HeaderKind.TheVariants as header
-use Rattle.arrow_schema.specs.declared.data_type.IntegerType.{IntegerType}
-use Rattle.arrow_schema.specs.declared.data_type.DataType.{DataType}
-use Rattle.arrow_schema.specs.declared.data_type.DataType.TheVariants.{Integer, Utf8, Bool as Flags}
-use Rattle.arrow_schema.specs.declared.data_type.DataType.TheVariants.{Decimal128, Date, Dictionary}
-use Rattle.arrow_schema.specs.declared.data_type.DictionaryEncoding.{DictionaryEncoding}
-use Rattle.arrow_schema.specs.declared.schema.Field.{Field}
-use Rattle.arrow_schema.specs.declared.schema.Schema.{Schema}
-use Rattle.arrow_schema.specs.DataType.{bit_width, is_signed}
 use Rattle.arrow_schema.specs.Message.{message_bytes}
 use Rattle.arrow_schema.specs.Header.{schema_of}
-use Rattle.arrow_schema.specs.Schema.{IsSchema}
 
 -- a truth as a byte
 abbrev pub flag : Bool → ℕ
@@ -49,11 +49,6 @@ type_part (Dictionary encoding) = table_part []
 unfoldable pub dictionary_part : DictionaryEncoding → Part
 dictionary_part encoding =
     table_part (Number encoding.id ∷ Offset (integer_part encoding.index) ∷ [])
-
--- the dictionary of a type, where it has one
-abbrev pub encoding_of : DataType → Option DictionaryEncoding
-encoding_of (Dictionary encoding) = Some encoding
-encoding_of _ = None
 
 -- what a slot is given that may lead to a table
 abbrev pub given_if : Option Part → Given

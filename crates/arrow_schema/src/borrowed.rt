@@ -2,8 +2,7 @@
 
 ghost use Rattle.std.specs.Prelude.{◌≡◌, IfOk};
 
-use crate::data_type::DataType;
-use crate::schema::Field;
+use arrow_types::{DataType, Field};
 use scan_base::{Items, Text};
 use std::alloc::{AllocError, Global};
 use std::marker::Model;
@@ -17,7 +16,7 @@ pub(crate) struct BorrowedField<'a> {
 }
 
 impl<'a> Model for BorrowedField<'a> {
-    ghost use Rattle.arrow_schema.specs.declared.schema.Field.{Field};
+    ghost use Rattle.arrow_types.specs.declared.schema.Field.{Field};
 
     ghost Value = { Field };
 
@@ -28,7 +27,7 @@ impl<'a> Model for BorrowedField<'a> {
 // What an unused place of an `ArrayVec` holds.
 impl Default for BorrowedField<'_> {
     ghost use Rattle.std.specs.Prelude.{◌≡◌, [], false};
-    ghost use Rattle.arrow_schema.specs.declared.data_type.DataType.TheVariants as kinds;
+    ghost use Rattle.arrow_types.specs.declared.data_type.DataType.TheVariants as kinds;
 
     ghost is_default = { λ blank. blank
         ≡ record { name = []; nullable = false; data_type = kinds.Bool } };

@@ -3,16 +3,16 @@
 ghost use Rattle.std.specs.Prelude.{◌≡◌, ◌≤◌, ◌<◌, ◌-◌, ◌%◌, ◌^◌, All, Ok, IfOk};
 ghost use Rattle.std.specs.Prelude.{length, map, option_map};
 ghost use Rattle.flatbuf.specs.Given.{given_of};
+ghost use Rattle.arrow_types.specs.Schema.{IsType, IsField, IsSchema};
+ghost use Rattle.arrow_types.specs.DataType.{encoding_of};
 ghost use Rattle.arrow_schema.specs.Message.{message_bytes};
-ghost use Rattle.arrow_schema.specs.Schema.{IsType, IsField, IsSchema};
 ghost use Rattle.arrow_schema.specs.Header.{schema_of};
 ghost use Rattle.arrow_schema.specs.Written.{type_number, integer_part, type_part, dictionary_part};
-ghost use Rattle.arrow_schema.specs.Written.{encoding_of, given_if, field_part, schema_part};
+ghost use Rattle.arrow_schema.specs.Written.{given_if, field_part, schema_part};
 ghost use Rattle.arrow_schema.specs.Written.{schema_bytes, encapsulated};
 
-use crate::data_type::{DataType, DictionaryEncoding, IntegerType};
 use crate::header::HeaderKind;
-use crate::schema::{Field, Schema};
+use arrow_types::{DataType, DictionaryEncoding, Field, IntegerType, Schema};
 use flatbuf::{Block, Builder, Slot};
 use std::alloc::{AllocError, Global};
 

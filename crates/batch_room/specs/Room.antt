@@ -1,7 +1,7 @@
 -- How much a batch holds that is made of rows.
 use Rattle.std.specs.Prelude.{◌≤◌, ◌<◌, ◌*◌, ◌/◌, ℕ, if◌then◌else◌, length, max}
 use Rattle.std.specs.List.{sum_by}
-use Rattle.arrow_schema.specs.declared.data_type.DataType.{DataType}
+use Rattle.arrow_types.specs.declared.data_type.DataType.{DataType}
 use Rattle.arrays.specs.Batch.{BatchAt}
 use Rattle.array_select.specs.Fitting.{has_texts}
 use Rattle.array_select.specs.Room.{text_bytes_of}

@@ -6,7 +6,7 @@ ghost use Rattle.array_select.specs.Room.{most_batch_rows};
 ghost use Rattle.batch_room.specs.Room.{allowed, most_batch_cells, most_batch_texts, share_among};
 
 use array_select::{MOST_BATCH_ROWS, has_texts};
-use arrow_schema::DataType;
+use arrow_types::DataType;
 
 /// As many cells as a batch has, where it has more than one row. A cell has 16 bytes or fewer next
 /// to its text, so that all of them have 2 MB.

@@ -1,7 +1,7 @@
 -- Worked rows: which batches are opened, worked out by hand.
 use Rattle.std.proofs.Common.{◌≡◌, ℕ, List, [], ◌∷◌, None, refl, pos}
-use Rattle.arrow_schema.specs.declared.data_type.IntegerType.TheVariants.{Int8}
-use Rattle.arrow_schema.specs.declared.schema.Schema.{Schema}
+use Rattle.arrow_types.specs.declared.data_type.IntegerType.TheVariants.{Int8}
+use Rattle.arrow_types.specs.declared.schema.Schema.{Schema}
 use Rattle.arrays.specs.declared.layout.Layout.TheVariants as layout
 use Rattle.arrays.specs.Batch.{BatchAt}
 use Rattle.arrays.specs.Number.{element_at}

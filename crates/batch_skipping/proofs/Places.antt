@@ -5,7 +5,7 @@ use Rattle.std.specs.List.{filter, list_all}
 use Rattle.std.proofs.lemmas.Bool.{cases_Bool, and_from}
 use Rattle.std.proofs.lemmas.List.{drop_all}
 use Rattle.std.proofs.lemmas.List.Elements.{All-nil, All-cons}
-use Rattle.arrow_schema.specs.declared.schema.Schema.{Schema}
+use Rattle.arrow_types.specs.declared.schema.Schema.{Schema}
 use Rattle.scan_base.specs.Predicate.{Pred}
 use Rattle.table_versions.specs.Kept.{IsKept}
 use Rattle.table_versions.specs.Stored.{TableAt, table_of}

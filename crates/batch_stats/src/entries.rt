@@ -11,7 +11,7 @@ use crate::codes::Code;
 use crate::stats::Stats;
 use crate::validity::{first_valid, is_valid};
 use arrays::{Cells, Column, Indices};
-use arrow_schema::IntegerType;
+use arrow_types::IntegerType;
 use std::alloc::Global;
 
 // The statistics of a column by the codes of its slots, of which the one at `start` is the first

@@ -15,7 +15,7 @@ use crate::stats::Stats;
 use crate::validity::{first_valid, is_valid};
 use crate::wide::Wide;
 use arrays::{Decimals, Integers};
-use arrow_schema::IntegerType;
+use arrow_types::IntegerType;
 use bitmap::Bits;
 
 // How many slots are looked at together, where there are bits.

@@ -1,13 +1,13 @@
 //! Puts of one row, and how many rows a version has.
 
 ghost use Rattle.std.specs.Prelude.{◌≡◌, ◌∷◌, [], true, IfOk, codes};
-ghost use Rattle.arrow_schema.specs.Schema.{IsSchema};
-ghost use Rattle.arrow_schema.specs.declared.data_type.DataType.TheVariants.{Integer};
-ghost use Rattle.arrow_schema.specs.declared.data_type.IntegerType.TheVariants.{Int64};
+ghost use Rattle.arrow_types.specs.Schema.{IsSchema};
+ghost use Rattle.arrow_types.specs.declared.data_type.DataType.TheVariants.{Integer};
+ghost use Rattle.arrow_types.specs.declared.data_type.IntegerType.TheVariants.{Int64};
 
 use array_select::column_of_int64s;
 use arrays::Batch;
-use arrow_schema::{DataType, Field, IntegerType, Schema};
+use arrow_types::{DataType, Field, IntegerType, Schema};
 use batch_stats::MeasuredBatch;
 use scan_base::{Fault, Items, Text};
 use std::alloc::{AllocError, Global};

@@ -4,8 +4,8 @@ use Rattle.std.specs.Prelude.{IfOk, IfSome, option_map}
 use Rattle.scan_base.specs.declared.fault.Fault.{Fault}
 use Rattle.scan_base.specs.declared.fault.Fault.TheVariants.{BadBatch}
 use Rattle.scan_base.specs.Limits.{most_columns}
-use Rattle.arrow_schema.specs.declared.schema.Schema.{Schema}
-use Rattle.arrow_schema.specs.Schema.{IsSchema}
+use Rattle.arrow_types.specs.declared.schema.Schema.{Schema}
+use Rattle.arrow_types.specs.Schema.{IsSchema}
 use Rattle.arrays.specs.Batch.{BatchAt}
 use Rattle.arrays.specs.Typed.{AreOfTypes}
 use Rattle.grpc_frame.specs.Ends.{Advances, Tape}

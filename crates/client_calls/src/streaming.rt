@@ -2,7 +2,7 @@
 
 ghost use Rattle.std.specs.Prelude.{◌≡◌, ◌<◌, ◌≤◌, [], ◌∷◌, Ok, Err, Some, IfOk, IfSome};
 ghost use Rattle.std.specs.Prelude.{MatchResult, length};
-ghost use Rattle.arrow_schema.specs.Schema.{IsSchema};
+ghost use Rattle.arrow_types.specs.Schema.{IsSchema};
 ghost use Rattle.scan_base.specs.Limits.{most_columns};
 ghost use Rattle.grpc_frame.specs.Ends.{CanFail};
 ghost use Rattle.ipc_batch.specs.State.{Known};
@@ -22,7 +22,7 @@ use crate::failure::Failure;
 use crate::fetching::ticket_payload;
 use crate::taken::{Took, take_batch, take_payload};
 use arrays::Batch;
-use arrow_schema::Schema;
+use arrow_types::Schema;
 use flight_client::StreamReader;
 use grpc_frame::{Inbox, Input, Output};
 use scan_base::Fault;
@@ -56,7 +56,7 @@ impl<R: Input + Drop, W: Output + Drop> Drop for Fetching<R, W> {
 
 impl<R: Input, W: Output> Model for Fetching<R, W> {
     ghost use Rattle.std.specs.Prelude.{◌≡◌, Some};
-    ghost use Rattle.arrow_schema.specs.Schema.{IsSchema};
+    ghost use Rattle.arrow_types.specs.Schema.{IsSchema};
     ghost use Rattle.grpc_frame.specs.declared.place.Place.TheVariants.{InAnswer};
     ghost use Rattle.grpc_frame.specs.Arrivals.{work_left};
     ghost use Rattle.ipc_batch.specs.State.{Known};

@@ -5,7 +5,7 @@ use Rattle.std.specs.List.{flat_map}
 use Rattle.scan_base.specs.declared.fault.Fault.{Fault}
 use Rattle.scan_base.specs.declared.fault.Fault.TheVariants.{BadBatch, LimitReached, OutOfMemory}
 use Rattle.scan_base.specs.declared.fault.Fault.TheVariants.{SchemaMismatch, Transport}
-use Rattle.arrow_schema.specs.declared.schema.Schema.{Schema}
+use Rattle.arrow_types.specs.declared.schema.Schema.{Schema}
 use Rattle.arrays.specs.Batch.{BatchAt, rows_of}
 use Rattle.ipc_batch.specs.State.{Known}
 use Rattle.ipc_batch.specs.Said.{Rows}

@@ -1,7 +1,7 @@
 //! Rows that are written as they come, over one connection.
 
 ghost use Rattle.std.specs.Prelude.{◌≡◌, ◌<◌, [], ℕ, List, Option, map, IfOk, IfSome};
-ghost use Rattle.arrow_schema.specs.declared.schema.Schema.{Schema};
+ghost use Rattle.arrow_types.specs.declared.schema.Schema.{Schema};
 ghost use Rattle.grpc_frame.specs.Ends.{CanFail};
 ghost use Rattle.ipc_batch.specs.Said.{HasColumns, Rows};
 ghost use Rattle.flight_info.specs.Payloads.{Payload};

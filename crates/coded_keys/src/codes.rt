@@ -9,7 +9,7 @@ ghost use Rattle.arrays.specs.declared.layout.Layout.TheVariants as layout;
 ghost use Rattle.coded_keys.specs.Codes.{code_of, layout_code};
 
 use arrays::{Cells, Column, Element, Indices, Layout};
-use arrow_schema::IntegerType;
+use arrow_types::IntegerType;
 use scan_base::ValueRef;
 use std::hash::{DefaultHasher, Hash, Hasher};
 

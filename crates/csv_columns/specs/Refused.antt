@@ -4,8 +4,8 @@ use Rattle.csv.specs.Records.{trimmed}
 use Rattle.scan_base.specs.declared.fault.Fault.{Fault}
 use Rattle.scan_base.specs.declared.fault.Fault.TheVariants.{BadBatch, LimitReached, OutOfMemory}
 use Rattle.scan_base.specs.Limits.{most_columns, most_name_bytes}
-use Rattle.arrow_schema.specs.declared.schema.Field.{Field}
-use Rattle.arrow_schema.specs.Schema.{IsField}
+use Rattle.arrow_types.specs.declared.schema.Field.{Field}
+use Rattle.arrow_types.specs.Schema.{IsField}
 use Rattle.csv_columns.specs.Spelled.{spelled}
 
 -- a text of a byte or more

@@ -6,7 +6,7 @@ ghost use Rattle.arrays.specs.Typed.{IsValueOf};
 ghost use Rattle.csv_columns.specs.Said.{cell_in};
 
 use crate::said::value_in;
-use arrow_schema::Field;
+use arrow_types::Field;
 use scan_base::ValueRef;
 
 /// The value that a field says in a column, if it says one. A field without a byte is a null where

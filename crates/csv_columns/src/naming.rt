@@ -3,7 +3,7 @@
 ghost use Rattle.std.specs.Prelude.{◌≡◌, ◌<◌, ◌++◌, IfErr, IfOk, codes, length, string_bytes};
 ghost use Rattle.std.specs.Fmt.{decimal};
 ghost use Rattle.csv.specs.Records.{fields_of};
-ghost use Rattle.arrow_schema.specs.Schema.{IsName};
+ghost use Rattle.arrow_types.specs.Schema.{IsName};
 ghost use Rattle.csv_columns.specs.Refused.{WhyNoName};
 ghost use Rattle.csv_columns.specs.Found.{name_of};
 

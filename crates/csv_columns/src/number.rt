@@ -4,7 +4,7 @@ ghost use Rattle.std.specs.Prelude.{◌≡◌, ◌≤ℤ◌, IfSome, neg_ℤ, op
 ghost use Rattle.csv_columns.specs.Said.{greatest_of, kept_in, least_of, number_in};
 ghost use Rattle.sql_text.specs.Values.{number_of};
 
-use arrow_schema::IntegerType;
+use arrow_types::IntegerType;
 use sql_text::{Token, TokenKind};
 
 // The value of digits alone, if it is below 10^38: that of a literal in a query.

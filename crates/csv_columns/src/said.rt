@@ -4,12 +4,12 @@ ghost use Rattle.std.specs.Prelude.{◌≡◌, IfSome, Some, option_map, true};
 ghost use Rattle.std.specs.Str.{is_utf8};
 ghost use Rattle.scan_base.specs.declared.value.Value.TheVariants as value;
 ghost use Rattle.scan_base.specs.Value.{value_of};
-ghost use Rattle.arrow_schema.specs.declared.data_type.DataType.TheVariants as type;
+ghost use Rattle.arrow_types.specs.declared.data_type.DataType.TheVariants as type;
 ghost use Rattle.arrays.specs.Typed.{IsValueOf};
 ghost use Rattle.csv_columns.specs.Said.{said_as, value_in};
 
 use crate::number::{kept_in, number_in};
-use arrow_schema::{DataType, IntegerType};
+use arrow_types::{DataType, IntegerType};
 use calendar::day_in;
 use scan_base::{Fault, ValueRef, read_text};
 

@@ -1,13 +1,13 @@
 //! Which types take the fields of a column.
 
 ghost use Rattle.std.specs.Prelude.{◌≡◌, ◌&&◌, ◌∷◌, [], ◌++◌, ℕ, List, None};
-ghost use Rattle.arrow_schema.specs.Schema.{IsType};
-ghost use Rattle.arrow_schema.specs.Written.{encoding_of};
+ghost use Rattle.arrow_types.specs.Schema.{IsType};
+ghost use Rattle.arrow_types.specs.DataType.{encoding_of};
 ghost use Rattle.csv_columns.specs.Found.{is_empty, takes, type_found};
 ghost use Rattle.std.specs.List.{list_any};
 
 use crate::value_in;
-use arrow_schema::{DataType, IntegerType};
+use arrow_types::{DataType, IntegerType};
 
 /// Which types take all fields of a column so far, and whether one of these is empty.
 #[derive(Clone, Copy)]

@@ -8,7 +8,7 @@ ghost use Rattle.csv_columns.specs.Left.{records_in};
 ghost use Rattle.csv_columns.specs.Spelled.{mark_of, spelled};
 
 use crate::word::word_for;
-use arrow_schema::Field;
+use arrow_types::Field;
 use csv::{ByteRecord, WriterBuilder};
 use std::alloc::{AllocError, Global};
 

@@ -6,9 +6,9 @@ use Rattle.scan_base.specs.declared.value.Value.{Value}
 use Rattle.scan_base.specs.declared.value.Value.TheVariants.{Null, Bool, Int, Text}
 use Rattle.scan_base.specs.declared.value.ValueRef.{ValueRef}
 use Rattle.scan_base.specs.declared.value.ValueRef.TheVariants as borrowed
-use Rattle.arrow_schema.specs.declared.data_type.DataType.{DataType}
-use Rattle.arrow_schema.specs.declared.data_type.DataType.TheVariants as type
-use Rattle.arrow_schema.specs.declared.data_type.DictionaryEncoding.{DictionaryEncoding}
+use Rattle.arrow_types.specs.declared.data_type.DataType.{DataType}
+use Rattle.arrow_types.specs.declared.data_type.DataType.TheVariants as type
+use Rattle.arrow_types.specs.declared.data_type.DictionaryEncoding.{DictionaryEncoding}
 use Rattle.arrays.specs.Typed.{IsValueOf}
 use Rattle.array_select.specs.inside.Filled.{AreOfType}
 use Rattle.csv_input.specs.inside.Chosen.{number_or_null, flag_or_null, text_or_null}

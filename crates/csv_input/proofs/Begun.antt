@@ -1,9 +1,9 @@
 -- A stream that begins with its schema.
 use Rattle.std.proofs.Common.{◌≡◌, ℕ, List, [], ◌∷◌, map, None, Some, Ok, refl, arith}
+use Rattle.arrow_types.specs.declared.schema.Schema.{Schema}
+use Rattle.arrow_types.specs.Schema.{IsSchema}
 use Rattle.arrow_schema.specs.declared.header.HeaderKind.TheVariants as kinds
-use Rattle.arrow_schema.specs.declared.schema.Schema.{Schema}
 use Rattle.arrow_schema.specs.Header.{schema_in, schema_message_of, schema_of}
-use Rattle.arrow_schema.specs.Schema.{IsSchema}
 use Rattle.arrow_schema.specs.Written.{schema_part, schema_bytes}
 use Rattle.arrow_schema.proofs.Messages.{messages_read}
 use Rattle.arrow_schema.proofs.Again.{whole_schema, short_schema, schemas_read}

@@ -4,7 +4,7 @@ use Rattle.std.specs.Prelude.{IsSome, None}
 use Rattle.std.proofs.lemmas.Bool.{cases_lt}
 use Rattle.std.proofs.lemmas.List.{get_or-append-add, get_or_append_left, get_or_default, length-append}
 use Rattle.std.proofs.lemmas.List.Elements.{All-append, All-nil, All-cons}
-use Rattle.arrow_schema.specs.declared.schema.Field.{Field}
+use Rattle.arrow_types.specs.declared.schema.Field.{Field}
 use Rattle.csv_columns.specs.Said.{cell_in}
 use Rattle.csv_input.specs.declared.outcome.Wrong.{Wrong}
 use Rattle.csv_input.specs.Rows.{AreRight, IsFirstWrong, IsRight, IsWrong, IsWrongCell, SaysCell}

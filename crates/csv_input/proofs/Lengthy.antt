@@ -11,8 +11,8 @@ use Rattle.scan_base.specs.declared.fault.Fault.TheVariants.{LimitReached, OutOf
 use Rattle.scan_base.specs.declared.value.Value.{Value}
 use Rattle.scan_base.specs.declared.value.Value.TheVariants.{Null}
 use Rattle.scan_base.specs.declared.value.ValueRef.{ValueRef}
-use Rattle.arrow_schema.specs.declared.schema.Field.{Field}
-use Rattle.arrow_schema.specs.declared.schema.Schema.{Schema}
+use Rattle.arrow_types.specs.declared.schema.Field.{Field}
+use Rattle.arrow_types.specs.declared.schema.Schema.{Schema}
 use Rattle.arrays.specs.Batch.{BatchAt}
 use Rattle.arrays.specs.Written.{text_bytes, texts_joined}
 use Rattle.std.specs.List.{flat_map}

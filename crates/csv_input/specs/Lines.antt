@@ -3,7 +3,7 @@ use Rattle.std.specs.Prelude.{ℕ, ◌+◌, Bool, true, false, List, [], ◌++�
 use Rattle.std.specs.Prelude.{option_map, slice_get, unwrap_or}
 use Rattle.std.specs.Fmt.{decimal}
 use Rattle.csv.specs.Writing.{default_writer, row_text}
-use Rattle.arrow_schema.specs.declared.schema.Field.{Field}
+use Rattle.arrow_types.specs.declared.schema.Field.{Field}
 use Rattle.csv_columns.specs.Spelled.{spelled}
 use Rattle.csv_input.specs.declared.outcome.Wrong.{Wrong}
 use Rattle.csv_input.specs.declared.outcome.Wrong.TheVariants.{Fields, Cell}

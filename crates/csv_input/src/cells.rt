@@ -3,14 +3,14 @@
 ghost use Rattle.std.specs.Prelude.{◌≡◌, ◌≤◌, ◌<◌, ◌^◌, None, false, true, IfErr, IfOk};
 ghost use Rattle.std.specs.Prelude.{MatchOption, length, map};
 ghost use Rattle.scan_base.specs.Value.{value_of};
-ghost use Rattle.arrow_schema.specs.Written.{encoding_of};
+ghost use Rattle.arrow_types.specs.DataType.{encoding_of};
 ghost use Rattle.arrays.specs.Written.{text_bytes, texts_joined};
 ghost use Rattle.csv_input.specs.inside.Cells.{AreCells, HasWrongCell, IsColumnIn, WhyNoColumn};
 
 use crate::chunk::Chunk;
 use crate::column_of_values;
 use arrays::Column;
-use arrow_schema::Field;
+use arrow_types::Field;
 use csv_columns::cell_in;
 use scan_base::{Fault, ValueRef};
 use std::alloc::{AllocError, Global};

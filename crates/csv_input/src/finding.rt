@@ -6,7 +6,7 @@ ghost use Rattle.csv_input.specs.Long.{WhyNoneTold};
 ghost use Rattle.csv_input.specs.Rows.{FindsWrong, IsRight, IsWrong, IsWrongCell, SaysCell};
 
 use crate::outcome::{Wrong, WrongRecord};
-use arrow_schema::Field;
+use arrow_types::Field;
 use csv::ByteRecord;
 use csv_columns::{Records, cell_in, field_in};
 use scan_base::Fault;

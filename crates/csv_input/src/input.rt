@@ -13,7 +13,7 @@ use crate::WrongRecord;
 use crate::reading::{columns_of, wrong_record};
 use crate::saying::wrong_line;
 use crate::text::CsvText;
-use arrow_schema::{Field, Schema};
+use arrow_types::{Field, Schema};
 use bytes::Bytes;
 use command_ends::{ExitStatus, end_by_cause, end_by_fault, read_whole};
 use command_line::CsvForm;

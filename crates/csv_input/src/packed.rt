@@ -2,14 +2,14 @@
 
 ghost use Rattle.std.specs.Prelude.{◌≡◌, ◌≤◌, All, IfOk, length, map};
 ghost use Rattle.scan_base.specs.Value.{value_of};
-ghost use Rattle.arrow_schema.specs.declared.data_type.DataType.TheVariants as type;
+ghost use Rattle.arrow_types.specs.declared.data_type.DataType.TheVariants as type;
 ghost use Rattle.arrays.specs.Column.{values_of};
 ghost use Rattle.arrays.specs.Typed.{IsOfType, IsValueOf};
 ghost use Rattle.array_select.specs.inside.Filled.{number_of, AreNumbersOf, AreValidUnlessNull};
 ghost use Rattle.array_select.specs.inside.Filled.{FillSlots};
 
 use arrays::{Column, Slots, Values, are_bytes, byte_width, is_null};
-use arrow_schema::IntegerType;
+use arrow_types::IntegerType;
 use bitmap::{Bits, BitsBuilder};
 use bytes::Bytes;
 use scan_base::ValueRef;

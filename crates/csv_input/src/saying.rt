@@ -5,7 +5,7 @@ ghost use Rattle.std.specs.Fmt.{decimal};
 ghost use Rattle.csv_input.specs.Lines.{cell_words, head_rows, length_words, wrong_line};
 
 use crate::{Wrong, WrongRecord};
-use arrow_schema::Field;
+use arrow_types::Field;
 use std::alloc::{AllocError, Global};
 
 // How many records stand before those that say rows.

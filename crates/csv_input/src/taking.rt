@@ -6,7 +6,7 @@ ghost use Rattle.csv_input.specs.inside.Batches.{HasTaken};
 
 use crate::chunk::Chunk;
 use array_select::MOST_BATCH_ROWS;
-use arrow_schema::{DataType, Field, IntegerType};
+use arrow_types::{DataType, Field, IntegerType};
 use csv::ByteRecord;
 use csv_columns::Records;
 use std::alloc::{AllocError, Global};

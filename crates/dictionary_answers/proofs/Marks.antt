@@ -7,7 +7,7 @@ use Rattle.std.proofs.lemmas.List.{length-map, get_or-map, get_or_default}
 use Rattle.std.proofs.lemmas.List.FromFn.{length-map-range_with_len, get_or-map-range_with_len}
 use Rattle.byteorder.specs.Endian.{IsMapped, little_bytes}
 use Rattle.byteorder.proofs.Slices.{MappedTo, mapped_all, mapped_more}
-use Rattle.arrow_schema.specs.declared.data_type.IntegerType.TheVariants.{Int32}
+use Rattle.arrow_types.specs.declared.data_type.IntegerType.TheVariants.{Int32}
 use Rattle.arrays.specs.Number.{element_at, integer_at, number_from}
 use Rattle.scan_base.specs.declared.value.Value.{Value}
 use Rattle.scan_base.specs.declared.value.Value.TheVariants.{Null}

@@ -2,8 +2,8 @@
 use Rattle.std.proofs.Common.{◌≡◌, ◌≤◌, ℕ, suc, All, List, [], ◌∷◌, length, map, refl, ap, arith}
 use Rattle.std.specs.List.{AllZip}
 use Rattle.scan_base.specs.Limits.{most_values}
-use Rattle.arrow_schema.specs.declared.schema.Field.{Field}
-use Rattle.arrow_schema.specs.declared.schema.Schema.{Schema}
+use Rattle.arrow_types.specs.declared.schema.Field.{Field}
+use Rattle.arrow_types.specs.declared.schema.Schema.{Schema}
 use Rattle.arrays.specs.Batch.{BatchAt, AreLong, rows_of}
 use Rattle.arrays.specs.Column.{ColumnAt, IsColumn}
 use Rattle.arrays.specs.Typed.{ValuesAreOfTheirType}

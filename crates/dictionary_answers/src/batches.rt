@@ -15,7 +15,7 @@ use crate::built::{column_over, column_validity};
 use crate::coding::Stop;
 use crate::columns::code_packed;
 use arrays::{Batch, Cells, Column, Texts};
-use arrow_schema::{DataType, Field, Schema};
+use arrow_types::{DataType, Field, Schema};
 use hash_seed::HashSeed;
 use std::alloc::{AllocError, Global};
 

@@ -1,7 +1,7 @@
 //! Columns of indices that are built of places among texts.
 
 ghost use Rattle.std.specs.Prelude.{◌≡◌, ◌≤◌, ◌<◌, ◌^◌, ◌/◌, ℕ, List, IfOk, length, map};
-ghost use Rattle.arrow_schema.specs.declared.data_type.IntegerType.TheVariants.{Int32};
+ghost use Rattle.arrow_types.specs.declared.data_type.IntegerType.TheVariants.{Int32};
 ghost use Rattle.scan_base.specs.Limits.{most_values};
 ghost use Rattle.scan_base.specs.declared.value.Value.{Value};
 ghost use Rattle.scan_base.specs.declared.value.Value.TheVariants.{Text};
@@ -16,7 +16,7 @@ ghost use Rattle.dictionary_answers.specs.inside.Packed.{numbers_in, AreValidWhe
 use crate::coding::NO_PLACE;
 use crate::packed::{clear_marks, pack_numbers, unpack_numbers};
 use arrays::{Cells, Column, Dictionary, Nulls, Slots, Texts, Values};
-use arrow_schema::IntegerType;
+use arrow_types::IntegerType;
 use bitmap::{Bits, BitsBuilder};
 use bytes::Bytes;
 use std::alloc::{AllocError, Global};

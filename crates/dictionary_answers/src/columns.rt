@@ -22,7 +22,7 @@ use crate::found::Found;
 use crate::indices::{Block, IndexColumn, IndexElement, is_valid, valid_index};
 use crate::packed::{put_number, unpack_numbers, zeros};
 use arrays::{Cells, Column, Indices, Layout};
-use arrow_schema::IntegerType;
+use arrow_types::IntegerType;
 use hash_seed::HashSeed;
 use indexmap::IndexMap;
 use std::alloc::Global;

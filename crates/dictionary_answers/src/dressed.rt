@@ -13,7 +13,7 @@ ghost use Rattle.dictionary_answers.specs.inside.Written.{all_written, written_l
 use crate::{CodedBatch, ColumnDictionary, code_batch};
 use arrays::laws::values_are_of_their_type;
 use arrays::{Batch, Cells, Column};
-use arrow_schema::Schema;
+use arrow_types::Schema;
 use hash_seed::HashSeed;
 use ipc_batch::{WrittenMessage, write_dictionary};
 use std::alloc::{AllocError, Global};

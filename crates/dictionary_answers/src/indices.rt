@@ -10,7 +10,7 @@ ghost use Rattle.arrays.specs.Layout.{layout_slot};
 ghost use Rattle.arrays.specs.declared.layout.Layout.TheVariants as layout;
 
 use arrays::{Column, Element, Indices};
-use arrow_schema::IntegerType;
+use arrow_types::IntegerType;
 
 /// A column whose slots are indices, and these slots.
 #[derive(Drop)]

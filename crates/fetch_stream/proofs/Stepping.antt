@@ -5,7 +5,7 @@ use Rattle.scan_base.specs.declared.fault.Fault.{Fault}
 use Rattle.scan_base.specs.Limits.{most_columns}
 use Rattle.arrays.specs.Batch.{BatchAt, BatchSlicesKeepRows, rows_of, cut_batch}
 use Rattle.table_versions.specs.Table.{Row, is_long_text}
-use Rattle.arrow_schema.specs.declared.schema.Schema.{Schema}
+use Rattle.arrow_types.specs.declared.schema.Schema.{Schema}
 use Rattle.dictionary_answers.specs.Lengths.{dressed_length}
 use Rattle.fetch_stream.specs.Streams.{Parcel, most_body_bytes}
 use Rattle.fetch_stream.specs.declared.cutter.Cutter.{Cutter}

@@ -4,7 +4,7 @@ use Rattle.std.specs.Prelude.{length, map, take, Option, Some, None, Ok}
 use Rattle.scan_base.specs.declared.fault.Fault.{Fault}
 use Rattle.scan_base.specs.declared.fault.Fault.TheVariants.{BadTicket, ResultTooLarge, OutOfMemory}
 use Rattle.scan_base.specs.Limits.{most_query_bytes, most_answer_rows}
-use Rattle.arrow_schema.specs.declared.schema.Schema.{Schema}
+use Rattle.arrow_types.specs.declared.schema.Schema.{Schema}
 use Rattle.endpoint_split.specs.Handle.{HandleAt, Query, Tables}
 use Rattle.proto_wire.specs.Standard.{Entry}
 use Rattle.proto_wire.specs.Reading.{fields_of}

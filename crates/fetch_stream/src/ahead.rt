@@ -1,7 +1,7 @@
 //! Payloads of a morsel, some of which are made ahead.
 
 ghost use Rattle.std.specs.Prelude.{◌≡◌, ◌≤◌, ◌+◌, ℕ, IfOk, List, [], Some, length};
-ghost use Rattle.arrow_schema.specs.declared.schema.Schema.{Schema};
+ghost use Rattle.arrow_types.specs.declared.schema.Schema.{Schema};
 ghost use Rattle.table_versions.specs.Table.{Row};
 ghost use Rattle.scan_exec.specs.Morsels.{morsel_rows};
 ghost use Rattle.fetch_stream.specs.Morsels.{behind_schema};

@@ -12,7 +12,7 @@ use crate::message::{Writing, batch_parcel};
 use crate::parcel::Parcel;
 use arrays::Batch;
 use arrays::laws::batch_slices_keep_rows;
-use arrow_schema::Schema;
+use arrow_types::Schema;
 use std::alloc::AllocError;
 
 // The most rows of a message.

@@ -4,7 +4,7 @@ ghost use Rattle.std.specs.Prelude.{◌≡◌, ◌≤◌, ◌<◌, ◌+◌, ◌+
 ghost use Rattle.std.specs.Prelude.{IfOk, IfSome, MatchOption};
 ghost use Rattle.std.specs.List.{AllZip};
 ghost use Rattle.scan_base.specs.Limits.{most_columns, most_message_bytes, most_values};
-ghost use Rattle.arrow_schema.specs.Schema.{IsSchema};
+ghost use Rattle.arrow_types.specs.Schema.{IsSchema};
 ghost use Rattle.arrays.specs.Batch.{rows_of};
 ghost use Rattle.flight_info.specs.Payloads.{FitMessages};
 ghost use Rattle.ipc_batch.specs.Seen.{written_seen};
@@ -19,7 +19,8 @@ ghost use Rattle.fetch_stream.specs.inside.Written.{SaysSchema, SaysWritten};
 use crate::parcel::Parcel;
 use crate::payload::{Payload, body_parts};
 use arrays::Batch;
-use arrow_schema::{Schema, write_schema};
+use arrow_schema::write_schema;
+use arrow_types::Schema;
 use bytes::Bytes;
 use dictionary_answers::{DressedBatch, dress};
 use flight_proto::{put_flight_data, put_flight_data_head};

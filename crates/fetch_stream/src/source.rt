@@ -6,7 +6,7 @@ ghost use Rattle.fetch_stream.specs.inside.Ahead.{schema_behind, rows_taken, IsS
 ghost use Rattle.fetch_stream.specs.inside.Given.{GivesNoneYet, TurnsBatch};
 
 use arrays::Batch;
-use arrow_schema::Schema;
+use arrow_types::Schema;
 use row_sources::{Patience, Turn};
 use scan_base::Fault;
 use scan_exec::{GroupsBatches, Scan};

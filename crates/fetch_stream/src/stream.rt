@@ -4,7 +4,7 @@ ghost use Rattle.std.specs.Prelude.{◌≡◌, ◌≤◌, ◌<◌, ◌+◌, ◌+
 ghost use Rattle.std.specs.Prelude.{IfSome, OnOk};
 ghost use Rattle.std.specs.List.{list_any};
 ghost use Rattle.scan_base.specs.Limits.{most_answer_rows};
-ghost use Rattle.arrow_schema.specs.Schema.{IsSchema};
+ghost use Rattle.arrow_types.specs.Schema.{IsSchema};
 ghost use Rattle.arrays.specs.Batch.{rows_of};
 ghost use Rattle.table_versions.specs.Table.{is_long_text};
 ghost use Rattle.fetch_stream.specs.Streams.{Gives, GivesTurn, LooksFor};
@@ -21,7 +21,7 @@ use crate::source::Source;
 use crate::work::Work;
 use arrays::Batch;
 use arrays::laws::batch_slices_keep_rows;
-use arrow_schema::Schema;
+use arrow_types::Schema;
 use hash_seed::HashSeed;
 use row_sources::{Patience, Turn};
 use scan_base::Fault;

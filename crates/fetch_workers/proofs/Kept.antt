@@ -2,8 +2,8 @@
 use Rattle.std.proofs.Common.{◌≡◌, ℕ, Bool, List, length, Option, refl}
 use Rattle.std.specs.Coded.{Coded-set, coded_ℕ, coded_bool, coded_list, coded_option}
 use Rattle.std.proofs.Math.Logic.{∥∥₁_elim}
-use Rattle.arrow_schema.specs.declared.schema.Schema.{Schema}
-use Rattle.arrow_schema.specs.contracts.schema.Schema as schema
+use Rattle.arrow_types.specs.declared.schema.Schema.{Schema}
+use Rattle.arrow_types.specs.contracts.schema.Schema as schema
 use Rattle.scan_base.specs.declared.fault.Fault.{Fault}
 use Rattle.scan_base.specs.contracts.fault.Fault as fault
 use Rattle.scan_base.specs.contracts.value.Value as value

@@ -19,7 +19,7 @@ use Rattle.row_sources.proofs.place.PlaceRows.TheSendSync as places
 use Rattle.row_sources.proofs.rows.Joining.TheSendSync as joining
 use Rattle.scan_exec.specs.contracts.grouped.Wanted as wanted
 use Rattle.hash_seed.proofs.seed.HashSeed.TheSendSync as seed
-use Rattle.arrow_schema.proofs.data_type.DataType.TheSendSync as data_type
+use Rattle.arrow_types.proofs.data_type.DataType.TheSendSync as data_type
 use Rattle.typed_plan.proofs.plan.Aggregate.TheSendSync as aggregate
 use Rattle.scan_exec.specs.contracts.grouped.GroupedRows as groups
 use Rattle.scan_exec.proofs.grouped.Stage.TheSendSync as stage
@@ -27,7 +27,7 @@ use Rattle.scan_exec.specs.contracts.shown_groups.ShownGroups as shown
 use Rattle.scan_exec.specs.contracts.answer.Answer as answer
 use Rattle.scan_exec.specs.contracts.scan.Scan as scan
 use Rattle.scan_base.proofs.fault.Fault.TheSendSync as fault
-use Rattle.arrow_schema.proofs.schema.Schema.TheSendSync as schema
+use Rattle.arrow_types.proofs.schema.Schema.TheSendSync as schema
 use Rattle.fetch_stream.proofs.cutter.Cutter.TheSendSync as cutter
 use Rattle.fetch_stream.specs.contracts.source.Source as source
 use Rattle.fetch_stream.specs.contracts.stream.FetchStream as stream

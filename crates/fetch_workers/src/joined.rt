@@ -2,7 +2,7 @@
 
 ghost use Rattle.std.specs.Prelude.{◌≡◌, ◌≢◌, ◌≤◌, ◌+◌, ℕ, true, None, option_map};
 ghost use Rattle.scan_base.specs.Limits.{most_answer_rows};
-ghost use Rattle.arrow_schema.specs.declared.schema.Schema.{Schema};
+ghost use Rattle.arrow_types.specs.declared.schema.Schema.{Schema};
 ghost use Rattle.row_sources.specs.declared.turn.Patience.TheVariants.{Endless};
 ghost use Rattle.fetch_stream.specs.Morsels.{MorselsAt};
 ghost use Rattle.fetch_workers.specs.inside.Coming.{ComesIn};

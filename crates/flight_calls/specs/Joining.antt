@@ -2,7 +2,7 @@
 use Rattle.std.specs.Prelude.{◌≡◌, ◌⊎◌, ◌≤◌, ℕ, List, [], ◌∷◌, Some, Result, Ok, slice_get}
 use Rattle.std.specs.List.{flat_map}
 use Rattle.scan_base.specs.declared.fault.Fault.{Fault}
-use Rattle.arrow_schema.specs.declared.schema.Schema.{Schema}
+use Rattle.arrow_types.specs.declared.schema.Schema.{Schema}
 use Rattle.endpoint_split.specs.Handle.{HandleAt}
 use Rattle.ipc_batch.specs.Said.{Rows}
 use Rattle.table_versions.specs.Table.{Table}

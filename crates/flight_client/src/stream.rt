@@ -9,7 +9,7 @@ ghost use Rattle.flight_client.specs.Stream.{schema_said};
 use crate::status::status_end;
 use crate::stream_reader::StreamReader;
 use arrays::Batch;
-use arrow_schema::Schema;
+use arrow_types::Schema;
 use bytes::Bytes;
 use scan_base::Fault;
 use std::alloc::Global;

@@ -1,7 +1,7 @@
 -- The headline: the streams of an info's handles, joined, are what was wanted at the info's log.
 use Rattle.std.specs.Prelude.{◌≡◌, ◌⊎◌, ◌≤◌, ℕ, List, [], ◌∷◌, take, Some, None, Ok, slice_get}
 use Rattle.std.specs.List.{flat_map}
-use Rattle.arrow_schema.specs.declared.schema.Schema.{Schema}
+use Rattle.arrow_types.specs.declared.schema.Schema.{Schema}
 use Rattle.endpoint_split.specs.Handle.{HandleAt}
 use Rattle.ipc_batch.specs.Said.{Rows}
 use Rattle.table_versions.specs.Table.{Table}

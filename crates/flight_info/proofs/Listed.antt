@@ -20,9 +20,9 @@ use Rattle.scan_base.specs.declared.value.Value.{Value}
 use Rattle.scan_base.specs.declared.value.Value.TheVariants.{Null, Text}
 use Rattle.scan_base.specs.Limits.{most_name_bytes, most_text_bytes}
 use Rattle.scan_base.specs.Value.{is_null, IsTextOrNull}
-use Rattle.arrow_schema.specs.declared.data_type.DataType.TheVariants.{Utf8}
-use Rattle.arrow_schema.specs.declared.data_type.IntegerType.TheVariants.{UInt8}
-use Rattle.arrow_schema.specs.Schema.{IsField, IsSchema}
+use Rattle.arrow_types.specs.declared.data_type.DataType.TheVariants.{Utf8}
+use Rattle.arrow_types.specs.declared.data_type.IntegerType.TheVariants.{UInt8}
+use Rattle.arrow_types.specs.Schema.{IsField, IsSchema}
 use Rattle.arrays.specs.declared.layout.Layout.{Layout}
 use Rattle.arrays.specs.declared.layout.Layout.TheVariants as layout
 use Rattle.arrays.specs.Batch.{AreLong, BatchAt, rows_of}

@@ -1,7 +1,7 @@
 -- A schema in IPC form, as an info and the answer to a schema give it.
 use Rattle.std.specs.Prelude.{◌≡◌, ◌≤◌, ◌<◌, ℕ, List, [], ◌∷◌, Some, None, Ok}
 use Rattle.flatbuf.specs.Place.{TableAt, VectorAt, root_of, field_of, table_of, element_of}
-use Rattle.arrow_schema.specs.declared.schema.Schema.{Schema}
+use Rattle.arrow_types.specs.declared.schema.Schema.{Schema}
 use Rattle.arrow_schema.specs.Fields.{table_wanted, vector_wanted}
 use Rattle.arrow_schema.specs.Written.{encapsulated}
 use Rattle.ipc_batch.specs.Said.{Says}

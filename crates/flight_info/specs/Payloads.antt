@@ -3,7 +3,7 @@
 use Rattle.std.specs.Prelude.{◌≡◌, ◌≤◌, ℕ, List, length, map, All, Ok}
 use Rattle.scan_base.specs.Limits.{most_message_bytes}
 use Rattle.scan_base.specs.Lists.{each}
-use Rattle.arrow_schema.specs.declared.schema.Schema.{Schema}
+use Rattle.arrow_types.specs.declared.schema.Schema.{Schema}
 use Rattle.flight_proto.specs.FlightData.{DataSaid, data_of}
 use Rattle.ipc_batch.specs.Said.{Sent, Rows, Says}
 

@@ -1,7 +1,7 @@
 -- The plan of a query's text.
 use Rattle.std.specs.Prelude.{◌≡◌, ◌≤◌, ℕ, Bool, List}
 use Rattle.scan_base.specs.Limits.{most_rows}
-use Rattle.arrow_schema.specs.Schema.{IsSchema}
+use Rattle.arrow_types.specs.Schema.{IsSchema}
 use Rattle.sql_query.specs.Sentence.{Sentence, is_grouped}
 use Rattle.table_versions.specs.Database.{Database}
 use Rattle.query_binder.specs.Binding.{IsPlanOf}

@@ -1,8 +1,8 @@
 //! Numbers of at most 64 bits with a sign, as they lie in the buffers of a column.
 
 ghost use Rattle.std.specs.Prelude.{◌≡◌, ◌≤◌, ◌<◌, ◌+◌, ◌*◌, ℕ, Bool, true, false, is_some, length};
-ghost use Rattle.arrow_schema.specs.declared.data_type.IntegerType.{IntegerType as Kind};
-ghost use Rattle.arrow_schema.specs.declared.data_type.IntegerType.TheVariants as integer;
+ghost use Rattle.arrow_types.specs.declared.data_type.IntegerType.{IntegerType as Kind};
+ghost use Rattle.arrow_types.specs.declared.data_type.IntegerType.TheVariants as integer;
 ghost use Rattle.arrays.specs.Number.{byte_width, integer_at};
 ghost use Rattle.arrays.specs.Column.{slot_of};
 ghost use Rattle.arrays.specs.declared.layout.Layout.TheVariants.{Indices as IndicesLayout};
@@ -12,7 +12,7 @@ ghost use Rattle.group_slots.specs.Slots.{HaveRoom, entry_cell, slot_cell, slot_
 ghost use Rattle.group_slots.specs.Slots.{slot_number};
 
 use arrays::{Cells, Column, Dictionary, Element, Indices, Integers};
-use arrow_schema::IntegerType;
+use arrow_types::IntegerType;
 use bitmap::Bits;
 
 /// A type of numbers that 64 bits with a sign hold.

@@ -11,7 +11,7 @@ use crate::pieces::{MOST_PIECES, blank_pieces, fill_pieces, join_pieces};
 use crate::slots::{Marked, Number, Slots, Validity, Whole, integer_slots};
 use crate::tally::Tally;
 use arrays::{Cells, Layout};
-use arrow_schema::IntegerType;
+use arrow_types::IntegerType;
 use typed_plan::Aggregate;
 
 // Of how many rows for each group sums are made in pieces.

@@ -12,10 +12,10 @@ use Rattle.scan_base.specs.Limits.{most_rows}
 use Rattle.scan_base.specs.Predicate.{cell_in}
 use Rattle.scan_base.specs.declared.value.Value.{Value}
 use Rattle.scan_base.specs.declared.value.Value.TheVariants.{Null, Int}
-use Rattle.arrow_schema.specs.Answer.{copied_type}
-use Rattle.arrow_schema.specs.declared.data_type.DataType.{DataType}
-use Rattle.arrow_schema.specs.declared.data_type.DataType.TheVariants.{Integer, Decimal128}
-use Rattle.arrow_schema.specs.declared.data_type.IntegerType.TheVariants.{Int64}
+use Rattle.arrow_types.specs.Answer.{copied_type}
+use Rattle.arrow_types.specs.declared.data_type.DataType.{DataType}
+use Rattle.arrow_types.specs.declared.data_type.DataType.TheVariants.{Integer, Decimal128}
+use Rattle.arrow_types.specs.declared.data_type.IntegerType.TheVariants.{Int64}
 use Rattle.arrays.specs.Batch.{BatchAt, rows_of}
 use Rattle.arrays.specs.Column.{ColumnAt, slot_of, values_of}
 use Rattle.arrays.specs.Typed.{AreOf, IsOfType}

@@ -4,8 +4,8 @@ ghost use Rattle.std.specs.Prelude.{◌≡◌, ◌≤◌, ◌==◌, ◌-◌, pos
 ghost use Rattle.std.specs.Prelude.{if◌then◌else◌};
 ghost use Rattle.scan_base.specs.Limits.{most_rows};
 ghost use Rattle.scan_base.specs.declared.value.Value.TheVariants as value;
-ghost use Rattle.arrow_schema.specs.declared.data_type.DataType.TheVariants as type;
-ghost use Rattle.arrow_schema.specs.declared.data_type.IntegerType.TheVariants as integer;
+ghost use Rattle.arrow_types.specs.declared.data_type.DataType.TheVariants as type;
+ghost use Rattle.arrow_types.specs.declared.data_type.IntegerType.TheVariants as integer;
 ghost use Rattle.arrays.specs.Column.{values_of};
 ghost use Rattle.arrays.specs.Typed.{IsOfType};
 ghost use Rattle.group_slots.specs.Held.{tallies_in};

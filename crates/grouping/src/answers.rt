@@ -14,7 +14,7 @@ use crate::kept::Kept;
 use crate::key::Place;
 use array_select::MOST_BATCH_ROWS;
 use arrays::Batch;
-use arrow_schema::DataType;
+use arrow_types::DataType;
 use batch_room::{next_most, tried_rows};
 use first_rows::FirstRows;
 use group_slots::ItemTallies;

@@ -16,7 +16,7 @@ use crate::answer::{count_column, sum_column};
 use crate::key::Place;
 use array_select::{SlotRef, column_of_slots, has_texts};
 use arrays::{Batch, Column};
-use arrow_schema::DataType;
+use arrow_types::DataType;
 use batch_room::{fitting, share_among};
 use group_slots::ItemTallies;
 use std::alloc::{AllocError, Global};

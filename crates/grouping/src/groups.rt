@@ -14,7 +14,7 @@ use crate::seen::SeenBatch;
 use crate::table::Chosen;
 use array_select::Selection;
 use arrays::Batch;
-use arrow_schema::DataType;
+use arrow_types::DataType;
 use first_rows::FirstRows;
 use hash_seed::HashSeed;
 use scan_base::Fault;

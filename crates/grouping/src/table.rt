@@ -15,7 +15,7 @@ use crate::known::{
     Known, index_count, index_spread, know_nothing, known_group, push_known, short_group,
 };
 use arrays::{Batch, Layout};
-use arrow_schema::IntegerType;
+use arrow_types::IntegerType;
 use first_rows::{FirstRows, RowKey};
 use group_slots::{
     Entries, IndexTags, Number, NumberTags, Slots, Tags, entry_slots, integer_slots, text_tags,

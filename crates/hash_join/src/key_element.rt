@@ -1,15 +1,15 @@
 //! Packed numbers that are keys, read by their type.
 
 ghost use Rattle.std.specs.Prelude.{◌≡◌, ◌≤◌, ◌<◌, ◌+◌, ◌*◌, ℕ, false, get_or, length};
-ghost use Rattle.arrow_schema.specs.declared.data_type.IntegerType.{IntegerType};
-ghost use Rattle.arrow_schema.specs.declared.data_type.IntegerType.TheVariants as integer;
+ghost use Rattle.arrow_types.specs.declared.data_type.IntegerType.{IntegerType};
+ghost use Rattle.arrow_types.specs.declared.data_type.IntegerType.TheVariants as integer;
 ghost use Rattle.arrays.specs.Number.{byte_width, integer_at};
 ghost use Rattle.arrays.specs.Validity.{is_valid, IsLong};
 ghost use Rattle.hash_join.specs.Words.{passing_word};
 
 use crate::look::Look;
 use arrays::Element;
-use arrow_schema::IntegerType;
+use arrow_types::IntegerType;
 use bitmap::Bits;
 
 /// A type of integers that packed keys may be of.

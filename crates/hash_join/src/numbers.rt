@@ -6,7 +6,7 @@ ghost use Rattle.arrays.specs.Batch.{BatchAt};
 
 use crate::key_element::{KeyElement, is_known};
 use arrays::{Batch, Cells, Column, Integers, Layout};
-use arrow_schema::IntegerType;
+use arrow_types::IntegerType;
 
 // What takes numbers in.
 pub(crate) trait TakesNumbers {

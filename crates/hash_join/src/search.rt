@@ -23,7 +23,7 @@ use crate::rights::Rights;
 use crate::sieve::{NumberRows, Sieve};
 use crate::walk::Walk;
 use arrays::{Cells, Integers, Layout};
-use arrow_schema::IntegerType;
+use arrow_types::IntegerType;
 use std::alloc::{AllocError, Global};
 use std::marker::PhantomData;
 

@@ -17,9 +17,9 @@ use Rattle.flatbuf.proofs.Standing.{length-little}
 use Rattle.flatbuf.proofs.Written.{table_reads}
 use Rattle.flatbuf.proofs.Lengths.{whole_table, short_table, fits_table}
 use Rattle.flatbuf.proofs.Led.{led_table}
+use Rattle.arrow_types.specs.declared.data_type.DataType.{DataType}
+use Rattle.arrow_types.specs.declared.data_type.DataType.TheVariants.{Integer, Utf8, Bool as Flags, Decimal128, Date, Dictionary}
 use Rattle.arrow_schema.specs.declared.header.HeaderKind.TheVariants.{DictionaryBatch}
-use Rattle.arrow_schema.specs.declared.data_type.DataType.{DataType}
-use Rattle.arrow_schema.specs.declared.data_type.DataType.TheVariants.{Integer, Utf8, Bool as Flags, Decimal128, Date, Dictionary}
 use Rattle.arrow_schema.specs.Written.{flag}
 use Rattle.arrow_schema.specs.Header.{MessageAt, table_wanted}
 use Rattle.arrow_schema.specs.Message.{message_part, message_bytes, MessageReads}

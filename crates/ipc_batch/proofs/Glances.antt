@@ -3,9 +3,9 @@ use Rattle.std.proofs.Common.{◌≡◌, List, ℕ, Some, None, Result, Ok, Err,
 use Rattle.scan_base.specs.declared.fault.Fault.{Fault}
 use Rattle.scan_base.specs.declared.fault.Fault.TheVariants.{BadBatch, OutOfMemory}
 use Rattle.scan_base.specs.Reading.{◌>>=◌, RefusesFirst}
+use Rattle.arrow_types.specs.declared.schema.Schema.{Schema}
 use Rattle.arrow_schema.specs.declared.header.HeaderKind.{HeaderKind}
 use Rattle.arrow_schema.specs.declared.header.HeaderKind.TheVariants as header
-use Rattle.arrow_schema.specs.declared.schema.Schema.{Schema}
 use Rattle.arrow_schema.specs.Header.{MessageAt, message_of, schema_in}
 use Rattle.ipc_batch.specs.Parts.{PartsAt, DictionaryParts, body_claimed}
 use Rattle.ipc_batch.specs.Columns.{columns_placed}

@@ -9,9 +9,9 @@ use Rattle.scan_base.specs.Reading.{◌>>=◌, demand}
 use Rattle.flatbuf.specs.Layout.{Stands}
 use Rattle.flatbuf.specs.Place.{bytes_at}
 use Rattle.flatbuf.proofs.Readings.{seen_finds, seen_bytes}
-use Rattle.arrow_schema.specs.declared.data_type.DataType.{DataType}
-use Rattle.arrow_schema.specs.declared.data_type.DataType.TheVariants.{Integer, Utf8, Bool as Flags, Decimal128, Date, Dictionary}
-use Rattle.arrow_schema.specs.declared.schema.Field.{Field}
+use Rattle.arrow_types.specs.declared.data_type.DataType.{DataType}
+use Rattle.arrow_types.specs.declared.data_type.DataType.TheVariants.{Integer, Utf8, Bool as Flags, Decimal128, Date, Dictionary}
+use Rattle.arrow_types.specs.declared.schema.Field.{Field}
 use Rattle.arrow_schema.proofs.Said.{bind_ok, demand_ok}
 use Rattle.arrays.specs.declared.layout.Layout.{Layout}
 use Rattle.arrays.specs.declared.layout.Layout.TheVariants.{Texts}

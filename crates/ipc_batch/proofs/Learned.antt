@@ -12,9 +12,9 @@ use Rattle.scan_base.specs.declared.value.Value.{Value}
 use Rattle.scan_base.specs.Reading.{demand}
 use Rattle.flatbuf.specs.Layout.{TableAt, IsBytes, HasTable}
 use Rattle.flatbuf.specs.Place.{scalar_of}
+use Rattle.arrow_types.specs.declared.schema.Schema.{Schema}
 use Rattle.arrow_schema.specs.declared.header.HeaderKind.{HeaderKind}
 use Rattle.arrow_schema.specs.declared.header.HeaderKind.TheVariants as kinds
-use Rattle.arrow_schema.specs.declared.schema.Schema.{Schema}
 use Rattle.arrow_schema.specs.Header.{MessageAt, table_wanted, message_of, header_of, schema_in}
 use Rattle.arrow_schema.specs.Says.{SaysColumns}
 use Rattle.arrow_schema.proofs.Said.{bind_ok, demand_ok, says_scalar, reads_scalar, says_table, reads_table, wanted_table, bytes_table, header_told, header_read}

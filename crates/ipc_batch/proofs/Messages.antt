@@ -6,9 +6,9 @@ use Rattle.std.proofs.lemmas.List.Elements.{All-nil, All-map, All-append}
 use Rattle.scan_base.specs.declared.fault.Fault.{Fault}
 use Rattle.scan_base.specs.declared.value.Value.{Value}
 use Rattle.scan_base.specs.Reading.{◌>>=◌}
+use Rattle.arrow_types.specs.declared.schema.Schema.{Schema}
 use Rattle.arrow_schema.specs.declared.header.HeaderKind.{HeaderKind}
 use Rattle.arrow_schema.specs.declared.header.HeaderKind.TheVariants as header
-use Rattle.arrow_schema.specs.declared.schema.Schema.{Schema}
 use Rattle.arrow_schema.specs.Header.{MessageAt, message_of}
 use Rattle.arrays.specs.Column.{ColumnAt, slot_of}
 use Rattle.arrays.specs.Batch.{BatchAt, row_of, rows_of}

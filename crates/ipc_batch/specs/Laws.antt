@@ -7,8 +7,8 @@ use Rattle.scan_base.specs.declared.fault.Fault.{Fault}
 use Rattle.scan_base.specs.declared.fault.Fault.TheVariants.{BadBatch, OutOfMemory}
 use Rattle.scan_base.specs.declared.value.Value.{Value}
 use Rattle.flatbuf.specs.Layout.{IsBytes}
-use Rattle.arrow_schema.specs.declared.data_type.DataType.{DataType}
-use Rattle.arrow_schema.specs.declared.schema.Schema.{Schema}
+use Rattle.arrow_types.specs.declared.data_type.DataType.{DataType}
+use Rattle.arrow_types.specs.declared.schema.Schema.{Schema}
 use Rattle.arrow_schema.specs.Header.{MessageAt, body_length_of}
 use Rattle.scan_base.specs.Limits.{most_values}
 use Rattle.arrays.specs.Batch.{BatchAt}

@@ -8,7 +8,7 @@ use Rattle.scan_base.specs.declared.fault.Fault.TheVariants.{BadBatch, LimitReac
 use Rattle.scan_base.specs.declared.value.Value.{Value}
 use Rattle.scan_base.specs.Reading.{◌>>=◌, demand}
 use Rattle.flatbuf.specs.Place.{TableAt}
-use Rattle.arrow_schema.specs.declared.schema.Field.{Field}
+use Rattle.arrow_types.specs.declared.schema.Field.{Field}
 use Rattle.arrow_schema.specs.Header.{MessageAt, message_of, header_of, body_length_of}
 use Rattle.scan_base.specs.Limits.{most_columns}
 use Rattle.arrays.specs.declared.layout.Layout.TheVariants.{Texts}

@@ -13,7 +13,7 @@ ghost use Rattle.ipc_batch.specs.inside.Seen.{parts_seen, front_seen};
 use crate::dictionaries::Dictionaries;
 use crate::parts::{BufferPlace, FieldNode, Parts, buffer, check_place};
 use arrays::{Column, Slots, Texts};
-use arrow_schema::{DataType, Field, IntegerType};
+use arrow_types::{DataType, Field, IntegerType};
 use bytes::Bytes;
 use scan_base::Fault;
 use std::alloc::Global;

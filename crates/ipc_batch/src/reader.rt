@@ -5,7 +5,7 @@ ghost use Rattle.std.specs.Prelude.{IfOk, IfErr, IfSome, OnOk, OnErr};
 ghost use Rattle.std.specs.List.{list_any};
 ghost use Rattle.scan_base.specs.declared.fault.Fault.TheVariants.{OutOfMemory, BadBatch};
 ghost use Rattle.scan_base.specs.Reading.{Gives, GivesUnlessMemory, RefusesFirst, demand};
-ghost use Rattle.arrow_schema.specs.Schema.{IsSchema};
+ghost use Rattle.arrow_types.specs.Schema.{IsSchema};
 ghost use Rattle.arrow_schema.specs.Seen.{message_seen};
 ghost use Rattle.ipc_batch.specs.Said.{schema_sent, first_schema, batch_parts, batch_sent, has_id};
 ghost use Rattle.ipc_batch.specs.Said.{leads_to, dictionary_sent};
@@ -18,7 +18,8 @@ use crate::columns::{Source, check_counts, check_text_counts, read_columns, read
 use crate::dictionaries::Dictionaries;
 use crate::parts::{DictionaryMessage, Parts, check_body, read_dictionary, read_parts};
 use arrays::{Batch, Dictionary};
-use arrow_schema::{DataType, Field, HeaderKind, Message, Schema, read_message};
+use arrow_schema::{HeaderKind, Message, read_message};
+use arrow_types::{DataType, Field, Schema};
 use bytes::Bytes;
 use scan_base::Fault;
 use std::alloc::Global;
@@ -33,7 +34,7 @@ struct Stream {
 }
 
 impl Model for Stream {
-    ghost use Rattle.arrow_schema.specs.Schema.{IsSchema};
+    ghost use Rattle.arrow_types.specs.Schema.{IsSchema};
     ghost use Rattle.ipc_batch.specs.State.{Known};
 
     ghost Value = { Known };

@@ -3,7 +3,7 @@ use Rattle.std.proofs.Common.{◌≡◌, ◌≤◌, ◌<◌, ℕ, ◌+◌, ◌-�
 use Rattle.std.proofs.lemmas.Bool.{cases_lt}
 use Rattle.std.proofs.lemmas.List.{get_or_append_left, get_or-append-add, take_all}
 use Rattle.std.proofs.lemmas.List.Elements.{All-map, All-weaker}
-use Rattle.arrow_schema.specs.declared.data_type.DataType.TheVariants as type
+use Rattle.arrow_types.specs.declared.data_type.DataType.TheVariants as type
 use Rattle.scan_base.specs.declared.value.Value.{Value}
 use Rattle.scan_base.specs.Predicate.{cell_in}
 use Rattle.arrays.specs.declared.layout.Layout.TheVariants as layout

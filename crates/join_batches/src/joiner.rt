@@ -17,7 +17,7 @@ use crate::left::LeftPairs;
 use crate::sides::Sides;
 use array_select::MOST_BATCH_ROWS;
 use arrays::Batch;
-use arrow_schema::DataType;
+use arrow_types::DataType;
 use batch_room::{next_most, tried_rows};
 use hash_join::{Build, Probe, RightSide};
 use hash_seed::HashSeed;

@@ -3,7 +3,7 @@
 ghost use Rattle.std.specs.Prelude.{◌≡◌, ◌≤◌, ◌<◌, ◌^◌, ◌+◌, ◌*◌, ℕ, All, IfOk, length, map};
 ghost use Rattle.std.specs.Prelude.{nat_le, slice_index_or, true};
 ghost use Rattle.std.specs.List.{AllZip};
-ghost use Rattle.arrow_schema.specs.Answer.{copied_type};
+ghost use Rattle.arrow_types.specs.Answer.{copied_type};
 ghost use Rattle.arrays.specs.Typed.{AreOf, IsOfType};
 ghost use Rattle.arrays.specs.Written.{texts_joined};
 ghost use Rattle.batch_room.specs.Room.{most_batch_cells, most_batch_texts};
@@ -17,7 +17,7 @@ use array_select::{
     SlotPlace, SlotRef, column_of_slots, gather_many, has_texts, texts_fit, texts_fit_many,
 };
 use arrays::{Batch, Column};
-use arrow_schema::DataType;
+use arrow_types::DataType;
 use batch_room::{MOST_OFFSET, text_share};
 use hash_join::Pair;
 use std::alloc::{AllocError, Global};

@@ -15,9 +15,9 @@ use Rattle.scan_base.specs.Comparison.{compared}
 use Rattle.scan_base.specs.Predicate.{any_equal, operand_value}
 use Rattle.scan_base.specs.Truth.{truth_or, truth_from}
 use Rattle.scan_base.proofs.Truths.{or_assoc, false_or, or_false}
-use Rattle.arrow_schema.specs.declared.data_type.IntegerType.{IntegerType}
-use Rattle.arrow_schema.specs.declared.data_type.IntegerType.TheVariants.{Int8, Int16, Int32, Int64, UInt8, UInt16, UInt32, UInt64}
-use Rattle.arrow_schema.specs.DataType.{bit_width}
+use Rattle.arrow_types.specs.declared.data_type.IntegerType.{IntegerType}
+use Rattle.arrow_types.specs.declared.data_type.IntegerType.TheVariants.{Int8, Int16, Int32, Int64, UInt8, UInt16, UInt32, UInt64}
+use Rattle.arrow_types.specs.DataType.{bit_width}
 use Rattle.arrays.specs.declared.layout.Layout.TheVariants.{Integers}
 use Rattle.arrays.specs.Integers.{IntegersAt}
 use Rattle.arrays.specs.Layout.{layout_slot}

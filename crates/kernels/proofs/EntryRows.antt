@@ -16,7 +16,7 @@ use Rattle.scan_base.specs.Comparison.{compared, nullness}
 use Rattle.scan_base.specs.Predicate.{Pred, conjunction, disjunction, negation, truth_test, comparing, between, membership, null_test, constant, any_equal, operand_names, operand_value, names_only, truth_of, within}
 use Rattle.scan_base.specs.Truth.{truth_and, truth_or, truth_not, truth_is, negated_if, truth_from}
 use Rattle.scan_base.proofs.Truths.{or_false}
-use Rattle.arrow_schema.specs.DataType.{is_signed}
+use Rattle.arrow_types.specs.DataType.{is_signed}
 use Rattle.arrays.specs.declared.layout.Layout.TheVariants.{Indices}
 use Rattle.arrays.specs.Dictionary.{entry_at}
 use Rattle.arrays.specs.Indices.{IndicesAt, AreIndices, index_stands}

@@ -11,7 +11,7 @@ use crate::codes::{code_at, word_with_code};
 use crate::kernel::{Kernel, Slots};
 use crate::longs::{is_valid, of_test, valid_word};
 use crate::word::Word;
-use arrow_schema::IntegerType;
+use arrow_types::IntegerType;
 use bitmap::Bits;
 use scan_base::Truth;
 

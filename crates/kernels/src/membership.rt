@@ -9,7 +9,7 @@ ghost use Rattle.scan_base.specs.Truth.{truth_from, truth_or};
 ghost use Rattle.scan_base.specs.declared.comparison.Comparison.TheVariants.{Equal as EqualTo};
 ghost use Rattle.scan_base.specs.declared.value.Value.{Value};
 ghost use Rattle.scan_base.specs.declared.value.Value.TheVariants.{Int as IntValue};
-ghost use Rattle.arrow_schema.specs.DataType.{bit_width};
+ghost use Rattle.arrow_types.specs.DataType.{bit_width};
 ghost use Rattle.arrays.specs.declared.layout.Layout.TheVariants.{Integers as IntegersLayout};
 ghost use Rattle.arrays.specs.Integers.{AreIntegers};
 ghost use Rattle.arrays.specs.Layout.{layout_slot};
@@ -24,7 +24,7 @@ use crate::kernel::mask_by;
 use crate::mask::Mask;
 use crate::part::ColumnPart;
 use arrays::{Cells, Integers, Layout};
-use arrow_schema::IntegerType;
+use arrow_types::IntegerType;
 use scan_base::{Operand, Value};
 use std::alloc::{AllocError, Global};
 

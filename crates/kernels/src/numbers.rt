@@ -7,7 +7,7 @@ ghost use Rattle.scan_base.specs.Predicate.{within};
 ghost use Rattle.scan_base.specs.declared.truth.Truth.{Truth};
 ghost use Rattle.scan_base.specs.declared.value.Value.{Value};
 ghost use Rattle.scan_base.specs.declared.value.Value.TheVariants.{Int as IntValue};
-ghost use Rattle.arrow_schema.specs.declared.data_type.IntegerType.TheVariants.{Int64};
+ghost use Rattle.arrow_types.specs.declared.data_type.IntegerType.TheVariants.{Int64};
 ghost use Rattle.arrays.specs.declared.layout.Layout.TheVariants.{Integers as IntegersLayout};
 ghost use Rattle.arrays.specs.declared.layout.Layout.TheVariants.{Decimals as DecimalsLayout};
 ghost use Rattle.arrays.specs.Decimals.{AreDecimals};
@@ -24,7 +24,7 @@ use crate::part::ColumnPart;
 use crate::range::Range;
 use crate::within::{Packed, cells_in};
 use arrays::{Cells, Decimals, Integers, Layout};
-use arrow_schema::IntegerType;
+use arrow_types::IntegerType;
 use scan_base::Comparison;
 use std::alloc::{AllocError, Global};
 

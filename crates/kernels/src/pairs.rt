@@ -19,7 +19,7 @@ use crate::pack::pack;
 use crate::part::ColumnPart;
 use crate::word::Word;
 use arrays::{Cells, Column, Element, Integers, Layout};
-use arrow_schema::IntegerType;
+use arrow_types::IntegerType;
 use num_traits::AsPrimitive;
 use scan_base::{Comparison, Truth};
 use std::simd::prelude::*;

@@ -2,7 +2,7 @@
 use Rattle.std.proofs.Common.{◌≡◌, ℕ, ◌==◌, Bool, true, false, not, ◌&&◌, if◌then◌else◌, List, [], ◌∷◌, map, length}
 use Rattle.std.proofs.Common.{Option, Some, None, refl, sym, ap, subst, ◌∙◌, arith}
 use Rattle.std.proofs.lemmas.Bool.{not-true, or_parts, ne_eqb}
-use Rattle.arrow_schema.specs.Answer.{answered_from}
+use Rattle.arrow_types.specs.Answer.{answered_from}
 use Rattle.scan_base.specs.declared.fault.Fault.TheVariants.{NotInSubset}
 use Rattle.scan_base.specs.Predicate.{Pred}
 use Rattle.sql_query.specs.declared.query.ColumnName.{ColumnName}

@@ -9,13 +9,13 @@ use Rattle.std.proofs.lemmas.List.{length-map, length-append}
 use Rattle.std.proofs.lemmas.List.Elements.{All-nil, All-cons, All-head, All-tail, All-append, All-get_or}
 use Rattle.std.proofs.lemmas.Option.{slice_get-get_or}
 use Rattle.std.proofs.lemmas.Str.{IsAscii-append, IsUtf8-from_ascii}
-use Rattle.arrow_schema.specs.declared.data_type.DataType.{DataType}
-use Rattle.arrow_schema.specs.declared.data_type.DataType.TheVariants.{Integer, Utf8, Decimal128}
-use Rattle.arrow_schema.specs.declared.data_type.IntegerType.TheVariants.{Int64}
-use Rattle.arrow_schema.specs.declared.schema.Field.{Field}
-use Rattle.arrow_schema.specs.Answer.{answered_at, answered_from, answered_field}
-use Rattle.arrow_schema.specs.Schema.{IsName, IsField, IsSchema}
-use Rattle.arrow_schema.proofs.Answered.{answered_typed, answered_apart}
+use Rattle.arrow_types.specs.declared.data_type.DataType.{DataType}
+use Rattle.arrow_types.specs.declared.data_type.DataType.TheVariants.{Integer, Utf8, Decimal128}
+use Rattle.arrow_types.specs.declared.data_type.IntegerType.TheVariants.{Int64}
+use Rattle.arrow_types.specs.declared.schema.Field.{Field}
+use Rattle.arrow_types.specs.Answer.{answered_at, answered_from, answered_field}
+use Rattle.arrow_types.specs.Schema.{IsName, IsField, IsSchema}
+use Rattle.arrow_types.proofs.Answered.{answered_typed, answered_apart}
 use Rattle.scan_base.specs.declared.fault.Fault.{Fault}
 use Rattle.scan_base.specs.declared.fault.Fault.TheVariants.{LimitReached}
 use Rattle.scan_base.specs.Limits.{most_columns}

@@ -1,7 +1,7 @@
 -- Inside: the list of a query, where its rows are made of groups and where they are not.
 use Rattle.std.specs.Prelude.{ℕ, ◌==◌, ◌≤◌, List, length, Option, Some, None}
 use Rattle.std.specs.List.{list_any}
-use Rattle.arrow_schema.specs.Schema.{IsField}
+use Rattle.arrow_types.specs.Schema.{IsField}
 use Rattle.scan_base.specs.declared.fault.Fault.{Fault}
 use Rattle.scan_base.specs.declared.fault.Fault.TheVariants.{TypeClash, NotInSubset}
 use Rattle.sql_query.specs.declared.query.Expression.{Expression}

@@ -1,6 +1,6 @@
 -- What a query's aliases are where it was parsed.
 use Rattle.std.specs.Prelude.{◌≤◌, length, Option, Some, None, All}
-use Rattle.arrow_schema.specs.Schema.{IsName}
+use Rattle.arrow_types.specs.Schema.{IsName}
 use Rattle.sql_query.specs.declared.query.Select.{Select}
 use Rattle.sql_query.specs.declared.query.Select.TheVariants.{All as AllColumns, List as Items}
 use Rattle.table_versions.specs.Table.{Name}

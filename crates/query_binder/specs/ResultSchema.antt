@@ -3,11 +3,11 @@ use Rattle.std.specs.Prelude.{ℕ, ◌+◌, true, false, List, [], ◌∷◌, �
 use Rattle.std.specs.Prelude.{None, unwrap_or}
 use Rattle.std.specs.Prelude.{codes}
 use Rattle.std.specs.Fmt.{decimal}
-use Rattle.arrow_schema.specs.declared.data_type.DataType.TheVariants.{Integer, Utf8, Decimal128}
-use Rattle.arrow_schema.specs.declared.data_type.IntegerType.TheVariants.{Int64}
-use Rattle.arrow_schema.specs.declared.schema.Field.{Field}
-use Rattle.arrow_schema.specs.declared.schema.Schema.{Schema}
-use Rattle.arrow_schema.specs.Answer.{answered_field}
+use Rattle.arrow_types.specs.declared.data_type.DataType.TheVariants.{Integer, Utf8, Decimal128}
+use Rattle.arrow_types.specs.declared.data_type.IntegerType.TheVariants.{Int64}
+use Rattle.arrow_types.specs.declared.schema.Field.{Field}
+use Rattle.arrow_types.specs.declared.schema.Schema.{Schema}
+use Rattle.arrow_types.specs.Answer.{answered_field}
 use Rattle.sql_query.specs.declared.query.Expression.{Expression}
 use Rattle.sql_query.specs.declared.query.Expression.TheVariants.{Column, CountRows, Count, Sum}
 use Rattle.sql_query.specs.declared.query.SelectItem.{SelectItem}

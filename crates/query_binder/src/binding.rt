@@ -1,7 +1,7 @@
 //! Binding: the names of a query become columns, and the query a plan.
 
 ghost use Rattle.std.specs.Prelude.{◌≡◌, ◌∷◌, false, Err, IfOk, IfSome, map, option_map};
-ghost use Rattle.arrow_schema.specs.Schema.{IsSchema};
+ghost use Rattle.arrow_types.specs.Schema.{IsSchema};
 ghost use Rattle.scan_base.specs.View.{pred_of};
 ghost use Rattle.sql_query.specs.Sentence.{sentence_of, is_left_out_whole};
 ghost use Rattle.table_versions.specs.Stored.{tables_of};
@@ -22,7 +22,7 @@ use crate::places::{check_joins, place_tables};
 use crate::predicate::number_predicate;
 use crate::scope::Scope;
 use crate::selection::bind_output;
-use arrow_schema::Schema;
+use arrow_types::Schema;
 use scan_base::{Fault, Predicate};
 use sql_query::{ColumnName, Query};
 use std::alloc::{AllocError, Global};

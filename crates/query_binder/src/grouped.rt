@@ -3,13 +3,13 @@
 ghost use Rattle.std.specs.Prelude.{◌≡◌, ◌==◌, ◌<◌, ◌+◌, ◌^◌, [], true, false, IfOk, MatchOption};
 ghost use Rattle.std.specs.Prelude.{length, map, unwrap_or};
 ghost use Rattle.std.specs.List.{list_any};
-ghost use Rattle.arrow_schema.specs.declared.data_type.DataType.TheVariants.{
+ghost use Rattle.arrow_types.specs.declared.data_type.DataType.TheVariants.{
   Integer as IntegerColumn,
 };
-ghost use Rattle.arrow_schema.specs.declared.data_type.DataType.TheVariants.{
+ghost use Rattle.arrow_types.specs.declared.data_type.DataType.TheVariants.{
   Decimal128 as DecimalColumn,
 };
-ghost use Rattle.arrow_schema.specs.declared.data_type.IntegerType.TheVariants.{
+ghost use Rattle.arrow_types.specs.declared.data_type.IntegerType.TheVariants.{
   Int64 as SignedLong,
 };
 ghost use Rattle.sql_query.specs.declared.query.Expression.TheVariants.{Column as Named};
@@ -28,7 +28,7 @@ ghost use Rattle.typed_plan.specs.Scope.{column_of, numbered};
 use crate::answer::answer_field;
 use crate::scope::Scope;
 use crate::selection::check_width;
-use arrow_schema::{DataType, Field, IntegerType, Schema};
+use arrow_types::{DataType, Field, IntegerType, Schema};
 use scan_base::{Fault, Items, Text};
 use sql_query::{ColumnName, Expression, SelectItem};
 use std::alloc::{AllocError, Global};

@@ -17,7 +17,7 @@ use crate::MAX_COLUMNS;
 use crate::answer::answer_field;
 use crate::grouped::bind_groups;
 use crate::scope::Scope;
-use arrow_schema::{Field, Schema};
+use arrow_types::{Field, Schema};
 use scan_base::{Fault, Items};
 use sql_query::{Expression, Query, Select, SelectItem};
 use std::alloc::Global;

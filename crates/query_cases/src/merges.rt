@@ -1,8 +1,8 @@
 //! Groups of two parts of rows, of which those of the second are merged after those of the first.
 
 ghost use Rattle.std.specs.Prelude.{◌≡◌, ◌≤◌, ◌<◌, ◌∷◌, [], All, IfOk, None, length};
-ghost use Rattle.arrow_schema.specs.declared.data_type.DataType.TheVariants.{Integer};
-ghost use Rattle.arrow_schema.specs.declared.data_type.IntegerType.TheVariants.{Int64};
+ghost use Rattle.arrow_types.specs.declared.data_type.DataType.TheVariants.{Integer};
+ghost use Rattle.arrow_types.specs.declared.data_type.IntegerType.TheVariants.{Int64};
 ghost use Rattle.arrays.specs.Batch.{BatchAt};
 ghost use Rattle.arrays.specs.Typed.{AreOf};
 ghost use Rattle.grouping.specs.Fed.{AreTyped, HasItems};
@@ -10,7 +10,7 @@ ghost use Rattle.grouping.specs.Fed.{AreTyped, HasItems};
 use crate::rows::push_rows;
 use array_select::{Selection, column_of_int64s};
 use arrays::{Batch, Column};
-use arrow_schema::{DataType, IntegerType};
+use arrow_types::{DataType, IntegerType};
 use grouping::{Answers, Grouping, Groups};
 use hash_seed::HashSeed;
 use scan_base::Fault;

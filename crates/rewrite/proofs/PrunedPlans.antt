@@ -1,9 +1,9 @@
 -- A plan with a pruned tree is well typed, and stands for the one that it was made of.
 use Rattle.std.proofs.Common.{◌≡◌, ◌≤◌, ℕ, Bool, true, List, length, map, refl, sym, ap, ◌∙◌, subst, arith}
 use Rattle.std.specs.List.{AllByRecursion}
-use Rattle.arrow_schema.specs.Answer.{answered_from}
-use Rattle.arrow_schema.specs.declared.data_type.DataType.{DataType}
-use Rattle.arrow_schema.specs.declared.schema.Schema.{Schema}
+use Rattle.arrow_types.specs.Answer.{answered_from}
+use Rattle.arrow_types.specs.declared.data_type.DataType.{DataType}
+use Rattle.arrow_types.specs.declared.schema.Schema.{Schema}
 use Rattle.scan_base.specs.Predicate.{Pred, names_only}
 use Rattle.table_versions.specs.Table.{Name}
 use Rattle.typed_plan.specs.declared.plan.Columns.{Columns}

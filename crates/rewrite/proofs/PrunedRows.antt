@@ -12,7 +12,7 @@ use Rattle.scan_base.specs.Predicate.{Pred, cell_in, names_only}
 use Rattle.scan_base.specs.Truth.{keeps}
 use Rattle.rewrite.specs.Pruned.{kept, is_used, number_in, key_in, pruned, uses_key, AreUsed, PruningKeepsRows}
 use Rattle.rewrite.specs.Places.{first_rows, rows_over, tree_width}
-use Rattle.arrow_schema.specs.declared.schema.Schema.{Schema}
+use Rattle.arrow_types.specs.declared.schema.Schema.{Schema}
 use Rattle.table_versions.specs.Table.{Row}
 use Rattle.typed_plan.specs.Held.{tree_schemas}
 use Rattle.typed_plan.specs.Numbered.{predicate_map}

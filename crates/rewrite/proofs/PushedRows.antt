@@ -8,7 +8,7 @@ use Rattle.rewrite.specs.Conjuncts.{parts_of, all_of, all_true}
 use Rattle.rewrite.specs.Laws.{AreWide, PushingKeepsRows}
 use Rattle.rewrite.specs.Pushed.{is_left, is_right, is_both, moved, above, pushed}
 use Rattle.rewrite.specs.Places.{first_rows, rows_over, tree_width}
-use Rattle.arrow_schema.specs.declared.schema.Schema.{Schema}
+use Rattle.arrow_types.specs.declared.schema.Schema.{Schema}
 use Rattle.table_versions.specs.Table.{Row}
 use Rattle.typed_plan.specs.Held.{tree_schemas}
 use Rattle.typed_plan.specs.Typed.{tree_types, type_at, types_of}

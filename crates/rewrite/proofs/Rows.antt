@@ -1,6 +1,6 @@
 -- Worked rows: predicates folded, filters pushed below joins, and columns left out, worked out by hand.
 use Rattle.std.proofs.Common.{◌≡◌, ℕ, List, [], ◌∷◌, refl, pos}
-use Rattle.arrow_schema.specs.declared.schema.Schema.{Schema}
+use Rattle.arrow_types.specs.declared.schema.Schema.{Schema}
 use Rattle.scan_base.specs.declared.comparison.Comparison.TheVariants.{Less, Equal}
 use Rattle.scan_base.specs.declared.predicate.Operand.{Operand}
 use Rattle.scan_base.specs.declared.predicate.Operand.TheVariants as operand

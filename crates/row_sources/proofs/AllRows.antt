@@ -6,7 +6,7 @@ use Rattle.std.proofs.lemmas.List.{map-append, length-map}
 use Rattle.std.proofs.lemmas.List.Elements.{All-push}
 use Rattle.arrays.specs.Batch.{BatchAt, rows_of}
 use Rattle.arrays.specs.Typed.{AreOf}
-use Rattle.arrow_schema.specs.declared.data_type.DataType.{DataType}
+use Rattle.arrow_types.specs.declared.data_type.DataType.{DataType}
 use Rattle.table_versions.specs.Table.{Row}
 use Rattle.table_versions.proofs.Rowing.{length-rows_of}
 use Rattle.row_sources.specs.declared.piece.Piece.{Piece}

@@ -6,9 +6,9 @@ use Rattle.std.proofs.lemmas.Bool.{lt-ltb}
 use Rattle.std.proofs.lemmas.List.{drop_all, length-map, map-append, take_all}
 use Rattle.std.proofs.lemmas.List.Elements.{filter-append, length_all_zip}
 use Rattle.std.proofs.lemmas.Option.{slice_get_within}
-use Rattle.arrow_schema.specs.Answer.{LiesAs}
-use Rattle.arrow_schema.specs.declared.data_type.DataType.{DataType}
-use Rattle.arrow_schema.specs.declared.schema.Schema.{Schema}
+use Rattle.arrow_types.specs.Answer.{LiesAs}
+use Rattle.arrow_types.specs.declared.data_type.DataType.{DataType}
+use Rattle.arrow_types.specs.declared.schema.Schema.{Schema}
 use Rattle.arrays.specs.Batch.{BatchAt, rows_of}
 use Rattle.scan_base.specs.Limits.{most_rows}
 use Rattle.scan_base.specs.Predicate.{cell_in}

@@ -1,7 +1,7 @@
 -- Rows of a tree, before the first one.
 use Rattle.std.specs.Prelude.{◌≡◌, ℕ, All, List, [], ◌∷◌, length, map}
 use Rattle.std.specs.List.{AllZip}
-use Rattle.arrow_schema.specs.Answer.{LiesAs}
+use Rattle.arrow_types.specs.Answer.{LiesAs}
 use Rattle.table_versions.specs.Stored.{TableAt}
 use Rattle.table_versions.specs.Table.{Row}
 use Rattle.typed_plan.specs.Plan.{Tree}

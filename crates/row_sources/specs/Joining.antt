@@ -2,14 +2,14 @@
 use Rattle.std.specs.Prelude.{◌≡◌, ◌-◌, IsTrue, List, [], length, map, nat_lt, ◌≤◌, ℕ, ◌+◌, All}
 use Rattle.std.specs.Prelude.{◌++◌}
 use Rattle.std.specs.List.{list_all, range_with_len, filter, flat_map}
-use Rattle.arrow_schema.specs.declared.data_type.DataType.{DataType}
+use Rattle.arrow_types.specs.declared.data_type.DataType.{DataType}
 use Rattle.join_batches.specs.declared.joiner.JoinSides.{JoinSides}
 use Rattle.join_batches.specs.Joiner.{JoinerAt, joined_types}
 use Rattle.table_versions.specs.Table.{Row}
 use Rattle.typed_plan.specs.declared.plan.JoinKey.{JoinKey}
 use Rattle.row_sources.specs.Joined.{joined_at}
 use Rattle.row_sources.specs.Running.{RowsAt, picked_of}
-use Rattle.arrow_schema.specs.Answer.{copied_type}
+use Rattle.arrow_types.specs.Answer.{copied_type}
 use Rattle.scan_base.specs.Limits.{most_rows}
 use Rattle.typed_plan.specs.Plan.{fits}
 use Rattle.typed_plan.specs.Typed.{spans}

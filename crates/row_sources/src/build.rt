@@ -20,7 +20,7 @@ use crate::picker::Picker;
 use crate::row_source::Reading;
 use crate::rows::{Rows, Source};
 use crate::scan_source::scan_source;
-use arrow_schema::DataType;
+use arrow_types::DataType;
 use scan_base::Predicate;
 use std::alloc::{AllocError, Global};
 use std::sync::Arc;

@@ -1,7 +1,7 @@
 //! What gives joined rows.
 
 ghost use Rattle.std.specs.Prelude.{◌≡◌, ◌≤◌, [], ◌++◌, IfOk, length, map, OnOk};
-ghost use Rattle.arrow_schema.specs.Answer.{copied_type};
+ghost use Rattle.arrow_types.specs.Answer.{copied_type};
 ghost use Rattle.join_batches.specs.Joiner.{joined_types};
 ghost use Rattle.scan_base.specs.Limits.{most_rows};
 ghost use Rattle.row_sources.specs.Joining.{CanJoin, JoinsRows, HasKeys, IsSides, all_joined};
@@ -14,7 +14,7 @@ use crate::build::Sourced;
 use crate::collected::collect_watched;
 use crate::columns::numbers_below;
 use crate::rows::{Joining, Source};
-use arrow_schema::DataType;
+use arrow_types::DataType;
 use hash_seed::HashSeed;
 use join_batches::{JoinSide, JoinSides, Joiner, SeededSides};
 use std::alloc::{AllocError, Global};

@@ -9,7 +9,7 @@ ghost use Rattle.batch_skipping.specs.Narrow.{CanNarrow, narrowed};
 ghost use Rattle.row_sources.specs.OpenedTables.{CanAll, narrow_all};
 
 use arrays::Batch;
-use arrow_schema::Schema;
+use arrow_types::Schema;
 use batch_skipping::OpenedList;
 use std::alloc::{AllocError, Global};
 use std::marker::Model;

@@ -3,7 +3,7 @@
 ghost use Rattle.std.specs.Prelude.{◌≡◌, ◌≤◌, true, IfOk, IsTrue, length, map, OnOk};
 ghost use Rattle.std.specs.List.{flat_map, range_with_len};
 ghost use Rattle.arrays.specs.Batch.{rows_of};
-ghost use Rattle.arrow_schema.specs.declared.schema.Schema.{Schema};
+ghost use Rattle.arrow_types.specs.declared.schema.Schema.{Schema};
 ghost use Rattle.rewrite.specs.Folded.{is_folded_tree};
 ghost use Rattle.rewrite.specs.Pruned.{IsPruned};
 ghost use Rattle.rewrite.specs.Pushed.{is_pushed};
@@ -22,7 +22,7 @@ use crate::build::{Sourced, build};
 use crate::opened_table::OpenedTable;
 use crate::picker::Picker;
 use crate::rows::Rows;
-use arrow_schema::DataType;
+use arrow_types::DataType;
 use hash_seed::HashSeed;
 use std::alloc::{AllocError, Global};
 use std::marker::Model;

@@ -20,7 +20,7 @@ use crate::opened_table::OpenedTable;
 use crate::place::PlaceRows;
 use crate::row_source::Reading;
 use crate::rows::Source;
-use arrow_schema::{DataType, Field};
+use arrow_types::{DataType, Field};
 use std::alloc::{AllocError, Global};
 use typed_plan::Columns;
 

@@ -2,7 +2,7 @@
 
 ghost use Rattle.std.specs.Prelude.{◌≡◌, ◌↔◌, ◌≤◌, ◌<◌, ◌^◌, ◌+◌, length, map, IfNone, IfOk};
 ghost use Rattle.std.specs.Prelude.{IfSome, IsSome, MatchOption};
-ghost use Rattle.arrow_schema.specs.Schema.{IsSchema};
+ghost use Rattle.arrow_types.specs.Schema.{IsSchema};
 ghost use Rattle.scan_base.specs.Limits.{most_columns, most_values};
 ghost use Rattle.arrays.specs.Typed.{AreOfTypes};
 ghost use Rattle.ipc_batch.specs.Seen.{written_seen};
@@ -15,7 +15,8 @@ ghost use Rattle.row_stream.specs.inside.Frames.{as_message, SaysSchema};
 
 use crate::dresser::Dresser;
 use arrays::Batch;
-use arrow_schema::{Schema, write_schema};
+use arrow_schema::write_schema;
+use arrow_types::Schema;
 use bytes::Bytes;
 use dictionary_answers::{DressedBatch, dress};
 use ipc_batch::{SizedBatch, WrittenMessage};

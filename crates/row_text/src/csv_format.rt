@@ -13,7 +13,7 @@ use crate::text::{Spelling, send_spelled};
 use crate::value::{TypedValue, ValueFormat, send_plain_day, send_value, type_shown};
 use crate::walk::write_all;
 use arrays::Batch;
-use arrow_schema::{Field, Schema};
+use arrow_types::{Field, Schema};
 use grpc_frame::{Outbox, Output};
 use scan_base::{Fault, ValueRef};
 use std::alloc::Global;

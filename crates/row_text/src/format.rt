@@ -6,7 +6,7 @@ ghost use Rattle.grpc_frame.specs.Ends.{CanFail, CountsFailure, FailsByTransport
 ghost use Rattle.grpc_frame.specs.Sending.{Sends};
 ghost use Rattle.row_text.specs.Rows.{Format};
 
-use arrow_schema::Field;
+use arrow_types::Field;
 use grpc_frame::{Outbox, Output};
 use scan_base::{Fault, ValueRef};
 

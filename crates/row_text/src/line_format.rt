@@ -11,7 +11,7 @@ use crate::text::{Escaped, Spelling, send_spelled};
 use crate::value::{TypedValue, ValueFormat, send_value, type_shown};
 use crate::walk::write_all;
 use arrays::Batch;
-use arrow_schema::{Field, Schema};
+use arrow_types::{Field, Schema};
 use calendar::date_shown;
 use grpc_frame::{Outbox, Output};
 use scan_base::{Fault, Text};

@@ -2,7 +2,7 @@
 
 ghost use Rattle.std.specs.Prelude.{◌≡◌, All, length};
 ghost use Rattle.std.specs.List.{flat_map};
-ghost use Rattle.arrow_schema.specs.Schema.{IsSchema};
+ghost use Rattle.arrow_types.specs.Schema.{IsSchema};
 ghost use Rattle.arrays.specs.Batch.{rows_of};
 ghost use Rattle.arrays.specs.Typed.{AreOfTypes};
 ghost use Rattle.grpc_frame.specs.Ends.{CanFail, CountsFailure, FailsByTransport, Writes};
@@ -14,7 +14,7 @@ use crate::table_format::Aligned;
 use crate::walk::{send_batches, send_names};
 use crate::widths::widths_of;
 use arrays::Batch;
-use arrow_schema::Schema;
+use arrow_types::Schema;
 use grpc_frame::{Outbox, Output};
 use itoa::Buffer;
 use scan_base::Fault;

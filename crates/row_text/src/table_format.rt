@@ -8,7 +8,7 @@ use crate::shape::{Shape, before, behind};
 use crate::text::{Escaped, send_spelled};
 use crate::value::{TypedValue, ValueFormat, send_plain_day, send_value, type_shown};
 use crate::widths::{text_width, value_width};
-use arrow_schema::Field;
+use arrow_types::Field;
 use grpc_frame::{Outbox, Output};
 use scan_base::Fault;
 

@@ -9,7 +9,7 @@ ghost use Rattle.row_text.specs.Rows.{names_row, rows_text, values_row};
 
 use crate::format::{Cell, RowFormat};
 use arrays::{Batch, Cells, Column};
-use arrow_schema::Field;
+use arrow_types::Field;
 use grpc_frame::{Outbox, Output};
 use scan_base::Fault;
 use std::alloc::Global;

@@ -5,7 +5,7 @@ ghost use Rattle.std.specs.List.{count_by, flat_map};
 ghost use Rattle.scan_base.specs.Limits.{most_columns};
 ghost use Rattle.scan_base.specs.Value.{value_of};
 ghost use Rattle.scan_base.specs.declared.value.Value.TheVariants.{Int};
-ghost use Rattle.arrow_schema.specs.declared.data_type.DataType.TheVariants.{Date};
+ghost use Rattle.arrow_types.specs.declared.data_type.DataType.TheVariants.{Date};
 ghost use Rattle.arrays.specs.Batch.{rows_of};
 ghost use Rattle.arrays.specs.Column.{values_of};
 ghost use Rattle.row_text.specs.Tables.{column_of, column_width, greatest, is_escaped};
@@ -13,7 +13,7 @@ ghost use Rattle.row_text.specs.Tables.{text_width, value_width, widths_from};
 
 use arrays::{Batch, Cells, Column};
 use arrayvec::ArrayVec;
-use arrow_schema::{DataType, Field};
+use arrow_types::{DataType, Field};
 use calendar::date_of;
 use itoa::Buffer;
 use scan_base::ValueRef;

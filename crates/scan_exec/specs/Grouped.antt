@@ -1,8 +1,8 @@
 -- Inside: rows that are grouped, and what is given of their groups.
 use Rattle.std.specs.Prelude.{◌≡◌, ◌≤◌, ℕ, List, [], length, map, take, None}
 use Rattle.std.specs.List.{flat_map}
-use Rattle.arrow_schema.specs.Answer.{copied_type}
-use Rattle.arrow_schema.specs.declared.data_type.DataType.{DataType}
+use Rattle.arrow_types.specs.Answer.{copied_type}
+use Rattle.arrow_types.specs.declared.data_type.DataType.{DataType}
 use Rattle.arrays.specs.Batch.{BatchAt, rows_of}
 use Rattle.scan_base.specs.Limits.{most_rows}
 use Rattle.table_versions.specs.Table.{Row}

@@ -4,9 +4,9 @@ use Rattle.std.specs.Prelude.{Some, None, Result, Ok, Err}
 use Rattle.std.specs.List.{last_or}
 use Rattle.arrays.specs.Batch.{BatchAt, rows_of}
 use Rattle.arrays.specs.Typed.{AreOf}
-use Rattle.arrow_schema.specs.Answer.{LieBehind}
-use Rattle.arrow_schema.specs.declared.data_type.DataType.{DataType}
-use Rattle.arrow_schema.specs.declared.schema.Schema.{Schema}
+use Rattle.arrow_types.specs.Answer.{LieBehind}
+use Rattle.arrow_types.specs.declared.data_type.DataType.{DataType}
+use Rattle.arrow_types.specs.declared.schema.Schema.{Schema}
 use Rattle.array_select.specs.Room.{most_batch_rows}
 use Rattle.scan_base.specs.Limits.{most_answer_rows}
 use Rattle.scan_base.specs.declared.fault.Fault.{Fault}

@@ -16,7 +16,7 @@ use crate::answer::{Answer, answer_of};
 use crate::group_work::GroupsBatches;
 use crate::opened::{further_batches, push_numbers};
 use arrays::Batch;
-use arrow_schema::Schema;
+use arrow_types::Schema;
 use batch_skipping::opened_lists;
 use hash_seed::HashSeed;
 use rewrite::laws::skipping_keeps_rows;

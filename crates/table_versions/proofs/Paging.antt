@@ -4,7 +4,7 @@ use Rattle.std.proofs.Common.{◌≡◌, ◌<◌, ◌≤◌, ℕ, zero, suc, ◌
 use Rattle.std.specs.List.{flat_map}
 use Rattle.std.specs.Slice.{IsItemAt}
 use Rattle.std.proofs.lemmas.Option.{slice_get_read}
-use Rattle.arrow_schema.specs.declared.schema.Schema.{Schema}
+use Rattle.arrow_types.specs.declared.schema.Schema.{Schema}
 use Rattle.arrays.specs.Batch.{BatchAt, rows_of}
 use Rattle.arrays.specs.Typed.{AreOfTypes}
 use Rattle.batch_stats.specs.declared.beginnings.Beginnings.{Beginnings}

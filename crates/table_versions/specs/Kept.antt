@@ -2,9 +2,9 @@
 -- it to say that what it takes or gives is so; what a put means needs none of it.
 use Rattle.std.specs.Prelude.{◌≡◌, ◌≤◌, ℕ, false, IsTrue, All, List, length}
 use Rattle.std.specs.List.{list_all, list_any}
-use Rattle.arrow_schema.specs.declared.schema.Field.{Field}
-use Rattle.arrow_schema.specs.declared.schema.Schema.{Schema}
-use Rattle.arrow_schema.specs.Schema.{IsSchema}
+use Rattle.arrow_types.specs.declared.schema.Field.{Field}
+use Rattle.arrow_types.specs.declared.schema.Schema.{Schema}
+use Rattle.arrow_types.specs.Schema.{IsSchema}
 use Rattle.arrays.specs.Batch.{AreLong, BatchAt}
 use Rattle.arrays.specs.Column.{IsColumn}
 use Rattle.arrays.specs.Typed.{AreOfTypes}

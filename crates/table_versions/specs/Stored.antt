@@ -1,7 +1,7 @@
 -- What is stored: tables with their rows in batches, and what they are as plain lists.
 use Rattle.std.specs.Prelude.{ℕ, Bool, List, ◌++◌, map, nat_lt, Option, Some, None, Result}
 use Rattle.std.specs.List.{filter, flat_map}
-use Rattle.arrow_schema.specs.declared.schema.Schema.{Schema}
+use Rattle.arrow_types.specs.declared.schema.Schema.{Schema}
 use Rattle.arrays.specs.Batch.{BatchAt, rows_of}
 use Rattle.scan_base.specs.declared.fault.Fault.{Fault}
 use Rattle.scan_base.specs.Reading.{first_fault, unless}

@@ -11,7 +11,7 @@ ghost use Rattle.table_versions.specs.Kept.{Stands};
 
 use crate::limits::MAX_TEXT_BYTES;
 use arrays::{Batch, Cells, Column};
-use arrow_schema::Field;
+use arrow_types::Field;
 use batch_stats::MeasuredBatch;
 use scan_base::ValueRef;
 

@@ -25,7 +25,7 @@ use crate::put::Put;
 use crate::snapshot::Snapshot;
 use crate::table::TableVersion;
 use arrays::laws::values_are_of_their_type;
-use arrow_schema::Schema;
+use arrow_types::Schema;
 use batch_stats::MeasuredBatch;
 use scan_base::{Fault, IfExists, Text};
 use std::alloc::{AllocError, Global};

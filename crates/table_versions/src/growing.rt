@@ -3,7 +3,7 @@
 ghost use Rattle.std.specs.Prelude.{◌≡◌, ◌+◌, ◌<◌, ◌≤◌, ◌∷◌, ◌++◌, [], length, IfOk, IsTrue, All};
 ghost use Rattle.std.specs.List.{flat_map};
 ghost use Rattle.std.specs.Arc.{arc_value};
-ghost use Rattle.arrow_schema.specs.Schema.{IsSchema};
+ghost use Rattle.arrow_types.specs.Schema.{IsSchema};
 ghost use Rattle.arrays.specs.Batch.{BatchAt, rows_of};
 ghost use Rattle.arrays.specs.Typed.{AreOfTypes};
 ghost use Rattle.scan_base.specs.Limits.{most_rows};
@@ -14,7 +14,7 @@ ghost use Rattle.table_versions.specs.StatsPages.{AreRowsFrom, AreStatsFrom, IsP
 
 use crate::placed_batch::PlacedBatch;
 use crate::stats_page::{PAGE_BATCHES, StatsPage};
-use arrow_schema::Schema;
+use arrow_types::Schema;
 use batch_stats::{MeasuredBatch, OwnedStats};
 use shared_pages::Pages;
 use std::alloc::{AllocError, Global};

@@ -3,7 +3,7 @@
 ghost use Rattle.std.specs.Prelude.{◌≡◌, ◌<◌, ◌≤◌, ◌*◌, ◌/◌, Some, length, option_map, slice_get};
 ghost use Rattle.std.specs.Prelude.{IfOk, IfSome};
 ghost use Rattle.std.specs.Arc.{arc_value};
-ghost use Rattle.arrow_schema.specs.Schema.{IsSchema};
+ghost use Rattle.arrow_types.specs.Schema.{IsSchema};
 ghost use Rattle.arrays.specs.Batch.{BatchAt, rows_of};
 ghost use Rattle.arrays.specs.Typed.{AreOfTypes};
 ghost use Rattle.batch_stats.specs.Beginnings.{AreBeginnings};
@@ -19,7 +19,7 @@ use crate::growing::GrowingTable;
 use crate::placed_batch::PlacedBatch;
 use crate::stats_page::{PAGE_BATCHES, StatsPage};
 use arrays::Batch;
-use arrow_schema::Schema;
+use arrow_types::Schema;
 use batch_stats::{Beginnings, MeasuredBatch, OwnedStats, Side};
 use shared_pages::Pages;
 use std::alloc::{AllocError, Global};

@@ -1,6 +1,6 @@
 -- The tables that a plan holds.
 use Rattle.std.specs.Prelude.{◌≡◌, List, [], ◌∷◌, ◌++◌, map, Some}
-use Rattle.arrow_schema.specs.declared.schema.Schema.{Schema}
+use Rattle.arrow_types.specs.declared.schema.Schema.{Schema}
 use Rattle.table_versions.specs.Database.{table_at}
 use Rattle.table_versions.specs.Stored.{TableAt, CatalogAt}
 use Rattle.table_versions.specs.Table.{Name}

@@ -2,7 +2,7 @@
 use Rattle.std.specs.Prelude.{ℕ, ◌-◌, Bool, true, List, [], ◌∷◌, ◌++◌, map, take, drop, Option}
 use Rattle.std.specs.Prelude.{Some, None}
 use Rattle.std.specs.List.{list_all, filter, flat_map}
-use Rattle.arrow_schema.specs.declared.schema.Field.{Field}
+use Rattle.arrow_types.specs.declared.schema.Field.{Field}
 use Rattle.scan_base.specs.declared.comparison.Comparison.TheVariants.{Equal}
 use Rattle.scan_base.specs.Truth.{keeps}
 use Rattle.scan_base.specs.Comparison.{compared}

@@ -1,6 +1,6 @@
 -- The plan that a tree of boxes stands for.
 use Rattle.std.specs.Prelude.{List}
-use Rattle.arrow_schema.specs.declared.schema.Schema.{Schema}
+use Rattle.arrow_types.specs.declared.schema.Schema.{Schema}
 use Rattle.typed_plan.specs.declared.plan.Plan.{Plan, Scan, Filter', Join'}
 use Rattle.typed_plan.specs.declared.plan.Output.{Output}
 use Rattle.scan_base.specs.View.{pred_of}

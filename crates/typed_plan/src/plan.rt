@@ -6,7 +6,7 @@ ghost use Rattle.typed_plan.specs.Held.{tree_schemas};
 ghost use Rattle.typed_plan.specs.Typed.{IsTyped};
 ghost use Rattle.typed_plan.specs.View.{tree_of, plan_of};
 
-use arrow_schema::Schema;
+use arrow_types::Schema;
 use scan_base::{Items, Predicate, Text};
 use std::marker::Model;
 use table_versions::TableVersion;

@@ -5,8 +5,8 @@ use Rattle.std.specs.Int.{w128, cast_unsigned}
 use Rattle.scan_base.specs.declared.value.Value.{Value}
 use Rattle.scan_base.specs.declared.value.Value.TheVariants.{Null, Bool, Int}
 use Rattle.scan_base.specs.Value.{is_null}
-use Rattle.arrow_schema.specs.declared.data_type.DataType.{DataType}
-use Rattle.arrow_schema.specs.Answer.{copied_type}
+use Rattle.arrow_types.specs.declared.data_type.DataType.{DataType}
+use Rattle.arrow_types.specs.Answer.{copied_type}
 use Rattle.arrays.specs.Number.{element_at}
 use Rattle.arrays.specs.Validity.{is_valid, IsLong}
 use Rattle.arrays.specs.Layout.{layout_count, layout_slot, IsLayout}

@@ -1,7 +1,7 @@
 -- Inside: streams that are written as they come, one after the other.
 use Rattle.std.specs.Prelude.{◌≡◌, true, List, [], ◌∷◌, ◌++◌, Result, Ok, Err}
 use Rattle.scan_base.specs.declared.fault.Fault.TheVariants.{SchemaMismatch}
-use Rattle.arrow_schema.specs.declared.schema.Schema.{Schema}
+use Rattle.arrow_types.specs.declared.schema.Schema.{Schema}
 use Rattle.table_versions.specs.Table.{same_fields}
 use Rattle.flight_proto.specs.FlightInfo.{EndpointSaid}
 use Rattle.flight_info.specs.Payloads.{Payload}

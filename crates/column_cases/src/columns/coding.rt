@@ -3,16 +3,16 @@
 ghost use Rattle.std.specs.Prelude.{◌≡◌, ◌≤◌, [], ◌∷◌, All, IfOk, map};
 ghost use Rattle.scan_base.specs.Limits.{most_values};
 ghost use Rattle.scan_base.specs.Value.{IsTextOrNull};
-ghost use Rattle.arrow_schema.specs.declared.data_type.DataType.TheVariants.{
+ghost use Rattle.arrow_types.specs.declared.data_type.DataType.TheVariants.{
   Dictionary as DictionaryColumn,
 };
-ghost use Rattle.arrow_schema.specs.declared.data_type.IntegerType.TheVariants.{Int32 as Four};
+ghost use Rattle.arrow_types.specs.declared.data_type.IntegerType.TheVariants.{Int32 as Four};
 ghost use Rattle.arrays.specs.Column.{values_of};
 
 use anyhow::{Result, bail};
 use arrays::laws::values_are_of_their_type;
 use arrays::{Batch, Cells, Column, Layout, Slots};
-use arrow_schema::{DataType, DictionaryEncoding, Field, IntegerType, Schema};
+use arrow_types::{DataType, DictionaryEncoding, Field, IntegerType, Schema};
 use dictionary_answers::{Stop, code_batch, code_column, column_of_indices};
 use hash_seed::HashSeed;
 use scan_base::{Items, Text};

@@ -4,7 +4,7 @@ use crate::columns::case::{Case, number};
 use crate::pieces::{buffer, optional_buffer};
 use anyhow::{Context, Result};
 use arrays::{Dictionary, Slots, Texts};
-use arrow_schema::IntegerType;
+use arrow_types::IntegerType;
 use bytes::Bytes;
 use std::alloc::Global;
 use std::sync::Arc;

@@ -1,7 +1,7 @@
 //! Slots of columns in any order, and more than once, as a column of its own.
 
 ghost use Rattle.std.specs.Prelude.{◌≡◌, ◌<◌, All, IfOk};
-ghost use Rattle.arrow_schema.specs.declared.data_type.DataType.{DataType};
+ghost use Rattle.arrow_types.specs.declared.data_type.DataType.{DataType};
 ghost use Rattle.arrays.specs.Typed.{IsOfType};
 ghost use Rattle.array_select.specs.OfSlots.{IsSlotOf};
 
@@ -11,7 +11,7 @@ use crate::pieces::first_word;
 use anyhow::{Result, bail};
 use array_select::{SlotRef, column_of_slots, texts_fit};
 use arrays::{Cells, Column, Layout};
-use arrow_schema::{DataType, DictionaryEncoding};
+use arrow_types::{DataType, DictionaryEncoding};
 use std::alloc::Global;
 
 // How many turns there are, and how far the slot of each is after that of the one before.

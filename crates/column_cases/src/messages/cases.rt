@@ -1,12 +1,13 @@
 //! Cases: messages that a reader is given one after the other.
 
-ghost use Rattle.arrow_schema.specs.Schema.{IsSchema};
+ghost use Rattle.arrow_types.specs.Schema.{IsSchema};
 
 use crate::messages::answers::{Answer, answer_text, push_count, push_rows};
 use crate::messages::by_name::Messages;
 use anyhow::{Context, Result, bail};
 use arrays::Batch;
-use arrow_schema::{MAX_COLUMNS, Schema, write_schema};
+use arrow_schema::write_schema;
+use arrow_types::{MAX_COLUMNS, Schema};
 use bytes::Bytes;
 use ipc_batch::{Reader, WrittenMessage, write_batch};
 use std::alloc::{AllocError, Global};

@@ -2,9 +2,9 @@
 use Rattle.std.specs.Prelude.{◌≡◌, ◌<◌, ℕ, Bool as Truth, true, false, List, [], length, drop}
 use Rattle.std.specs.Prelude.{get_or}
 use Rattle.std.specs.List.{list_any}
-use Rattle.arrow_schema.specs.declared.data_type.IntegerType.TheVariants.{Int64}
-use Rattle.arrow_schema.specs.declared.data_type.DataType.TheVariants.{Integer, Bool, Decimal128}
-use Rattle.arrow_schema.specs.declared.data_type.DataType.TheVariants.{Date}
+use Rattle.arrow_types.specs.declared.data_type.IntegerType.TheVariants.{Int64}
+use Rattle.arrow_types.specs.declared.data_type.DataType.TheVariants.{Integer, Bool, Decimal128}
+use Rattle.arrow_types.specs.declared.data_type.DataType.TheVariants.{Date}
 use Rattle.csv_columns.specs.declared.seen.Seen.{Seen}
 use Rattle.csv_columns.specs.Found.{column_of, is_empty, takes_all}
 

@@ -6,7 +6,7 @@ use Rattle.scan_base.specs.declared.fault.Fault.{Fault}
 use Rattle.scan_base.specs.declared.fault.Fault.TheVariants.{LimitReached, OutOfMemory}
 use Rattle.scan_base.specs.declared.value.Value.TheVariants.{Null}
 use Rattle.scan_base.specs.declared.value.ValueRef.{ValueRef}
-use Rattle.arrow_schema.specs.declared.schema.Field.{Field}
+use Rattle.arrow_types.specs.declared.schema.Field.{Field}
 use Rattle.arrays.specs.Column.{ColumnAt, values_of}
 use Rattle.arrays.specs.Typed.{IsOfType, IsValueOf}
 use Rattle.arrays.specs.Written.{texts_joined}

@@ -1,9 +1,9 @@
 -- Inside: rows that are still to be cut into messages.
 use Rattle.std.specs.Prelude.{◌≡◌, ◌≤◌, ◌<◌, ◌-◌, ℕ, false, List, [], None, Option}
 use Rattle.std.specs.List.{list_any}
-use Rattle.arrow_schema.specs.declared.schema.Schema.{Schema}
-use Rattle.arrow_schema.specs.Answer.{LieBehind}
-use Rattle.arrow_schema.specs.Schema.{IsSchema}
+use Rattle.arrow_types.specs.declared.schema.Schema.{Schema}
+use Rattle.arrow_types.specs.Answer.{LieBehind}
+use Rattle.arrow_types.specs.Schema.{IsSchema}
 use Rattle.arrays.specs.Batch.{BatchAt, rows_of, cut_batch}
 use Rattle.arrays.specs.Column.{ColumnAt}
 use Rattle.dictionary_answers.specs.Dress.{AreDressable, AreNumbered}

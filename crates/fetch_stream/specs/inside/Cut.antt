@@ -1,6 +1,6 @@
 -- Inside: what cutting a batch gives.
 use Rattle.std.specs.Prelude.{◌≡◌, ◌≤◌, ◌<◌, ◌⊎◌, ℕ, ◌+◌, ◌*◌, ◌-◌, min}
-use Rattle.arrow_schema.specs.declared.schema.Schema.{Schema}
+use Rattle.arrow_types.specs.declared.schema.Schema.{Schema}
 use Rattle.arrays.specs.Batch.{cut_batch, rows_of}
 use Rattle.dictionary_answers.specs.Lengths.{dressed_length}
 use Rattle.flight_info.specs.Payloads.{FitMessages}

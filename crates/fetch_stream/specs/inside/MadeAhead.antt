@@ -3,7 +3,7 @@ use Rattle.std.specs.Prelude.{◌≡◌, ◌≢◌, ◌≤◌, ◌⊎◌, ℕ, �
 use Rattle.std.specs.Prelude.{drop, Option, Some, None, Result, Ok, Err}
 use Rattle.std.specs.List.{range_with_len}
 use Rattle.scan_base.specs.declared.fault.Fault.{Fault}
-use Rattle.arrow_schema.specs.declared.schema.Schema.{Schema}
+use Rattle.arrow_types.specs.declared.schema.Schema.{Schema}
 use Rattle.row_sources.specs.declared.turn.Patience.{Patience}
 use Rattle.row_sources.specs.declared.turn.Patience.TheVariants.{Endless}
 use Rattle.row_sources.specs.declared.turn.Turn.{Turn}

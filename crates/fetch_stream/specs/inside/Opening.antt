@@ -1,6 +1,6 @@
 -- Inside: what is meant, before it is scanned.
 use Rattle.std.specs.Prelude.{◌≡◌, ℕ, false, List, map, None, Option}
-use Rattle.arrow_schema.specs.Schema.{IsSchema}
+use Rattle.arrow_types.specs.Schema.{IsSchema}
 use Rattle.table_versions.specs.Table.{Row}
 use Rattle.scan_exec.specs.Given.{given_of}
 use Rattle.fetch_stream.specs.Streams.{StreamAt}

@@ -1,7 +1,7 @@
 -- Inside: what payloads say that are written.
 use Rattle.std.specs.Prelude.{◌≡◌, ◌≤◌, List, [], ◌∷◌, ◌++◌, length, Some, None, Ok}
 use Rattle.std.specs.List.{AllZip}
-use Rattle.arrow_schema.specs.declared.schema.Schema.{Schema}
+use Rattle.arrow_types.specs.declared.schema.Schema.{Schema}
 use Rattle.arrays.specs.Batch.{BatchAt}
 use Rattle.flight_proto.specs.FlightData.{DataSaid, data_of}
 use Rattle.ipc_batch.specs.Said.{Sent, Rows, news_of}

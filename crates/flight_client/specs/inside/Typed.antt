@@ -1,6 +1,6 @@
 -- Inside: the columns of the batches that a stream and rows hold.
 use Rattle.std.specs.Prelude.{◌≡◌, true, List, [], ◌∷◌, All, Option, Some, None}
-use Rattle.arrow_schema.specs.declared.schema.Schema.{Schema}
+use Rattle.arrow_types.specs.declared.schema.Schema.{Schema}
 use Rattle.arrays.specs.Batch.{BatchAt}
 use Rattle.arrays.specs.Typed.{AreOfTypes}
 use Rattle.ipc_batch.specs.State.{Known, State}

@@ -1,8 +1,8 @@
 -- Inside: what finishing needs, and what it makes, step by step.
 use Rattle.std.specs.Prelude.{◌≡◌, ◌≤◌, ◌<◌, ℕ, All, List, [], ◌∷◌, length, map, get_or}
 use Rattle.std.specs.List.{range_with_len}
-use Rattle.arrow_schema.specs.Answer.{copied_type}
-use Rattle.arrow_schema.specs.declared.data_type.DataType.{DataType}
+use Rattle.arrow_types.specs.Answer.{copied_type}
+use Rattle.arrow_types.specs.declared.data_type.DataType.{DataType}
 use Rattle.arrays.specs.Batch.{BatchAt, rows_of}
 use Rattle.arrays.specs.Column.{ColumnAt, values_of}
 use Rattle.arrays.specs.Typed.{AreOf, IsOfType}

@@ -1,7 +1,7 @@
 use Rattle.std.proofs.Common.{◌≡◌, ◌<◌, ℕ, All, false, map, take, get_or, not}
 use Rattle.scan_base.specs.Value.{is_null}
 use Rattle.scan_base.specs.declared.value.Value.TheVariants.{Null}
-use Rattle.arrow_schema.specs.declared.data_type.DataType.{DataType}
+use Rattle.arrow_types.specs.declared.data_type.DataType.{DataType}
 use Rattle.array_select.specs.inside.Filled.{AreOfType}
 use Rattle.array_select.proofs.filled.fill_validity.Given as goal
 

@@ -1,5 +1,5 @@
 use Rattle.std.proofs.Common.{◌≡◌, ◌-◌, All, length}
-use Rattle.arrow_schema.specs.Schema.{IsField}
+use Rattle.arrow_types.specs.Schema.{IsField}
 use Rattle.std.specs.List.{range_with_len}
 use Rattle.scan_base.specs.Lists.{each, behind}
 use Rattle.arrow_schema.specs.Header.{field_at}

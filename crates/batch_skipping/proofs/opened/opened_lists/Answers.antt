@@ -10,7 +10,7 @@ use Rattle.table_versions.specs.Stored.{TableAt, table_of}
 use Rattle.typed_plan.specs.declared.plan.Columns.{Columns}
 use Rattle.typed_plan.specs.declared.plan.Plan.{Plan}
 use Rattle.typed_plan.specs.View.{tree_of}
-use Rattle.arrow_schema.specs.declared.schema.Schema.{Schema}
+use Rattle.arrow_types.specs.declared.schema.Schema.{Schema}
 use Rattle.table_versions.specs.Kept.{IsKept}
 use Rattle.typed_plan.specs.Typed.{has_columns}
 use Rattle.batch_skipping.specs.declared.place_filter.PlaceColumns.{PlaceColumns}

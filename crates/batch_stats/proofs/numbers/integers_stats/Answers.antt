@@ -1,6 +1,6 @@
 use Rattle.std.proofs.Common.{◌≡◌, ℕ, ℤ, pos, List, sym, ap, ◌∙◌}
 use Rattle.std.specs.Int.{w8, w16, w32, w64, cast_signed}
-use Rattle.arrow_schema.specs.declared.data_type.IntegerType.{IntegerType}
+use Rattle.arrow_types.specs.declared.data_type.IntegerType.{IntegerType}
 use Rattle.arrays.specs.Number.{element_at, integer_at}
 use Rattle.batch_stats.proofs.Numerals.{integers_are, signed8, signed16, signed32, signed64}
 use Rattle.batch_stats.proofs.numbers.integers_stats.Goals as goal

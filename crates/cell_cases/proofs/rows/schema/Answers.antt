@@ -1,10 +1,10 @@
 use Rattle.std.proofs.Common.{◌≡◌, ◌∷◌, [], true, rules, refl, arith}
 use Rattle.std.specs.Prelude.{codes}
 use Rattle.std.proofs.lemmas.List.Elements.{All-nil, All-cons}
-use Rattle.arrow_schema.specs.Schema.{IsField, IsSchema}
-use Rattle.arrow_schema.specs.declared.schema.Field.{Field}
-use Rattle.arrow_schema.specs.declared.data_type.DataType.TheVariants.{Integer}
-use Rattle.arrow_schema.specs.declared.data_type.IntegerType.TheVariants.{Int64}
+use Rattle.arrow_types.specs.Schema.{IsField, IsSchema}
+use Rattle.arrow_types.specs.declared.schema.Field.{Field}
+use Rattle.arrow_types.specs.declared.data_type.DataType.TheVariants.{Integer}
+use Rattle.arrow_types.specs.declared.data_type.IntegerType.TheVariants.{Int64}
 use Rattle.cell_cases.proofs.rows.schema.Goals as goal
 
 abbrev column : Field

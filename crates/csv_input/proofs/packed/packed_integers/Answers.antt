@@ -1,7 +1,7 @@
 use Rattle.std.proofs.Common.{ℕ, map, length, subst}
 use Rattle.std.proofs.lemmas.List.{length-map}
 use Rattle.scan_base.specs.Value.{value_of}
-use Rattle.arrow_schema.specs.declared.data_type.DataType.TheVariants as type
+use Rattle.arrow_types.specs.declared.data_type.DataType.TheVariants as type
 use Rattle.arrays.specs.Number.{AreBytes}
 use Rattle.array_select.specs.inside.Filled.{AreNumbersOf}
 use Rattle.csv_input.proofs.Alike.{of_types}

@@ -1,5 +1,5 @@
 use Rattle.std.proofs.Common.{ℕ, List, Some}
-use Rattle.arrow_schema.specs.declared.schema.Schema.{Schema}
+use Rattle.arrow_types.specs.declared.schema.Schema.{Schema}
 use Rattle.table_versions.specs.Table.{Row}
 use Rattle.fetch_stream.specs.inside.MadeAhead.{AreAhead}
 use Rattle.fetch_stream.proofs.ahead.make_ahead.Given as goal

@@ -1,5 +1,5 @@
 use Rattle.std.proofs.Common.{◌∙◌, sym, subst}
-use Rattle.arrow_schema.specs.declared.schema.Schema.{Schema}
+use Rattle.arrow_types.specs.declared.schema.Schema.{Schema}
 use Rattle.table_versions.specs.Stored.{tables_of}
 use Rattle.arrays.specs.Batch.{rows_of}
 use Rattle.flight_info.specs.Tables.{tables_listed, tables_schema}

@@ -1,5 +1,5 @@
 use Rattle.std.proofs.Common.{sym, subst}
-use Rattle.arrow_schema.specs.declared.schema.Schema.{Schema}
+use Rattle.arrow_types.specs.declared.schema.Schema.{Schema}
 use Rattle.fetch_stream.specs.inside.Ahead.{AnsweredAs, schema_behind}
 use Rattle.fetch_stream.specs.inside.Cut.{Cuts}
 use Rattle.fetch_stream.specs.inside.Steps.{HasNext}

@@ -1,7 +1,7 @@
 use Rattle.std.proofs.Common.{◌≡◌, ℕ, ℤ, pos, List, IfOk, subst, sym, ap, ◌∙◌, arith}
 use Rattle.std.specs.Int.{w8, w16, w32, w64, cast_signed}
 use Rattle.scan_base.specs.declared.truth.Truth.{Truth}
-use Rattle.arrow_schema.specs.declared.data_type.IntegerType.{IntegerType}
+use Rattle.arrow_types.specs.declared.data_type.IntegerType.{IntegerType}
 use Rattle.arrays.specs.Number.{element_at, integer_at}
 use Rattle.kernels.proofs.Compared.{element_small, signed8, signed16, signed32, signed_same, unsigned_wide}
 use Rattle.kernels.proofs.Ranged.{integers_said}

@@ -1,6 +1,6 @@
 use Rattle.std.proofs.Common.{◌+◌, ℕ, List, pos, subst, sym, ap, ◌∙◌, arith}
 use Rattle.std.specs.Int.{w8, w16, w32, w64, cast_signed}
-use Rattle.arrow_schema.specs.declared.data_type.IntegerType.{IntegerType}
+use Rattle.arrow_types.specs.declared.data_type.IntegerType.{IntegerType}
 use Rattle.arrays.specs.Number.{AreBytes, element_at, integer_at}
 use Rattle.kernels.proofs.Compared.{element_small, signed8, signed16, signed32, signed_same, unsigned_wide}
 use Rattle.kernels.proofs.pairs.fill_integers.Goals as goal

@@ -1,6 +1,6 @@
 use Rattle.std.proofs.Common.{◌≡◌, ◌-◌, [], ◌∷◌, false, Some, None, length, map, take, drop, refl, sym, ap, subst, ◌∙◌, rules}
 use Rattle.std.proofs.lemmas.Result.{err_from_is_err_and}
-use Rattle.arrow_schema.specs.Schema.{IsSchema}
+use Rattle.arrow_types.specs.Schema.{IsSchema}
 use Rattle.std.specs.Option.{option_copied}
 use Rattle.sql_query.specs.Sentence.{sentence_of, is_left_out_whole}
 use Rattle.table_versions.specs.Stored.{TableAt, tables_of, plain}

@@ -1,7 +1,7 @@
 use Rattle.std.proofs.Common.{◌≡◌, ◌++◌, List, map, ap, sym, ◌∙◌, subst}
 use Rattle.std.proofs.lemmas.Result.{IfOk-weaker}
-use Rattle.arrow_schema.specs.Answer.{copied_type}
-use Rattle.arrow_schema.specs.declared.data_type.DataType.{DataType}
+use Rattle.arrow_types.specs.Answer.{copied_type}
+use Rattle.arrow_types.specs.declared.data_type.DataType.{DataType}
 use Rattle.join_batches.specs.declared.joiner.JoinSides.{JoinSides}
 use Rattle.join_batches.specs.Joiner.{JoinerAt, joined_types}
 use Rattle.typed_plan.specs.declared.plan.JoinKey.{JoinKey}

@@ -1,6 +1,6 @@
 use Rattle.std.proofs.Common.{◌≡◌, ◌<◌, ℕ, List, [], true, length, refl, sym, ap, ◌∙◌, subst, arith}
 use Rattle.std.specs.Arc.{arc_value}
-use Rattle.arrow_schema.specs.declared.data_type.DataType.{DataType}
+use Rattle.arrow_types.specs.declared.data_type.DataType.{DataType}
 use Rattle.join_batches.specs.Joiner.{joined_types, GivesJoined, GivesShown}
 use Rattle.batch_skipping.specs.Chosen.{are_within}
 use Rattle.table_versions.specs.Stored.{TableAt}

@@ -1,5 +1,5 @@
 use Rattle.std.proofs.Common.{IfOk, IfSome, sym, subst, arith}
-use Rattle.arrow_schema.specs.declared.schema.Schema.{Schema}
+use Rattle.arrow_types.specs.declared.schema.Schema.{Schema}
 use Rattle.arrays.specs.Typed.{AreOfTypes}
 use Rattle.dictionary_answers.specs.Dress.{IsDressedBatch}
 use Rattle.row_stream.specs.inside.Cuts.{HasBodyWithin, SayBatch}

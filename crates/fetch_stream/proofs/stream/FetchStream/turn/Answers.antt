@@ -1,7 +1,7 @@
 use Rattle.std.proofs.Common.{◌≡◌, ℕ, true, Result, Ok, refl, ap, sym, subst, ◌∙◌}
 use Rattle.scan_base.specs.declared.fault.Fault.{Fault}
 use Rattle.row_sources.specs.declared.turn.Turn.{Turn}
-use Rattle.arrow_schema.specs.declared.schema.Schema.{Schema}
+use Rattle.arrow_types.specs.declared.schema.Schema.{Schema}
 use Rattle.fetch_stream.specs.Streams.{StreamAt, RunningAt, LooksFor, Parcel}
 use Rattle.fetch_stream.specs.inside.Ahead.{schema_behind, rows_cut, unseen_behind}
 use Rattle.fetch_stream.specs.inside.Steps.{GivesFirst, rows_left}

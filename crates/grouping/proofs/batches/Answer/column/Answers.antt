@@ -1,9 +1,9 @@
 use Rattle.std.proofs.Common.{◌≡◌, ◌≤◌, ◌<◌, ◌+◌, ◌-◌, ◌^◌, List, All, length, map, get_or, sym, ap, ◌∙◌, subst, arith}
 use Rattle.std.proofs.lemmas.List.{length-map}
-use Rattle.arrow_schema.specs.Answer.{copied_type}
-use Rattle.arrow_schema.specs.declared.data_type.DataType.{DataType}
-use Rattle.arrow_schema.specs.declared.data_type.DataType.TheVariants.{Integer}
-use Rattle.arrow_schema.specs.declared.data_type.IntegerType.TheVariants.{Int8}
+use Rattle.arrow_types.specs.Answer.{copied_type}
+use Rattle.arrow_types.specs.declared.data_type.DataType.{DataType}
+use Rattle.arrow_types.specs.declared.data_type.DataType.TheVariants.{Integer}
+use Rattle.arrow_types.specs.declared.data_type.IntegerType.TheVariants.{Int8}
 use Rattle.scan_base.specs.declared.value.Value.{Value}
 use Rattle.array_select.specs.declared.of_slots.SlotRef.{SlotRef}
 use Rattle.array_select.specs.OfSlots.{slot_value, IsSlotOf}

@@ -1,6 +1,6 @@
 use Rattle.std.proofs.Common.{◌<◌, List, All, length, map, nat_le, get_or, sym, ap, ◌∙◌, subst}
 use Rattle.std.proofs.lemmas.List.Elements.{All-weaker}
-use Rattle.arrow_schema.specs.declared.data_type.DataType.TheVariants.{Utf8}
+use Rattle.arrow_types.specs.declared.data_type.DataType.TheVariants.{Utf8}
 use Rattle.scan_base.specs.declared.value.Value.{Value}
 use Rattle.arrays.specs.Written.{texts_joined}
 use Rattle.array_select.specs.declared.of_slots.SlotRef.{SlotRef}

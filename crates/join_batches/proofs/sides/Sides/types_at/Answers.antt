@@ -1,6 +1,6 @@
 use Rattle.std.proofs.Common.{◌++◌, ◌∷◌, [], List, get_or, map, take, refl, ap, sym, ◌∙◌}
 use Rattle.std.proofs.lemmas.List.{map-append}
-use Rattle.arrow_schema.specs.declared.data_type.DataType.{DataType}
+use Rattle.arrow_types.specs.declared.data_type.DataType.{DataType}
 use Rattle.join_batches.specs.Sides.{type_in}
 use Rattle.join_batches.proofs.Typed.{taken_more}
 use Rattle.join_batches.proofs.sides.Sides.types_at.Goals as goal

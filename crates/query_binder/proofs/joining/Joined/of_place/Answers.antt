@@ -1,5 +1,5 @@
 use Rattle.std.proofs.Common.{◌≡◌, rules, sym, subst}
-use Rattle.arrow_schema.specs.Schema.{IsSchema}
+use Rattle.arrow_types.specs.Schema.{IsSchema}
 use Rattle.query_binder.specs.Listed.{CanBeWritten}
 use Rattle.query_binder.specs.Over.{columns_over}
 use Rattle.query_binder.proofs.Written.{place_written}

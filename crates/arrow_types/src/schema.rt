@@ -1,8 +1,8 @@
 //! The columns of a table.
 
 ghost use Rattle.std.specs.Prelude.{◌≡◌, IfOk};
-ghost use Rattle.arrow_schema.specs.Answer.{answered_field, plain_field, plain_schema};
-ghost use Rattle.arrow_schema.specs.Schema.{IsSchema};
+ghost use Rattle.arrow_types.specs.Answer.{answered_field, plain_field, plain_schema};
+ghost use Rattle.arrow_types.specs.Schema.{IsSchema};
 
 use crate::data_type::DataType;
 use scan_base::{Items, Text};

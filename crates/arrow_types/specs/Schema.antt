@@ -1,12 +1,20 @@
 -- What a schema may be.
-use Rattle.std.specs.Prelude.{◌≡◌, ℕ, ◌≤◌, ◌<◌, ◌^◌, false, List, length, All, IsUtf8}
+use Rattle.std.specs.Prelude.{◌==◌, ◌≡◌, ℕ, ◌≤◌, ◌<◌, ◌^◌, false, List, length, All, IsUtf8, Bool}
 use Rattle.scan_base.specs.Limits.{most_columns, most_name_bytes}
 use Rattle.scan_base.specs.Lists.{repeats}
-use Rattle.arrow_schema.specs.declared.data_type.DataType.{DataType}
-use Rattle.arrow_schema.specs.declared.data_type.DataType.TheVariants.{Dictionary}
-use Rattle.arrow_schema.specs.declared.schema.Field.{Field}
-use Rattle.arrow_schema.specs.declared.schema.Schema.{Schema}
-use Rattle.arrow_schema.specs.Header.{same_dictionary}
+use Rattle.arrow_types.specs.declared.data_type.DataType.{DataType}
+use Rattle.arrow_types.specs.declared.data_type.DataType.TheVariants.{Dictionary}
+use Rattle.arrow_types.specs.declared.schema.Field.{Field}
+use Rattle.arrow_types.specs.declared.schema.Schema.{Schema}
+
+-- two types have one dictionary
+abbrev pub shares_dictionary : DataType → DataType → Bool
+shares_dictionary (Dictionary one) (Dictionary other) = one.id == other.id
+shares_dictionary _ _ = false
+
+-- two fields have one dictionary
+abbrev pub same_dictionary : Field → Field → Bool
+same_dictionary one other = shares_dictionary one.data_type other.data_type
 
 -- a name has one byte or more, up to the limit, which are UTF-8
 pub record IsName (name : List ℕ) : Type 0 where

@@ -4,13 +4,12 @@ use Rattle.std.specs.List.{list_any}
 use Rattle.std.proofs.lemmas.List.{length-map}
 use Rattle.std.proofs.lemmas.List.Elements.{All-map}
 use Rattle.scan_base.specs.Lists.{repeats}
-use Rattle.arrow_schema.specs.declared.data_type.DataType.{DataType}
-use Rattle.arrow_schema.specs.declared.data_type.DataType.TheVariants.{Integer, Utf8, Bool as Flags, Decimal128, Date, Dictionary}
-use Rattle.arrow_schema.specs.declared.schema.Field.{Field}
-use Rattle.arrow_schema.specs.Header.{same_dictionary, shares_dictionary}
-use Rattle.arrow_schema.specs.Schema.{IsType, IsField}
-use Rattle.arrow_schema.specs.Written.{encoding_of}
-use Rattle.arrow_schema.specs.Answer.{copied_type, plain_field, PlainIsSchema, PlainHasNone, PlainStays}
+use Rattle.arrow_types.specs.declared.data_type.DataType.{DataType}
+use Rattle.arrow_types.specs.declared.data_type.DataType.TheVariants.{Integer, Utf8, Bool as Flags, Decimal128, Date, Dictionary}
+use Rattle.arrow_types.specs.declared.schema.Field.{Field}
+use Rattle.arrow_types.specs.Schema.{same_dictionary, shares_dictionary, IsType, IsField}
+use Rattle.arrow_types.specs.DataType.{encoding_of}
+use Rattle.arrow_types.specs.Answer.{copied_type, plain_field, PlainIsSchema, PlainHasNone, PlainStays}
 
 plain : (t : DataType) → encoding_of (copied_type t) ≡ None
 plain (Integer integer) = refl

@@ -4,12 +4,11 @@ use Rattle.std.specs.List.{list_any}
 use Rattle.std.proofs.lemmas.Bool.{ne_eqb}
 use Rattle.scan_base.specs.Limits.{most_columns}
 use Rattle.scan_base.specs.Lists.{repeats}
-use Rattle.arrow_schema.specs.declared.data_type.DataType.{DataType}
-use Rattle.arrow_schema.specs.declared.data_type.DataType.TheVariants.{Integer, Utf8, Bool as Flags, Decimal128, Date, Dictionary}
-use Rattle.arrow_schema.specs.declared.schema.Field.{Field}
-use Rattle.arrow_schema.specs.Header.{same_dictionary, shares_dictionary}
-use Rattle.arrow_schema.specs.Schema.{IsType}
-use Rattle.arrow_schema.specs.Answer.{answered_at, answered_from}
+use Rattle.arrow_types.specs.declared.data_type.DataType.{DataType}
+use Rattle.arrow_types.specs.declared.data_type.DataType.TheVariants.{Integer, Utf8, Bool as Flags, Decimal128, Date, Dictionary}
+use Rattle.arrow_types.specs.declared.schema.Field.{Field}
+use Rattle.arrow_types.specs.Schema.{same_dictionary, shares_dictionary, IsType}
+use Rattle.arrow_types.specs.Answer.{answered_at, answered_from}
 
 pub answered_typed : (number : ℕ) (t : DataType) → number ≤ most_columns → IsType (answered_at number t)
 answered_typed number (Integer integer) few = tt

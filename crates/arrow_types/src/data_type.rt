@@ -1,8 +1,8 @@
 //! The types of columns.
 
 ghost use Rattle.std.specs.Prelude.{◌≡◌};
-ghost use Rattle.arrow_schema.specs.Answer.{answered_at, copied_type};
-ghost use Rattle.arrow_schema.specs.DataType.{bit_width, is_signed};
+ghost use Rattle.arrow_types.specs.Answer.{answered_at, copied_type};
+ghost use Rattle.arrow_types.specs.DataType.{bit_width, is_signed};
 
 /// The whole numbers of fixed width.
 #[derive(Clone, Copy, Debug, PartialEq, Eq)]

@@ -1,6 +1,6 @@
 use Rattle.std.proofs.Common.{◌≤◌, length, take_all}
-use Rattle.arrow_schema.proofs.Plain.{plain_is_schema}
-use Rattle.arrow_schema.proofs.schema.Schema.plain.Goals as goal
+use Rattle.arrow_types.proofs.Plain.{plain_is_schema}
+use Rattle.arrow_types.proofs.schema.Schema.plain.Goals as goal
 
 pub returns-clause-valid : goal.returns-clause-valid
 returns-clause-valid c is =
