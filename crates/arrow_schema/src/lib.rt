@@ -1,4 +1,4 @@
-//! Messages of Arrow's schemas, and of the headers of batches.
+//! Arrow's schemas and message headers, read or written.
 #![tactic(auto)]
 
 mod borrowed;
