@@ -22,7 +22,8 @@ use Rattle.client_calls.specs.declared.failure.Failure.{Failure}
 use Rattle.client_calls.specs.declared.failure.Failure.TheVariants.{Found}
 use Rattle.client_calls.specs.declared.fetch_piece.FetchPiece.{FetchPiece}
 use Rattle.client_calls.specs.declared.fetch_piece.FetchPiece.TheVariants as took
-use Rattle.client_calls.specs.Answers.{AnswersStream, Incoming, Stop}
+use Rattle.client_calls.specs.Answers.{Incoming, Stop}
+use Rattle.client_calls.specs.StreamAnswers.{AnswersStream}
 use Rattle.client_calls.specs.Outcome.{CallsAt, Line, Outgoing, left_of}
 use Rattle.client_calls.specs.Taking.{FetchGives, HasNoSchema, IsBegun, IsFetchReader, IsTaken, KeepsSchema, Taken, TakesNext, ended, with_batch}
 use Rattle.client_calls.specs.inside.Parts.{SendsCall, given, incoming_of, left_behind, line_of}

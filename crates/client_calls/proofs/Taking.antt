@@ -19,7 +19,8 @@ use Rattle.flight_info.specs.Payloads.{Payload}
 use Rattle.flight_client.specs.Status.{StatusSays}
 use Rattle.client_calls.specs.declared.answer.Arrival.{Arrival}
 use Rattle.client_calls.specs.declared.answer.Arrival.TheVariants as arrival
-use Rattle.client_calls.specs.Answers.{Fronts, stopped_at, IsAnswer, NoMore, Halts, StopsBehind, IsAnswered}
+use Rattle.client_calls.specs.Answers.{Fronts, stopped_at, IsAnswer, NoMore, Halts, StopsBehind}
+use Rattle.client_calls.specs.Answers.{IsAnswered}
 pub use Rattle.client_calls.specs.Taking.{Taken}
 use Rattle.client_calls.specs.inside.Arriving.{ArrivesAs}
 use Rattle.client_calls.specs.inside.Parts.{incoming_of}

@@ -12,7 +12,8 @@ use Rattle.flight_client.specs.Stream.{StreamAt, Came, schema_said}
 use Rattle.client_calls.specs.declared.call.Method.TheVariants.{DoGet}
 use Rattle.client_calls.specs.declared.failure.Failure.{Failure}
 use Rattle.client_calls.specs.declared.failure.Failure.TheVariants.{Found}
-use Rattle.client_calls.specs.Answers.{AnswersStream, Fronts, Quiet}
+use Rattle.client_calls.specs.Answers.{Fronts, Quiet}
+use Rattle.client_calls.specs.StreamAnswers.{AnswersStream}
 use Rattle.client_calls.specs.Outcome.{Calls, IsWritten, Line}
 
 -- a fetch whose answer is being taken: its connection, what the payloads so far leave after, and

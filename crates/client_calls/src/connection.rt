@@ -9,7 +9,8 @@ ghost use Rattle.grpc_frame.specs.declared.record.Record.TheVariants.{Open, Mess
 ghost use Rattle.grpc_frame.specs.Records.{spelling};
 ghost use Rattle.flight_info.specs.Payloads.{Payload as PayloadBytes};
 ghost use Rattle.client_calls.specs.declared.call.Method.TheVariants.{DoGet, DoPut};
-ghost use Rattle.client_calls.specs.Answers.{AnswersOne, AnswersStream};
+ghost use Rattle.client_calls.specs.Answers.{AnswersOne};
+ghost use Rattle.client_calls.specs.StreamAnswers.{AnswersStream};
 ghost use Rattle.client_calls.specs.Calls.{path_of};
 ghost use Rattle.client_calls.specs.Outcome.{Calls, Line};
 ghost use Rattle.client_calls.specs.Sending.{IsPutWriter, put_at};

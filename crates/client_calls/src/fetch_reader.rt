@@ -10,7 +10,7 @@ ghost use Rattle.ipc_batch.specs.SaidRows.{HasColumns};
 ghost use Rattle.flight_info.specs.Payloads.{Payload as Bytes};
 ghost use Rattle.flight_client.specs.Stream.{StreamAt};
 ghost use Rattle.client_calls.specs.declared.call.Method.TheVariants.{DoGet};
-ghost use Rattle.client_calls.specs.Answers.{AnswersStream};
+ghost use Rattle.client_calls.specs.StreamAnswers.{AnswersStream};
 ghost use Rattle.client_calls.specs.Outcome.{Calls, Line};
 ghost use Rattle.client_calls.specs.Taking.{BeginsFetch, FetchGives, IsFetchReader, KeepsSchema};
 ghost use Rattle.client_calls.specs.Taking.{TakesNext};

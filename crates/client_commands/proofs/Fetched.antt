@@ -11,7 +11,8 @@ use Rattle.flight_client.specs.Stream.{StreamAt}
 use Rattle.client_calls.specs.declared.call.Method.TheVariants.{GetFlightInfo, DoGet}
 use Rattle.client_calls.specs.declared.failure.Failure.{Failure}
 use Rattle.client_calls.specs.declared.failure.Failure.TheVariants.{Answered, Found}
-use Rattle.client_calls.specs.Answers.{Incoming, Stop, AnswersOne, AnswersStream}
+use Rattle.client_calls.specs.Answers.{Incoming, Stop, AnswersOne}
+use Rattle.client_calls.specs.StreamAnswers.{AnswersStream}
 use Rattle.client_calls.specs.Commands.{ReadsEndpoints}
 use Rattle.client_calls.specs.Outcome.{Line, Calls, CallsAt}
 use Rattle.client_commands.specs.Fetching.{AsksPlaces, FetchesEach, FetchesOne, FailsAt, FetchStops}

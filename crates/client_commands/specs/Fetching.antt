@@ -10,7 +10,8 @@ use Rattle.table_versions.specs.Table.{Table}
 use Rattle.client_calls.specs.declared.call.Method.TheVariants.{GetFlightInfo, DoGet}
 use Rattle.client_calls.specs.declared.failure.Failure.{Failure}
 use Rattle.client_calls.specs.declared.failure.Failure.TheVariants.{Found}
-use Rattle.client_calls.specs.Answers.{AnswersOne, AnswersStream}
+use Rattle.client_calls.specs.Answers.{AnswersOne}
+use Rattle.client_calls.specs.StreamAnswers.{AnswersStream}
 use Rattle.client_calls.specs.Commands.{ReadsEndpoints}
 use Rattle.client_calls.specs.Outcome.{Calls, Line}
 

@@ -24,7 +24,9 @@ use Rattle.command_ends.specs.Network.{Accepting, Ends}
 use Rattle.command_ends.specs.Printing.{PortLineAt, Said, listening_line}
 use Rattle.commands.specs.ShownSeat.{IsNewSeat, WasShown}
 use Rattle.commands.specs.Port.{IsDueAfter, IsFresh, IsServed, ServesPort, Sharing, SharesEach, SharesSome, listeners_of, most_of, options_of}
-use Rattle.commands.specs.Serve.{DrawsAll, Pays, Work, Worker, IsPartOf, ServesSideBySide, both, first_fault, made_by, made_by_each, drawn_by}
+use Rattle.commands.specs.Serve.{Pays, Worker}
+use Rattle.commands.specs.ServeSideBySide.{DrawsAll, Work, IsPartOf, ServesSideBySide, both}
+use Rattle.commands.specs.ServeSideBySide.{first_fault, made_by, made_by_each, drawn_by}
 use Rattle.commands.specs.inside.Gathering.{HasDrawn, HasWorked, HiredWorker, IsAtRest, IsNew, IsWithin, MayServe, hired_listeners, seat_in, state_of, work_of}
 
 -- those after the ones that are left are done with: their seats are taken in, and the hub has all

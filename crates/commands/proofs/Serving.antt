@@ -17,7 +17,8 @@ use Rattle.flight_calls.specs.OwedAnswers.{Connection, Serves, connection_of}
 use Rattle.command_ends.specs.Network.{Accepting, Ends, ends_of}
 use Rattle.command_ends.specs.declared.accept_failure.AcceptFailure.TheVariants.{MayPass}
 use Rattle.commands.specs.ShownSeat.{HasLearnt, IsSameSeat, IsShownAs, WasShown, seat_shown}
-use Rattle.commands.specs.Serve.{Accept, AcceptsThenCloses, AsksOthers, Broke, Failed, IsServedTo, Took, Worker, ServesInTurn, ServesNext, ServesUpTo, worker_of}
+use Rattle.commands.specs.Serve.{Accept, AcceptsThenCloses, AsksOthers, Broke, Failed, IsServedTo}
+use Rattle.commands.specs.Serve.{Took, Worker, ServesInTurn, ServesNext, ServesUpTo, worker_of}
 use Rattle.commands.specs.inside.Accepting.{FailsSo, TakesNext, TakesNone}
 
 -- so many connections more

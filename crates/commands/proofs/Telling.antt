@@ -28,7 +28,8 @@ use Rattle.flight_calls.proofs.Making.{puts_made}
 use Rattle.shared_calls.specs.Sharing.{onward}
 use Rattle.command_ends.specs.Network.{Accepting}
 use Rattle.commands.specs.Port.{IsFresh}
-use Rattle.commands.specs.Serve.{Accept, Broke, Failed, Took, Work, Worker, IsPartOf, ServesInTurn, made_by_each, worker_of}
+use Rattle.commands.specs.Serve.{Accept, Broke, Failed, Took, Worker, ServesInTurn, worker_of}
+use Rattle.commands.specs.ServeSideBySide.{Work, IsPartOf, made_by_each}
 use Rattle.commands.specs.ToldHistory.{told_in_turn, told_by, told_by_each, unmarked, IsMarked, IsOwnMark, HistoryIsMarked, WorkersMakeWhatIsTold, HistoryIsTold, PutsAreTold}
 
 -- nothing is made where nothing more is served

@@ -19,7 +19,8 @@ use Rattle.flight_calls.specs.Joining.{Replied, FetchServed, InfoServed}
 use Rattle.flight_calls.proofs.Joining.{answers_keep, begins_last, seats_meet_joined}
 use Rattle.shared_calls.specs.Sharing.{onward}
 use Rattle.command_ends.specs.Network.{Accepting, Ends}
-use Rattle.commands.specs.Serve.{Accept, Broke, Failed, Took, Worker, ServesInTurn, ServesNext, worker_of}
+use Rattle.commands.specs.Serve.{Accept, Broke, Failed, Took, Worker, ServesInTurn, ServesNext}
+use Rattle.commands.specs.Serve.{worker_of}
 use Rattle.commands.specs.ServerHeadline.{Takes, InfoOf, FetchOf, ServerMeetsHeadline}
 
 serves_keeps : (moves : Moves) (options : Options) (result : Result (Unit {0}) Fault) (old new : Connection) → Serves moves options result old new → Begins old.seat.log new.seat.log

@@ -2,6 +2,7 @@ pub mod New
 pub mod Pipe
 pub mod Port
 pub mod Serve
+pub mod ServeSideBySide
 pub mod ShownSeat
 pub mod ToldHistory
 pub mod ServerHeadline

@@ -12,7 +12,8 @@ use Rattle.command_ends.specs.Network.{Accepting}
 use Rattle.command_ends.specs.Printing.{Said, Prints, cause_lines, fault_line, listening_line}
 use Rattle.command_ends.specs.declared.exit_status.ExitStatus.{ExitStatus}
 use Rattle.command_ends.specs.declared.exit_status.ExitStatus.TheVariants.{Done, FaultAtThisEnd}
-use Rattle.commands.specs.Serve.{Worker, ServesSideBySide}
+use Rattle.commands.specs.Serve.{Worker}
+use Rattle.commands.specs.ServeSideBySide.{ServesSideBySide}
 
 -- how many connections are drawn, where so many are to be accepted: 0 stands for no end
 abbrev pub most_of : ℕ → ℕ

@@ -14,7 +14,8 @@ use Rattle.flight_calls.specs.Joining.{FetchServed, InfoServed}
 use Rattle.flight_calls.specs.OwedAnswers.{Connection}
 use Rattle.shared_calls.specs.Sharing.{onward}
 use Rattle.command_ends.specs.Network.{Accepting, Ends}
-use Rattle.commands.specs.Serve.{Took, Work, Worker, IsPartOf}
+use Rattle.commands.specs.Serve.{Took, Worker}
+use Rattle.commands.specs.ServeSideBySide.{Work, IsPartOf}
 
 -- a worker of this history took a connection, and serving it came to this result and left it so
 pub record Takes {L : Type 0} (accepts : Accepting L) (options : Options) (history : Log)

@@ -12,8 +12,10 @@ use Rattle.flight_core.specs.Seats.{Moves}
 use Rattle.shared_calls.specs.Sharing.{onward}
 use Rattle.command_ends.specs.Network.{Accepting}
 use Rattle.commands.specs.Port.{IsFresh}
-use Rattle.commands.specs.Serve.{Accept, Failed, Took, Work, Worker, IsPartOf, ServesInTurn}
-use Rattle.commands.specs.Serve.{ServesSideBySide, worker_of}
+use Rattle.commands.specs.Serve.{Accept, Failed, Took, Worker, ServesInTurn}
+use Rattle.commands.specs.ServeSideBySide.{Work, IsPartOf}
+use Rattle.commands.specs.Serve.{worker_of}
+use Rattle.commands.specs.ServeSideBySide.{ServesSideBySide}
 
 -- The entries that the calls of connections tell of, which were served one after the other: of each
 -- call, in order, its put where the reply accepts it, or its mark where the reply tells of an

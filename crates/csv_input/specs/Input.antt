@@ -1,5 +1,4 @@
--- An input as CSV: its columns, its rows, and what is printed of them and of a record that is
--- wrong.
+-- An input as CSV: its columns, its rows, and what is printed of them or of a wrong record.
 use Rattle.std.specs.Prelude.{◌≡◌, ◌⊎◌, ◌<◌, ◌^◌, ℕ, ◌+◌, Bool, List, Option, Some, None, Result}
 use Rattle.std.specs.Prelude.{Ok, Err, codes, option_map}
 use Rattle.std.specs.Borrow.{Bor}

@@ -1,5 +1,4 @@
--- What a flight info or a schema is asked for: the command in the one message of GetFlightInfo and
--- of GetSchema.
+-- What a flight info or a schema is asked for: the command of GetFlightInfo and of GetSchema.
 use Rattle.std.specs.Prelude.{ℕ, ◌==◌, ◌||◌, Bool, false, not, nat_le, List, [], ◌∷◌, length, Some}
 use Rattle.std.specs.Prelude.{Result, Ok, Err, codes, bytes_eq, if◌then◌else◌}
 use Rattle.scan_base.specs.declared.fault.Fault.{Fault}
@@ -20,8 +19,7 @@ use Rattle.flight_proto.specs.declared.info_command.CommandGetTables.{CommandGet
 use Rattle.flight_proto.specs.declared.info_command.InfoCommand as code
 use Rattle.flight_proto.specs.declared.info_command.InfoCommand.TheVariants as variants
 
--- ---- arrow.flight.protocol.sql.CommandStatementQuery: string query = 1, optional bytes
--- ---- transaction_id = 2
+-- ---- arrow.flight.protocol.sql.CommandStatementQuery: query = 1, optional transaction_id = 2
 
 -- the query's text, and the transaction: one that is absent is as one that is empty
 pub record QuerySaid : Type 0 where
@@ -38,9 +36,8 @@ query_in fields = do
 abbrev pub query_of : List ℕ → Result QuerySaid Fault
 query_of bytes = fields_of bytes >>= query_in
 
--- ---- arrow.flight.protocol.sql.CommandGetTables: optional strings catalog = 1,
--- ---- db_schema_filter_pattern = 2 and table_name_filter_pattern = 3, repeated string table_types
--- ---- = 4, bool include_schema = 5
+-- ---- arrow.flight.protocol.sql.CommandGetTables: optional strings catalog = 1, the patterns
+-- ---- db_schema_filter = 2 and table_name_filter = 3, table_types = 4, bool include_schema = 5
 
 -- whether the tables are filtered, and whether their schemas are asked for. The filters' texts are
 -- not kept.

@@ -6,8 +6,10 @@ ghost use Rattle.version_cell.specs.Rests.{RestAt};
 ghost use Rattle.commands.specs.Port.{IsDueAfter};
 ghost use Rattle.commands.specs.Serve.{AcceptsThenCloses};
 ghost use Rattle.commands.specs.Words.{HasSeats};
-ghost use Rattle.flightscan.specs.Running.{AlwaysPays, CallsServer, PipesWith, PutsForm};
-ghost use Rattle.flightscan.specs.Running.{QueriesWith, ServesClients, ServesWith, piped_by};
+ghost use Rattle.flightscan.specs.Running.{CallsServer, PutsForm};
+ghost use Rattle.flightscan.specs.ServerRequests.{AlwaysPays, PipesWith};
+ghost use Rattle.flightscan.specs.Running.{QueriesWith};
+ghost use Rattle.flightscan.specs.ServerRequests.{ServesClients, ServesWith, piped_by};
 ghost use Rattle.flightscan.specs.Running.{standard_of};
 
 use client_calls::Target;

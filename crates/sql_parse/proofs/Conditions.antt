@@ -5,8 +5,9 @@ use Rattle.grammar.specs.Reading.{nullable, starts}
 use Rattle.grammar.proofs.Determined.{well_made, is_guarded, covers, determined}
 use Rattle.sql_parse.specs.Tokens.{same_word, same_symbol}
 use Rattle.sql_parse.proofs.EveryKind.{kinds}
-use Rattle.sql_parse.specs.Productions.{name, column, minus, digits, date, number, string, operand, compare, negated}
-use Rattle.sql_parse.specs.Productions.{begins_factor, conj, pred, truth_value}
+use Rattle.sql_parse.specs.Productions.{name, column, minus, digits, date, number, string, operand}
+use Rattle.sql_parse.specs.Productions.{compare, negated}
+use Rattle.sql_parse.specs.PredicateProductions.{begins_factor, conj, pred, truth_value}
 use Rattle.sql_parse.specs.Clauses.{alias, selection}
 use Rattle.sql_parse.proofs.EveryKind.{follows_factor}
 use Rattle.sql_parse.specs.Clauses.{item, list, place, equal, join, group, filter, source, ending, query}

@@ -12,7 +12,7 @@ use Rattle.sql_parse.specs.FactoredGrammar.{factor_by_operand}
 use Rattle.sql_parse.specs.Limits.{TallyAt, counted, is_past, is_long_name, passes_from, passes}
 use Rattle.sql_parse.specs.Parse.{IsSentence, IsShallow, Accepts, PassesLimit, HasOffender}
 use Rattle.sql_parse.specs.Parse.{fault_or, Refuses}
-use Rattle.sql_parse.specs.Productions.{begins_factor}
+use Rattle.sql_parse.specs.PredicateProductions.{begins_factor}
 use Rattle.sql_parse.specs.Clauses.{query}
 use Rattle.sql_parse.proofs.EveryKind.{follows_factor}
 use Rattle.sql_query.specs.Sentence.{Sentence, is_left_out_whole}

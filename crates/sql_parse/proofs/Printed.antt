@@ -10,9 +10,11 @@ use Rattle.grammar.proofs.Rules.{wider}
 use Rattle.sql_parse.specs.Tokens.{Mark}
 use Rattle.sql_parse.specs.Productions.{operand, compare}
 use Rattle.sql_parse.specs.Notation.{Condition, Of, a_word, a_symbol, word_for, ◌⊳◌, ◌⊲◌, listed}
-use Rattle.sql_parse.specs.Productions.{negated, comparison_of, range_of, membership_of, null_test_of, simple}
-use Rattle.sql_parse.specs.Productions.{primary_of, test_of, factor_of}
-use Rattle.sql_parse.specs.Productions as printed
+use Rattle.sql_parse.specs.Productions.{negated}
+use Rattle.sql_parse.specs.PredicateProductions.{comparison_of, range_of, membership_of}
+use Rattle.sql_parse.specs.PredicateProductions.{null_test_of, simple}
+use Rattle.sql_parse.specs.PredicateProductions.{primary_of, test_of, factor_of}
+use Rattle.sql_parse.specs.PredicateProductions as printed
 use Rattle.sql_parse.specs.Clauses.{query}
 use Rattle.sql_parse.specs.Parse.{IsSentence, IsShallow}
 use Rattle.sql_parse.specs.FactoredGrammar.{Value, compared, nulled, ranged, among, tail, forms, primary, test, factor_by_operand}

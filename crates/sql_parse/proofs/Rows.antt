@@ -33,8 +33,10 @@ use Rattle.sql_parse.specs.QuerySteps.{whole_at, ended}
 use Rattle.sql_parse.specs.FactoredGrammar.{compared, nulled, ranged, among, tail, forms, primary, test, factor_by_operand}
 use Rattle.sql_parse.specs.Limits.{counted, is_past, is_long_name, passes}
 use Rattle.sql_parse.specs.Parse.{IsSentence, IsShallow, fault_or, Refuses, Answered, Parsed}
-use Rattle.sql_parse.specs.Productions.{name, column, minus, digits, date, number, string, operand, compare, negated, conj}
-use Rattle.sql_parse.specs.Productions.{pred, truth_value}
+use Rattle.sql_parse.specs.Productions.{name, column, minus, digits, date, number, string, operand}
+use Rattle.sql_parse.specs.Productions.{compare, negated}
+use Rattle.sql_parse.specs.PredicateProductions.{conj}
+use Rattle.sql_parse.specs.PredicateProductions.{pred, truth_value}
 use Rattle.sql_parse.specs.Clauses.{alias, selection, item, list, place, equal, join, group}
 use Rattle.sql_parse.specs.Clauses.{filter, source, ending, query}
 use Rattle.sql_parse.proofs.Told.{Told}

@@ -18,9 +18,11 @@ use Rattle.scan_base.specs.Predicate.{conjunction, disjunction, negation}
 use Rattle.grammar.specs.Rule.{many, make}
 use Rattle.grammar.proofs.Deep.{flat_alike}
 use Rattle.sql_query.specs.declared.query.ColumnName.{ColumnName}
-use Rattle.sql_parse.specs.Productions.{name, column, minus, digits, date, number, string, operand, compare}
+use Rattle.sql_parse.specs.Productions.{name, column, minus, digits, date, number, string, operand}
+use Rattle.sql_parse.specs.Productions.{compare}
 use Rattle.sql_parse.specs.Notation.{Condition}
-use Rattle.sql_parse.specs.Productions.{negated, truth_value, conj, pred, inner}
+use Rattle.sql_parse.specs.Productions.{negated}
+use Rattle.sql_parse.specs.PredicateProductions.{truth_value, conj, pred, inner}
 use Rattle.sql_parse.specs.Notation.{a_word, a_symbol, ◌⊳◌, ◌⊲◌}
 use Rattle.sql_parse.specs.FactoredGrammar.{compared, nulled, ranged, among, tail, forms, primary, test, factor_by_operand}
 use Rattle.sql_parse.specs.Steps.{at, token_at, name_at, column_at, minus_at, numbered, digits_at, date_at, number_at}

@@ -8,7 +8,7 @@ use Rattle.grammar.proofs.Exact.{exact, law_of, solid_rule}
 use Rattle.grammar.proofs.Laws.{step}
 use Rattle.sql_parse.specs.Tokens.{Mark}
 use Rattle.sql_parse.proofs.EveryKind.{kinds}
-use Rattle.sql_parse.specs.Productions.{begins_factor}
+use Rattle.sql_parse.specs.PredicateProductions.{begins_factor}
 use Rattle.sql_parse.specs.Clauses.{query}
 use Rattle.sql_parse.specs.Notation.{Of}
 use Rattle.sql_parse.proofs.EveryKind.{follows_factor}

@@ -10,7 +10,7 @@ use Rattle.grammar.specs.Rule.{both, either, make}
 use Rattle.sql_query.specs.declared.query.ColumnName.{ColumnName}
 use Rattle.sql_parse.specs.Productions.{operand, compare, negated}
 use Rattle.sql_parse.specs.Notation.{Condition, Of, a_word, a_symbol, ◌⊳◌, ◌⊲◌, listed}
-use Rattle.sql_parse.specs.Productions.{primary_of, test_of, factor_of}
+use Rattle.sql_parse.specs.PredicateProductions.{primary_of, test_of, factor_of}
 
 -- one side of a comparison
 abbrev pub Value : Type 0

@@ -1,5 +1,6 @@
 pub mod Tokens
 pub mod Productions
+pub mod PredicateProductions
 pub mod Clauses
 pub mod Notation
 pub mod FactoredGrammar

@@ -15,9 +15,10 @@ use Rattle.sql_query.specs.declared.query.ColumnName.{ColumnName}
 use Rattle.sql_parse.specs.declared.refusal.Refusal.TheVariants as refusal
 use Rattle.sql_parse.specs.Tokens.{Mark, is_word, is_symbol}
 use Rattle.sql_parse.specs.Answers.{Answer, seen, ◌>>=◌}
-use Rattle.sql_parse.specs.Productions.{operand, inner}
+use Rattle.sql_parse.specs.Productions.{operand}
+use Rattle.sql_parse.specs.PredicateProductions.{inner}
 use Rattle.sql_parse.specs.Notation.{Condition, a_word, a_symbol, ◌⊳◌, joined}
-use Rattle.sql_parse.specs.Productions.{conj}
+use Rattle.sql_parse.specs.PredicateProductions.{conj}
 use Rattle.sql_parse.specs.FactoredGrammar.{factor_by_operand}
 use Rattle.sql_parse.specs.Steps.{at, token_at, operand_at, compare_at}
 

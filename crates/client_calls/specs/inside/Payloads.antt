@@ -14,7 +14,8 @@ use Rattle.client_calls.specs.declared.failure.Failure.{Failure}
 use Rattle.client_calls.specs.declared.failure.Failure.TheVariants.{Answered}
 use Rattle.client_calls.specs.declared.fetch_piece.FetchPiece.{FetchPiece}
 use Rattle.client_calls.specs.declared.fetch_piece.FetchPiece.TheVariants as took
-use Rattle.client_calls.specs.Answers.{AnswersStream, Incoming, Stands}
+use Rattle.client_calls.specs.Answers.{Incoming}
+use Rattle.client_calls.specs.StreamAnswers.{AnswersStream, Stands}
 use Rattle.client_calls.specs.Taking.{Taken, ended, with_batch}
 use Rattle.client_calls.specs.inside.Arriving.{ArrivesAs}
 use Rattle.client_calls.specs.inside.Parts.{given, incoming_of, left_behind}

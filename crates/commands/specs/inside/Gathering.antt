@@ -14,7 +14,8 @@ use Rattle.command_ends.specs.Network.{Accepting, Ends}
 use Rattle.command_ends.specs.Printing.{PortLineAt}
 use Rattle.commands.specs.declared.crew.CrewMember as declared
 use Rattle.commands.specs.ShownSeat.{IsNewSeat}
-use Rattle.commands.specs.Serve.{Pays, Work, Worker, ServesUpTo}
+use Rattle.commands.specs.Serve.{Pays, Worker, ServesUpTo}
+use Rattle.commands.specs.ServeSideBySide.{Work}
 use Rattle.commands.specs.Serve.{worker_of}
 
 -- a worker's seat of the cell, which is always there between two connections
