@@ -1,5 +1,5 @@
 -- Slots that are counted and summed.
-use Rattle.std.proofs.Common.{◌≡◌, ◌≤◌, ◌<◌, ℕ, ◌+◌, ◌*◌, ℤ, Bool, true, false, FitsSigned, ◌^◌, List, Option, Some, None, length, get_or, sym, ap, ◌∙◌, subst, arith}
+use Rattle.std.proofs.Common.{◌≡◌, ◌≤◌, ◌<◌, ℕ, ◌+◌, ◌*◌, ℤ, Bool, true, false, FitsSigned, ◌^◌, List, Option, Some, None, length, get_or, refl, sym, ap, ◌∙◌, subst, arith}
 use Rattle.std.specs.Int.{w64}
 use Rattle.std.proofs.lemmas.Int.{ints}
 use Rattle.std.proofs.Math.Nat.{le_trans, mul-le-mul_left}
@@ -12,12 +12,12 @@ use Rattle.arrays.specs.Indices.{IndicesAt}
 use Rattle.arrays.specs.Layout.{layout_slot}
 use Rattle.arrays.specs.declared.layout.Layout.{Layout}
 use Rattle.arrays.specs.declared.layout.Layout.TheVariants.{Indices, Integers}
-use Rattle.arrays.specs.Validity.{IsLong}
+use Rattle.arrays.specs.Validity.{HasBits, IsLong}
 use Rattle.group_slots.specs.declared.slots.Entries.{Entries}
 use Rattle.group_slots.specs.declared.tally.Tally.{Tally}
 use Rattle.group_slots.specs.Tallies.{summed}
 use Rattle.group_slots.specs.Counting.{IsSmall}
-use Rattle.group_slots.specs.Slots.{HaveRoom, entry_cell, number_or_null, slot_cell, slot_is_valid, slot_number}
+use Rattle.group_slots.specs.Slots.{HaveRoom, entry_cell, number_or_null, slot_cell, slot_is_valid, slot_number, validity_count}
 use Rattle.group_slots.specs.declared.slots.IntegerSlots.{IntegerSlots}
 use Rattle.arrays.specs.Batch.{row_of}
 use Rattle.arrays.specs.Column.{ColumnAt, slot_of}
@@ -50,6 +50,18 @@ pub cell_slot : (columns : List ColumnAt) (row key : ℕ) (d : ColumnAt) → key
 cell_slot columns row key d there =
     unwrap_or-slice_get (row_of columns row) key Null ∙ get_or-map (λ (c : ColumnAt). slot_of c row) columns key d Null there
 
+bits_long : (validity : Option (List Bool)) (len wanted : ℕ) → IsLong validity len → wanted ≤ len → wanted ≤ validity_count validity wanted
+bits_long None len wanted long within = omega arith
+bits_long (Some bits) len wanted long within = omega (arith, long, within)
+
+bits_below : (validity : Option (List Bool)) (all below : ℕ) → below ≤ all → all ≤ validity_count validity all → HasBits validity below
+bits_below None all below within room = (all, within, tt)
+bits_below (Some bits) all below within room = (length bits, omega (arith, within, room), refl)
+
+-- a row's validity bit is there, where there are bits
+pub has_bit : (slots : IntegerSlots) (rows row : ℕ) → row < rows → HaveRoom slots rows → HasBits slots.validity.now (slots.first + row + 1)
+has_bit slots rows row low room = bits_below slots.validity.now (slots.first + rows) (slots.first + row + 1) (omega (arith, low)) room.valid
+
 -- the buffers of a column have room for its rows
 pub room_of : (integer : IntegerType) (validity : Option (List Bool)) (values : List ℕ) (len first count : ℕ) (slots : IntegerSlots) →
     IsLong validity len → byte_width integer * len ≤ length values → first + count ≤ len → first + count < 2 ^ 64 →
@@ -57,7 +69,7 @@ pub room_of : (integer : IntegerType) (validity : Option (List Bool)) (values : 
 room_of integer validity values len first count slots long room within small is_kind is_validity is_values is_first = record {
   values = rw (is_kind, is_values, is_first) (le_trans (mul-le-mul_left (byte_width integer) within) room);
   small = rw is_first small;
-  valid = rw (is_validity, is_first) (len, within, long);
+  valid = rw (is_validity, is_first) (bits_long validity len (first + count) long within);
 }
 
 -- a slot of integers, by its packed number

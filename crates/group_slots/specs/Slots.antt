@@ -1,6 +1,6 @@
 -- Packed numbers of a column.
 use Rattle.std.specs.Prelude.{◌≡◌, ◌≤◌, ◌<◌, ℕ, ◌+◌, ◌*◌, ◌^◌, ℤ, Bool, if◌then◌else◌, List, length}
-use Rattle.std.specs.Prelude.{unwrap_or}
+use Rattle.std.specs.Prelude.{Option, Some, None, unwrap_or}
 use Rattle.std.specs.Int.{w64, cast_unsigned}
 use Rattle.arrays.specs.Dictionary.{entry_at}
 use Rattle.group_slots.specs.declared.tags.Tag.{Tag}
@@ -9,9 +9,14 @@ use Rattle.scan_base.specs.declared.value.Value.TheVariants.{Null, Int}
 use Rattle.scan_base.specs.Predicate.{cell_in}
 use Rattle.arrays.specs.Batch.{BatchAt, row_of}
 use Rattle.arrays.specs.Number.{byte_width, integer_at}
-use Rattle.arrays.specs.Validity.{is_valid, HasBits}
+use Rattle.arrays.specs.Validity.{is_valid}
 use Rattle.group_slots.specs.declared.slots.Entries.{Entries}
 use Rattle.group_slots.specs.declared.slots.IntegerSlots.{IntegerSlots}
+
+-- how many slots the validity bits are of: where there are none, any number
+abbrev pub validity_count : Option (List Bool) → ℕ → ℕ
+validity_count None count = count
+validity_count (Some bits) count = length bits
 
 -- the value of a slot that has a number, where it is valid
 abbrev pub number_or_null : Bool → ℤ → Value
@@ -44,7 +49,7 @@ number_tag valid number = if valid then record { key = cast_unsigned w64 number;
 pub record HaveRoom (slots : IntegerSlots) (rows : ℕ) : Type 0 where
   pub values : byte_width slots.kind * (slots.first + rows) ≤ length slots.values.now
   pub small : slots.first + rows < 2 ^ 64
-  pub valid : HasBits slots.validity.now (slots.first + rows)
+  pub valid : slots.first + rows ≤ validity_count slots.validity.now (slots.first + rows)
 
 -- the packed numbers are those of a column of the batch
 pub record AreSlots (slots : IntegerSlots) (column : ℕ) (batch : BatchAt) : Type 0 where
