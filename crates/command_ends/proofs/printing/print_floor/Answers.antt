@@ -4,8 +4,8 @@ use Rattle.command_ends.proofs.printing.print_floor.Goals as goal
 
 pub returns-clause-bytes : goal.returns-clause-bytes
 returns-clause-bytes g c =
-    writes_all _ _ _ _ _ _ c.write_floor.ensures.bytes (search rules) c.write_floor.ensures.written (search rules) (search rules)
+    writes_all _ _ _ _ _ _ c.write_floor-written.ensures.bytes (search rules) c.write_floor-written.ensures.written (search rules) (search rules)
 
 pub returns-clause-counted : goal.returns-clause-counted
 returns-clause-counted g c =
-    counts_failure _ _ _ _ _ _ c.write_floor.ensures.bytes c.requires (search rules) (search rules)
+    counts_failure _ _ _ _ _ _ c.write_floor-written.ensures.bytes c.requires (search rules) (search rules)
