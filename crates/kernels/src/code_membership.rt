@@ -2,8 +2,9 @@
 
 ghost use Rattle.std.specs.Prelude.{◌≡◌, ◌==◌, ◌≤◌, ◌<◌, ◌+◌, ◌*◌, ℕ, length};
 ghost use Rattle.arrays.specs.Number.{byte_width};
-ghost use Rattle.arrays.specs.Validity.{is_valid, HasBits};
+ghost use Rattle.arrays.specs.Validity.{is_valid, IsLong};
 ghost use Rattle.kernels.specs.Codes.{code_at, is_among};
+ghost use Rattle.kernels.specs.Nulls.{IsLong-prop};
 ghost use Rattle.kernels.specs.Words.{bit};
 
 use crate::codes::{code_at, word_with_code};
@@ -22,7 +23,7 @@ pub(crate) struct PackedIntegers<'a> {
     pub(crate) validity: &'a Validity,
     pub(crate) count: usize,
     ghost room: { byte_width integer * count ≤ length values.now },
-    ghost long: { HasBits validity.now count },
+    ghost long: { IsLong validity.now count } by { IsLong-prop validity.now count },
 }
 
 impl<'a> PackedIntegers<'a> {

@@ -6,7 +6,8 @@ ghost use Rattle.std.specs.Ordering.{bool_cmp};
 ghost use Rattle.scan_base.specs.Comparison.{compared, satisfies};
 ghost use Rattle.scan_base.specs.declared.value.Value.TheVariants.{Bool as Flag};
 ghost use Rattle.arrays.specs.Bools.{AreBools};
-ghost use Rattle.arrays.specs.Validity.{HasBits};
+ghost use Rattle.arrays.specs.Validity.{IsLong};
+ghost use Rattle.kernels.specs.Nulls.{IsLong-prop};
 ghost use Rattle.kernels.specs.Parts.{IsPart, said_of};
 ghost use Rattle.kernels.specs.Words.{bit};
 
@@ -56,7 +57,7 @@ struct FlagTests<'a> {
     of_true: bool,
     of_false: bool,
     ghost room: { count ≡ length values.now },
-    ghost long: { HasBits validity.now count },
+    ghost long: { IsLong validity.now count } by { IsLong-prop validity.now count },
 }
 
 // What a comparison with a truth value says of each.

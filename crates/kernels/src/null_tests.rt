@@ -3,8 +3,8 @@
 ghost use Rattle.std.specs.Prelude.{◌≡◌, ◌≤◌, ◌<◌, ◌+◌, ℕ, IfOk, IfSome};
 ghost use Rattle.scan_base.specs.Comparison.{nullness};
 ghost use Rattle.arrays.specs.Layout.{IsLayout};
-ghost use Rattle.arrays.specs.Validity.{HasBits};
-ghost use Rattle.kernels.specs.Nulls.{TellsNulls, null_truth};
+ghost use Rattle.arrays.specs.Validity.{IsLong};
+ghost use Rattle.kernels.specs.Nulls.{IsLong-prop, TellsNulls, null_truth};
 ghost use Rattle.kernels.specs.Parts.{IsPart, said_of};
 
 use crate::column_part::ColumnPart;
@@ -26,14 +26,14 @@ pub(crate) fn null_part(alloc: Global, part: &ColumnPart<'_>) -> Result<Option<M
     ensures { IfOk result (λ found. IfSome found (λ mask. mask ≡ said_of nullness part.now)) }
 {
     let column = part.column;
-    let count = column.first() + column.len();
+    let _len = column.len();
     if column.null_count() == 0 {
         let mask = Mask::of(alloc, Truth::False, part.len)?;
         return Ok(Some(mask));
     }
     match telling_bits(column.layout()) {
         Some(validity) => {
-            let kernel = null_slots(validity, count);
+            let kernel = null_slots(validity, column.slots().len());
             let mask = mask_by(alloc, &kernel, column.first() + part.from, part.len)?;
             Ok(Some(mask))
         }
@@ -60,11 +60,11 @@ fn telling_bits<'a>(layout: Layout<'a>) -> Option<&'a Validity>
 struct NullSlots<'a> {
     validity: &'a Validity,
     count: usize,
-    ghost long: { HasBits validity.now count },
+    ghost long: { IsLong validity.now count } by { IsLong-prop validity.now count },
 }
 
 fn null_slots<'a>(validity: &'a Validity, count: usize) -> NullSlots<'a>
-    requires { HasBits validity.now count }
+    requires { IsLong validity.now count }
     ensures validity { result.validity.now ≡ validity.now }
     ensures count { result.count ≡ count }
 {

@@ -14,7 +14,7 @@ ghost use Rattle.arrays.specs.Decimals.{AreDecimals};
 ghost use Rattle.arrays.specs.Integers.{AreIntegers};
 ghost use Rattle.arrays.specs.Layout.{layout_slot};
 ghost use Rattle.arrays.specs.Number.{AreBytes, byte_width};
-ghost use Rattle.arrays.specs.Validity.{HasBits};
+ghost use Rattle.arrays.specs.Validity.{IsLong};
 ghost use Rattle.kernels.specs.Parts.{IsPart, said_of};
 ghost use Rattle.kernels.specs.Ranging.{TestsBy};
 
@@ -148,7 +148,7 @@ fn packed_integers<'a>(cells: &Integers<'a>) -> PackedNumbers<'a>
     ensures validity { result.validity.now ≡ (cells.now).validity }
     ensures count { result.count ≡ (cells.now).len }
     ensures room { byte_width (cells.now).integer * result.count ≤ length result.values.now }
-    ensures long { HasBits result.validity.now result.count }
+    ensures long { IsLong result.validity.now result.count }
     ensures bytes { AreBytes result.values.now }
 {
     let count = cells.len();
@@ -167,7 +167,7 @@ fn packed_decimals<'a>(cells: &Decimals<'a>, count: usize) -> PackedNumbers<'a>
     ensures validity { result.validity.now ≡ (cells.now).validity }
     ensures count { result.count ≡ (cells.now).len }
     ensures room { 16 * result.count ≤ length result.values.now }
-    ensures long { HasBits result.validity.now result.count }
+    ensures long { IsLong result.validity.now result.count }
 {
     PackedNumbers {
         values: cells.values(),

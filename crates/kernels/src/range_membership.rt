@@ -7,7 +7,8 @@ ghost use Rattle.std.specs.List.{range_with_len};
 ghost use Rattle.scan_base.specs.declared.truth.Truth.{Truth as TruthValue};
 ghost use Rattle.scan_base.specs.declared.value.Value.{Value};
 ghost use Rattle.arrays.specs.Number.{element_at};
-ghost use Rattle.arrays.specs.Validity.{HasBits};
+ghost use Rattle.arrays.specs.Validity.{IsLong};
+ghost use Rattle.kernels.specs.Nulls.{IsLong-prop};
 ghost use Rattle.kernels.specs.Ranges.{is_within, said_where_valid};
 ghost use Rattle.kernels.specs.Ranging.{TestsBy};
 ghost use Rattle.kernels.specs.Words.{bit};
@@ -43,7 +44,7 @@ pub struct RangeMembership<'a, E: Element> {
     pub least: E,
     pub most: E,
     ghost room: { E.WIDTH * count ≤ length values.now },
-    ghost long: { HasBits validity.now count },
+    ghost long: { IsLong validity.now count } by { IsLong-prop validity.now count },
 }
 
 impl<'a, E: Element> SlotTruths for RangeMembership<'a, E> {
@@ -116,7 +117,7 @@ pub(crate) fn cells_in<E: Element + Bounded + FromPrimitive>(
 ) -> Result<Mask, AllocError>
     requires within { first + len ≤ packed.now.count }
     requires room { E.WIDTH * packed.now.count ≤ length packed.now.values.now }
-    requires long { HasBits packed.now.validity.now packed.now.count }
+    requires long { IsLong packed.now.validity.now packed.now.count }
     requires small { first + len < 2 ^ 64 }
     requires fits { (place : ℕ) →
         E.fits (E.value (E.of_bits (element_at E.WIDTH packed.now.values.now place))) }
@@ -135,7 +136,7 @@ pub(crate) fn cells_in<E: Element + Bounded + FromPrimitive>(
 // Whether each slot is between the ends.
 fn within_ends<'a, E: Element>(packed: &PackedNumbers<'a>, ends: &Ends<E>) -> RangeMembership<'a, E>
     requires room { E.WIDTH * packed.now.count ≤ length packed.now.values.now }
-    requires long { HasBits packed.now.validity.now packed.now.count }
+    requires long { IsLong packed.now.validity.now packed.now.count }
     ensures values { result.values.now ≡ packed.now.values.now }
     ensures validity { result.validity.now ≡ packed.now.validity.now }
     ensures count { result.count ≡ packed.now.count }

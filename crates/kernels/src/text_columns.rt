@@ -5,7 +5,8 @@ ghost use Rattle.arrays.specs.Column.{slot_of};
 ghost use Rattle.arrays.specs.Indices.{index_stands};
 ghost use Rattle.arrays.specs.declared.layout.Layout.TheVariants.{Texts as TextsLayout};
 ghost use Rattle.arrays.specs.declared.layout.Layout.TheVariants.{Indices as IndicesLayout};
-ghost use Rattle.arrays.specs.Validity.{HasBits};
+ghost use Rattle.arrays.specs.Validity.{IsLong};
+ghost use Rattle.kernels.specs.Nulls.{IsLong-prop};
 ghost use Rattle.kernels.specs.TextPairs.{indices_into, value_of_code};
 
 use crate::code_membership::PackedIntegers;
@@ -24,7 +25,7 @@ pub(crate) struct PlainTexts<'a> {
     ghost begins: { first ≡ column.now.first },
     ghost within: { first + column.now.len ≤ cells.len },
     ghost small: { first + column.now.len < 2 ^ 64 },
-    ghost long: { HasBits cells.validity cells.len },
+    ghost long: { IsLong cells.validity cells.len } by { IsLong-prop cells.validity cells.len },
 }
 
 impl<'a> PlainTexts<'a> {

@@ -10,8 +10,8 @@ ghost use Rattle.scan_base.specs.declared.truth.Truth.{Truth as TruthValue};
 ghost use Rattle.scan_base.specs.declared.value.Value.{Value as CellValue};
 ghost use Rattle.scan_base.specs.declared.value.Value.TheVariants.{Text};
 ghost use Rattle.scan_base.specs.Truth.{negated_if};
-ghost use Rattle.arrays.specs.Texts.{AreTexts};
-ghost use Rattle.arrays.specs.Validity.{HasBits};
+ghost use Rattle.arrays.specs.Validity.{IsLong};
+ghost use Rattle.kernels.specs.Nulls.{IsLong-prop};
 ghost use Rattle.kernels.specs.Parts.{IsPart, said_of};
 ghost use Rattle.kernels.specs.Tests.{tests};
 ghost use Rattle.kernels.specs.TextTests.{AreCut, cut_at, is_far, is_text_at};
@@ -65,10 +65,10 @@ fn texts_equal(
         (λ mask. mask ≡ said_of (λ value. compared EqualTo value (Text other.now)) part.now)) }
 {
     let column = part.column;
-    let count = column.first() + column.len();
+    let _len = column.len();
     match column.layout() {
         Layout::Texts(cells) => {
-            let kernel = equal_texts(&cells, count, other);
+            let kernel = equal_texts(&cells, other);
             let mask = mask_by(alloc, &kernel, column.first() + part.from, part.len)?;
             Ok(Some(mask))
         }
@@ -85,23 +85,22 @@ struct EqualTexts<'a> {
     count: usize,
     needle: Needle<'a>,
     ghost cut: { AreCut offsets.now bytes.now count },
-    ghost long: { HasBits validity.now count },
+    ghost long: { IsLong validity.now count } by { IsLong-prop validity.now count },
 }
 
-fn equal_texts<'a>(cells: &TextsRef<'a>, count: usize, text: &'a str) -> EqualTexts<'a>
-    requires stands { AreTexts cells.now }
-    requires within { count ≤ (cells.now).len }
+// Whether each of some slots of texts is a text.
+fn equal_texts<'a>(cells: &TextsRef<'a>, text: &'a str) -> EqualTexts<'a>
     ensures offsets { result.offsets.now ≡ (cells.now).offsets }
     ensures bytes { result.bytes.now ≡ (cells.now).bytes }
     ensures validity { result.validity.now ≡ (cells.now).validity }
-    ensures count { result.count ≡ count }
+    ensures count { result.count ≡ (cells.now).len }
     ensures needle { result.needle ≡ text.now }
 {
     EqualTexts {
         offsets: cells.offsets(),
         bytes: cells.bytes(),
         validity: cells.validity(),
-        count,
+        count: cells.len(),
         needle: Needle::new(text.as_bytes()),
     }
 }
