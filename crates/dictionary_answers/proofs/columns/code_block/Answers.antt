@@ -11,8 +11,8 @@ use Rattle.dictionary_answers.proofs.Indexed.{index_led, room_for, slot_within}
 use Rattle.dictionary_answers.proofs.Slots.{coded_on, few_texts, none_fit}
 use Rattle.dictionary_answers.proofs.columns.code_block.Goals as goal
 
-pub code-requires : goal.code-requires
-code-requires g c =
+pub code-index-requires : goal.code-index-requires
+code-index-requires g c =
     let column = c.args.block.now.of.now.column.now in
     let cells = c.args.block.now.of.now.cells in
     let place = c.loop-place.place in
@@ -40,8 +40,8 @@ place_of_index-requires-clause-within g c =
     let cells = c.args.block.now.of.now.cells in
     let place = c.loop-place.place in
     let low : place < column.len = omega (arith, c.loop-place-test.true, c.requires.block.within) in
-    let led = index_led column cells g.E.Code.WIDTH c.first-first.result place c.code.result c.values-values.result.now c.dictionary-dictionary.result.now c.requires.block.cells c.requires.block.wide
-    c.values-values.ensures c.dictionary-dictionary.ensures c.first-first.ensures c.len-slots.ensures.stands c.len-count.ensures.stands c.requires.block.valid low c.code.ensures in
+    let led = index_led column cells g.E.Code.WIDTH c.first-first.result place c.code-index.result c.values-values.result.now c.dictionary-dictionary.result.now c.requires.block.cells c.requires.block.wide
+    c.values-values.ensures c.dictionary-dictionary.ensures c.first-first.ensures c.len-slots.ensures.stands c.len-count.ensures.stands c.requires.block.valid low c.code-index.ensures in
     led.0
 
 pub returns-in_err-number-clause-full : goal.returns-in_err-number-clause-full
@@ -51,9 +51,9 @@ returns-in_err-number-clause-full g c =
     let cells = c.args.block.now.of.now.cells in
     let place = c.loop-place.place in
     let low : place < column.len = omega (arith, c.loop-place-test.true, c.requires.block.within) in
-    let led = index_led column cells g.E.Code.WIDTH c.first-first.result place c.code.result c.values-values.result.now c.dictionary-dictionary.result.now c.requires.block.cells c.requires.block.wide
-    c.values-values.ensures c.dictionary-dictionary.ensures c.first-first.ensures c.len-slots.ensures.stands c.len-count.ensures.stands c.requires.block.valid low c.code.ensures in
-    let step : bytes_in found.texts + found.left < bytes_in (firsts_behind found.texts (get_or c.dictionary-dictionary.result.now c.code.result Null ∷ [])) → room_of c.args.found.now < bytes_in (firsts (values_of column)) =
+    let led = index_led column cells g.E.Code.WIDTH c.first-first.result place c.code-index.result c.values-values.result.now c.dictionary-dictionary.result.now c.requires.block.cells c.requires.block.wide
+    c.values-values.ensures c.dictionary-dictionary.ensures c.first-first.ensures c.len-slots.ensures.stands c.len-count.ensures.stands c.requires.block.valid low c.code-index.ensures in
+    let step : bytes_in found.texts + found.left < bytes_in (firsts_behind found.texts (get_or c.dictionary-dictionary.result.now c.code-index.result Null ∷ [])) → room_of c.args.found.now < bytes_in (firsts (values_of column)) =
     λ full. subst (λ (room : ℕ). room < bytes_in (firsts (values_of column))) c.loop-place.invariant.room
     (none_fit (slot_of column) place column.len (room_of found) (coded_texts_at found (take place (numbers_in c.loop-place.packed))) c.loop-place.invariant.coded low
     (subst (λ (v : Value). bytes_in found.texts + found.left < bytes_in (firsts_behind found.texts (v ∷ []))) led.1 full)) in
@@ -65,8 +65,8 @@ loop-place-preserved g c =
     let cells = c.args.block.now.of.now.cells in
     let place = c.loop-place.place in
     let low : place < column.len = omega (arith, c.loop-place-test.true, c.requires.block.within) in
-    let led = index_led column cells g.E.Code.WIDTH c.first-first.result place c.code.result c.values-values.result.now c.dictionary-dictionary.result.now c.requires.block.cells c.requires.block.wide
-    c.values-values.ensures c.dictionary-dictionary.ensures c.first-first.ensures c.len-slots.ensures.stands c.len-count.ensures.stands c.requires.block.valid low c.code.ensures in
+    let led = index_led column cells g.E.Code.WIDTH c.first-first.result place c.code-index.result c.values-values.result.now c.dictionary-dictionary.result.now c.requires.block.cells c.requires.block.wide
+    c.values-values.ensures c.dictionary-dictionary.ensures c.first-first.ensures c.len-slots.ensures.stands c.len-count.ensures.stands c.requires.block.valid low c.code-index.ensures in
     record {
       coded = coded_on column place c.loop-place.found c.place_of_index.new.self c.loop-place.packed c.put_number.new.bytes c.in_ok-number.number
           (omega (arith, low, c.requires.long, c.loop-place.auto.packed)) c.put_number.ensures c.loop-place.invariant.coded
