@@ -63,7 +63,7 @@ fn a_flush_that_fails(alloc: Global, seed: HashSeed) -> Result<()> {
         let mut backend = PlainBackend::new(Plain::new(alloc, seed)?);
         let mut writer = CountedEnd::new(FailingFlush { flushes });
         let setting = Setting {
-            alloc: alloc,
+            alloc,
             executor: &OneWorker,
             options: OPTIONS,
         };
