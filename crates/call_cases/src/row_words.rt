@@ -22,6 +22,18 @@ pub fn halves<'a>(row: &'a str, delimiter: &str) -> (&'a str, &'a str) {
     row.split_once(delimiter).unwrap_or((row, ""))
 }
 
+/// The words of a command line. The first one is the program's name.
+pub fn words(alloc: Global, line: &str) -> Result<Vec<String>, AllocError> {
+    let mut words = Vec::new(alloc);
+    words.push(String::from_str(alloc, "flightscan")?)?;
+    for word in line.split(' ') {
+        if !word.is_empty() {
+            words.push(String::from_str(alloc, word)?)?;
+        }
+    }
+    Ok(words)
+}
+
 // The number that digits say.
 fn number_of(digits: &str) -> Result<u32, Fault> {
     digits.parse::<u32>().map_err(|_| Fault::BadFrame)
