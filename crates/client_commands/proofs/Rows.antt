@@ -225,14 +225,16 @@ module _ (format : Format) where
   no_more streams stream schema OutOfMemory first why = tt
   no_more streams stream schema LimitReached first (arrow, long) = (
     arrow,
-    schema,
-    first,
-    record {
-      before = rows_held streams ++ long.before;
-      batch = long.batch;
-      are = rows_more streams stream ∙ ap (λ (rows : Rows). rows_held streams ++ rows) long.are ∙ sym (append_assoc (rows_held streams) long.before (rows_of long.batch));
-      long = long.long;
-    },
+    (
+      schema,
+      first,
+      record {
+        before = rows_held streams ++ long.before;
+        batch = long.batch;
+        are = rows_more streams stream ∙ ap (λ (rows : Rows). rows_held streams ++ rows) long.are ∙ sym (append_assoc (rows_held streams) long.before (rows_of long.batch));
+        long = long.long;
+      },
+    ),
   )
   no_more streams stream schema _ first why = absurd why
 

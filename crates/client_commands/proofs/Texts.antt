@@ -159,10 +159,10 @@ module _ (format : Format) (is : IsText format) where
 
   -- it ends
   pub text_ends : {A E : Type 0} (result : Result A E) (writer : WriterAt) (old new : Option (List ℕ)) → Writes result old new writer.waiting → EndsRows result format writer old new
-  text_ends (Ok x) writer old new wrote = λ schema rows start taken.
-      (text_of format schema rows, says_text format is schema rows, flushed (Ok x) start old new [] writer.waiting (text_of format schema rows) refl (was_sent schema rows start old writer taken) wrote)
-  text_ends (Err e) writer old new wrote = λ schema rows start taken. (
+  text_ends {A = A} {E = E} (Ok x) writer old new wrote = λ schema rows start taken.
+      (text_of format schema rows, says_text format is schema rows, flushed {A = A} {E = E} (Ok x) start old new [] writer.waiting (text_of format schema rows) refl (was_sent schema rows start old writer taken) wrote)
+  text_ends {A = A} {E = E} (Err e) writer old new wrote = λ schema rows start taken. (
     text_of format schema rows,
     part_text format is schema rows,
-    flushed (Err e) start old new [] writer.waiting (text_of format schema rows) refl (was_sent schema rows start old writer taken) wrote,
+    flushed {A = A} {E = E} (Err e) start old new [] writer.waiting (text_of format schema rows) refl (was_sent schema rows start old writer taken) wrote,
   )

@@ -1,14 +1,17 @@
 -- Rows that are written as an Arrow IPC stream, and rows that are held for a table.
-use Rattle.std.proofs.Common.{◌≡◌, ℕ, List, [], ◌∷◌, ◌++◌, Option, Result, Ok, Err, inl, inr, refl, sym, ap, subst, ◌∙◌, append-nil}
+use Rattle.std.proofs.Common.{◌≡◌, ℕ, All, List, [], ◌∷◌, ◌++◌, Option, Result, Ok, Err, inl, inr, refl, sym, ap, subst, ◌∙◌, append-nil}
 use Rattle.std.specs.List.{flat_map}
 use Rattle.std.specs.Prelude.{MatchResult}
 use Rattle.std.specs.Io.KnownBytes.{Appends}
 use Rattle.std.proofs.KnownBytes.{Appends-nil}
 use Rattle.std.proofs.lemmas.Grind.{flat_map-append}
+use Rattle.std.proofs.lemmas.List.Elements.{All-nil, All-push}
 use Rattle.scan_base.specs.declared.fault.Fault.{Fault}
 use Rattle.scan_base.specs.declared.fault.Fault.TheVariants.{LimitReached, OutOfMemory, Transport}
 use Rattle.arrow_types.specs.declared.schema.Schema.{Schema}
+use Rattle.arrow_types.specs.Schema.{IsSchema}
 use Rattle.arrays.specs.Batch.{BatchAt, rows_of}
+use Rattle.arrays.specs.TypedLayouts.{AreOfTypes}
 use Rattle.ipc_batch.specs.SaidRows.{Rows}
 use Rattle.grpc_frame.specs.Ends.{AppendsBeginning, Writes}
 use Rattle.row_stream.specs.Stream.{numbered_schema, BreaksOff, IsCause, WritesBeginning, WritesStream}
@@ -25,7 +28,7 @@ use Rattle.client_commands.specs.inside.Writers.{BeginsRows, Breaks, EndsRows, H
 pub stream_begins : (result : Result StreamWriterAt Fault) (schema : Schema) (a b : Option (List ℕ)) → Begins {A = StreamWriterAt} (λ (writer : StreamWriterAt). writer) result (numbered_schema schema) a b
     → BeginsRows {A = StreamWriterAt} form.Arrow stream_state result schema a b
 stream_begins (Ok writer) schema a b begins =
-    record { written = begins.0; has = subst (λ (s : Schema). SoFar s [] a b writer.waiting) (sym begins.0) begins.1.0 }
+    record { written = begins.0; has = subst (λ (s : Schema). SoFar s [] a b writer.waiting) (sym begins.0) begins.1 }
 stream_begins (Err Transport) schema a b begins = begins
 stream_begins (Err _) schema a b begins = begins
 
@@ -56,12 +59,24 @@ stream_breaks writer out out' breaks = λ schema rows start taken.
 pub stream_ends : {A E : Type 0} (result : Result A E) (writer : StreamWriterAt) (old new : Option (List ℕ))
     → ((schema : Schema) (rows : Rows) (start : Option (List ℕ)) → SoFar schema rows start old writer.waiting → WritesStream result schema rows start new)
     → EndsRows result form.Arrow (stream_state writer) old new
-stream_ends (Ok x) writer old new ends = λ schema rows start taken.
-    subst (λ (s : Schema). WritesStream {A = _} {E = _} (Ok x) s rows start new) taken.written (ends writer.schema rows start taken.has)
-stream_ends (Err e) writer old new ends = λ schema rows start taken.
-    subst (λ (s : Schema). WritesStream {A = _} {E = _} (Err e) s rows start new) taken.written (ends writer.schema rows start taken.has)
+stream_ends {A = A} {E = E} (Ok x) writer old new ends = λ schema rows start taken.
+    subst (λ (s : Schema). WritesStream {A = A} {E = E} (Ok x) s rows start new) taken.written (ends writer.schema rows start taken.has)
+stream_ends {A = A} {E = E} (Err e) writer old new ends = λ schema rows start taken.
+    subst (λ (s : Schema). WritesStream {A = A} {E = E} (Err e) s rows start new) taken.written (ends writer.schema rows start taken.has)
 
 -- ---- a table
+
+-- a batch has a column for each field of a schema, of its type
+abbrev IsTyped : Schema → BatchAt → Type 0
+IsTyped schema batch = AreOfTypes schema.fields batch.columns
+
+-- no batch is held
+pub none_held : (schema own : Schema) (batches : List BatchAt) → own ≡ schema → batches ≡ [] → IsSchema schema → IsSchema own × All (IsTyped own) batches
+none_held schema own batches same none is = (subst IsSchema (sym same) is, subst (All (IsTyped own)) (sym none) (All-nil (IsTyped own)))
+
+-- one more is
+pub one_held : (schema : Schema) (batches more : List BatchAt) (batch : BatchAt) → more ≡ batches ++ batch ∷ [] → IsSchema schema × All (IsTyped schema) batches → IsTyped schema batch → IsSchema schema × All (IsTyped schema) more
+one_held schema batches more batch is held typed = (held.0, subst (All (IsTyped schema)) (sym is) (All-push (IsTyped schema) batches batch held.1 typed))
 
 -- one batch more is held
 pub batch_held : (batch : BatchAt) (before after : WriterAt) (out out' : Said) → out' ≡ out → after.schema ≡ before.schema → after.batches ≡ before.batches ++ batch ∷ []

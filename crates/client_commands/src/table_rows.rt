@@ -6,7 +6,7 @@ use arrow_types::Schema;
 use grpc_frame::Output;
 use row_text::write_table;
 use scan_base::{Fault, HashSeed};
-use std::alloc::{AllocError, Global};
+use std::alloc::Global;
 use std::marker::Model;
 
 /// The rows of a table for people. A column is as wide as its widest cell, so they are held, and
@@ -58,7 +58,7 @@ impl RowWriter for TableWriter {
     }
 
     fn write_batch<W: Output>(&mut self, _output: &mut W, batch: Batch) -> Result<(), Fault> {
-        self.batches.push(batch).map_err(|_| AllocError)?;
+        self.batches.push(batch)?;
         Ok(())
     }
 

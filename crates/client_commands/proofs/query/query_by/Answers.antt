@@ -30,8 +30,8 @@ returns-in-Err g c =
     let ended = c.end_unconnected.ensures in
     inl (c.in-Err.ensures, (ended.lines.0, record { nothing = refl; status_is = ended.status; says = ended.lines.1 }))
 
-pub returns-in-Ok : goal.returns-in-Ok
-returns-in-Ok g c =
+pub returns : goal.returns
+returns g c =
     let one = c.in-Ok.ensures in
     let streamed = c.stream_rows-streamed.ensures in
     let old = desk_of (said_of g.W.Output c.args.output.now) (said_of g.E.Output c.args.faults.now) in

@@ -15,4 +15,4 @@ pub returns-clause-counted : goal.returns-clause-counted
 returns-clause-counted g c = counts_writes c.send_rows.result _ _ c.send_rows.ensures.counted c.send_rows.ensures.fault
 
 pub returns-clause-cause : goal.returns-clause-cause
-returns-clause-cause g c = causes g.K.TextFormat.name _ (c.args.batch ∷ []) c.send_rows.result c.send_rows.ensures.fault
+returns-clause-cause g c = causes g.K.TextFormat.name c.args.self.now.schema (c.args.batch ∷ []) c.send_rows.result c.send_rows.ensures.fault
