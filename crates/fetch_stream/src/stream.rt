@@ -22,7 +22,7 @@ use crate::source::Source;
 use arrays::Batch;
 use arrays::laws::batch_slices_keep_rows;
 use arrow_types::Schema;
-use row_sources::{Patience, Turn, given};
+use row_sources::{Patience, Turn};
 use scan_base::{Fault, HashSeed};
 use scan_exec::GroupsBatches;
 use std::alloc::{AllocError, Global};
@@ -289,9 +289,14 @@ fn refill(
     if cutter.at < cutter.batch.rows() {
         return Ok(Turn::Given(()));
     }
-    let batch = given!(source.turn(alloc, patience)?);
-    *cutter = Cutter::new(batch);
-    Ok(Turn::Given(()))
+    match source.turn(alloc, patience)? {
+        Turn::Given(batch) => {
+            *cutter = Cutter::new(batch);
+            Ok(Turn::Given(()))
+        }
+        Turn::Working => Ok(Turn::Working),
+        Turn::End => Ok(Turn::End),
+    }
 }
 
 // A turn to the parcel of the next rows.
@@ -305,6 +310,9 @@ fn turn_of_rows(
     ensures { GivesRows patience cutter.old source.old result cutter.new source.new }
 {
     batch_slices_keep_rows();
-    given!(refill(writing.alloc, patience, cutter, source)?);
-    Ok(Turn::Given(cutter.next(writing, source.schema())?))
+    match refill(writing.alloc, patience, cutter, source)? {
+        Turn::Given(()) => Ok(Turn::Given(cutter.next(writing, source.schema())?)),
+        Turn::Working => Ok(Turn::Working),
+        Turn::End => Ok(Turn::End),
+    }
 }

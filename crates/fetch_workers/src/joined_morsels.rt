@@ -214,7 +214,11 @@ fn turn_of_rows<'x, P: Answers<MorselParcels<'x>>>(
 {
     let mut ended = 0usize;
     'morsels: loop {
-        given!(find_present(looking.patience, answers, present));
+        match find_present(looking.patience, answers, present) {
+            Turn::Given(()) => {}
+            Turn::Working => return Ok(Turn::Working),
+            Turn::End => return Ok(Turn::End),
+        }
         match turn_of_present(looking, present, done)? {
             Turn::End => {
                 ended = ended.saturating_add(1);

@@ -19,7 +19,7 @@ use arrays::Batch;
 use arrow_types::Schema;
 use batch_skipping::opened_lists;
 use rewrite::laws::skipping_keeps_rows;
-use row_sources::{Patience, ReadRange, RowSource, Turn, WholePlan, given, opened_tables};
+use row_sources::{Patience, ReadRange, RowSource, Turn, WholePlan, opened_tables};
 use scan_base::{Fault, HashSeed};
 use std::alloc::{AllocError, Global};
 use std::marker::Model;
@@ -295,10 +295,15 @@ fn turn_counted(
     ensures counts { CountsTurn patience (giving_at answer.old) given.old result
         (giving_at answer.new) given.new }
 {
-    let batch = given!(answer.turn(alloc, patience)?);
-    if batch.rows() > MAX_ANSWER_ROWS - *given {
-        return Err(Fault::ResultTooLarge);
+    match answer.turn(alloc, patience)? {
+        Turn::Given(batch) => {
+            if batch.rows() > MAX_ANSWER_ROWS - *given {
+                return Err(Fault::ResultTooLarge);
+            }
+            *given += batch.rows();
+            Ok(Turn::Given(batch))
+        }
+        Turn::Working => Ok(Turn::Working),
+        Turn::End => Ok(Turn::End),
     }
-    *given += batch.rows();
-    Ok(Turn::Given(batch))
 }

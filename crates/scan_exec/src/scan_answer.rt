@@ -86,6 +86,7 @@ impl ScanAnswer {
 }
 
 // A turn to the next batch of rows.
+#[tactic(auto, using(crate::proofs::Scanning::gives_of))]
 fn turn_of_rows(
     alloc: Global,
     rows: &mut Rows,
