@@ -1,5 +1,5 @@
 -- Rows that are written as an Arrow IPC stream, and rows that are held for a table.
-use Rattle.std.proofs.Common.{◌≡◌, ℕ, All, List, [], ◌∷◌, ◌++◌, Option, Result, Ok, Err, inl, inr, refl, sym, ap, subst, ◌∙◌, append-nil}
+use Rattle.std.proofs.Common.{◌≡◌, ℕ, All, List, [], ◌∷◌, ◌++◌, Option, Result, Ok, Err, inl, refl, sym, ap, subst, ◌∙◌, append-nil}
 use Rattle.std.specs.List.{flat_map}
 use Rattle.std.specs.Prelude.{MatchResult}
 use Rattle.std.specs.Io.KnownBytes.{Appends}
@@ -13,7 +13,7 @@ use Rattle.arrow_types.specs.Schema.{IsSchema}
 use Rattle.arrays.specs.Batch.{BatchAt, rows_of}
 use Rattle.arrays.specs.TypedLayouts.{AreOfTypes}
 use Rattle.ipc_batch.specs.SaidRows.{Rows}
-use Rattle.grpc_frame.specs.Ends.{AppendsBeginning, Writes}
+use Rattle.grpc_frame.specs.Ends.{Writes}
 use Rattle.row_stream.specs.Stream.{numbered_schema, BreaksOff, IsCause, WritesBeginning, WritesStream}
 use Rattle.row_stream.specs.Writing.{Begins, SendsBatch, SoFar}
 use Rattle.row_stream.specs.Writing.{WriterAt as StreamWriterAt}

@@ -1,4 +1,4 @@
-use Rattle.std.proofs.Common.{Some, None, Result, Ok, Err, ℕ, inl, inr, refl}
+use Rattle.std.proofs.Common.{Some, Result, Ok, Err, ℕ, inl, inr, refl}
 use Rattle.flight_proto.specs.InfoCommand.{InfoCommand, rows_of}
 use Rattle.command_line.specs.declared.request.Format.{Format}
 use Rattle.command_ends.specs.Network.{Ends}
