@@ -9,9 +9,12 @@ mod told_logs;
 use scan_base::{Fault, HashSeed};
 use std::alloc::Global;
 use std::io;
+use std::io::Print;
+use std::sync::Wait;
+use std::thread::Threads;
 
 // Prints the line of a case: its name, and what it saw.
-fn show(rt: &HostRuntime, name: &str, seen: Result<String, Fault>) -> io::Result<()> {
+fn show(rt: &impl Print, name: &str, seen: Result<String, Fault>) -> io::Result<()> {
     match seen {
         Ok(seen) => println!(rt; "{name}: {seen}"),
         Err(fault) => println!(rt; "{name}: fault: {fault}"),
@@ -19,7 +22,11 @@ fn show(rt: &HostRuntime, name: &str, seen: Result<String, Fault>) -> io::Result
 }
 
 /// Prints a line for each case.
-pub fn print(rt: &HostRuntime, alloc: Global, seed: HashSeed) -> io::Result<()> {
+pub fn print<R: Print + Sync + Threads + Wait>(
+    rt: &R,
+    alloc: Global,
+    seed: HashSeed,
+) -> io::Result<()> {
     show(rt, "refusals", one_thread::refusals(rt, alloc, seed))?;
     show(rt, "expiries", one_thread::expiries(rt, alloc, seed))?;
     show(rt, "an_index_stays", index::an_index_stays(alloc, seed))?;

@@ -10,9 +10,13 @@ mod woken_workers;
 
 use std::alloc::{AllocError, Global};
 use std::io;
+use std::io::Print;
+use std::sync::Wait;
+use std::thread::Threads;
+use std::time::Clock;
 
 // Prints the line of a case: its name, and what came.
-fn show(rt: &HostRuntime, name: &str, came: Result<String, AllocError>) -> io::Result<()> {
+fn show(rt: &impl Print, name: &str, came: Result<String, AllocError>) -> io::Result<()> {
     match came {
         Ok(came) => println!(rt; "{name}: {came}"),
         Err(_) => println!(rt; "{name}: refused"),
@@ -20,7 +24,7 @@ fn show(rt: &HostRuntime, name: &str, came: Result<String, AllocError>) -> io::R
 }
 
 /// Prints a line for each case.
-pub fn print(rt: &HostRuntime, alloc: Global) -> io::Result<()> {
+pub fn print<R: Clock + Print + Sync + Threads + Wait>(rt: &R, alloc: Global) -> io::Result<()> {
     show(rt, "no_morsel", all_answers::no_morsel(rt, alloc))?;
     show(rt, "three_morsels", all_answers::three_morsels(rt, alloc))?;
     show(rt, "many_morsels", all_answers::many_morsels(rt, alloc))?;
