@@ -1,8 +1,9 @@
 -- The streams of morsels, one after the other, are the stream that they make up.
-use Rattle.std.proofs.Common.{◌≡◌, ◌≢◌, ◌≤◌, ◌<◌, ◌+◌, ◌-◌, ℕ, Bool, true, false, List, [], ◌++◌, length, drop, Option, Some, None, is_some, Result, Ok, Err, inl, inr, refl, sym, ap, subst, ◌∙◌, append_assoc, length-append, arith}
+use Rattle.std.proofs.Common.{◌≡◌, ◌≢◌, ◌≤◌, ◌<◌, ◌+◌, ℕ, Bool, true, false, List, [], ◌++◌, length, drop, Option, Some, None, Result, Ok, Err, inl, inr, refl, sym, ap, subst, ◌∙◌, append_assoc, length-append, arith}
 use Rattle.std.specs.List.{flat_map}
 use Rattle.std.proofs.lemmas.List.{drop_more, drop_all}
 use Rattle.scan_base.specs.declared.fault.Fault.{Fault}
+use Rattle.scan_base.specs.declared.fault.Fault.TheVariants.{ResultTooLarge}
 use Rattle.scan_base.specs.Limits.{most_answer_rows}
 use Rattle.arrow_types.specs.declared.schema.Schema.{Schema}
 use Rattle.row_sources.specs.declared.turn.Patience.{Patience}
@@ -15,13 +16,39 @@ use Rattle.fetch_stream.specs.Fetches.{SayDressed}
 use Rattle.fetch_stream.specs.Streams.{StreamAt, Parcel, GivesTurn, GivesParcel, MayRefuse, SaySoFar}
 use Rattle.fetch_stream.specs.Morsels.{MorselsAt, morsel_stream, whole_stream}
 use Rattle.fetch_stream.proofs.Answering.{gave, ended, was_refused}
-use Rattle.fetch_workers.specs.inside.JoinedMorsels.{FindsPresent, GivesCounted, GivesFirst, GivesJoined, GivesPresent, Goes, IsJoined, given_of, joined_stream, left_of}
+use Rattle.fetch_workers.specs.inside.JoinedMorsels.{GivesCounted, GivesFirst, GivesJoined, GivesPresent, Goes, IsJoined, given_of, joined_stream, left_of}
 
 -- the rows of the morsels that come after
 abbrev rest_of : MorselsAt → ℕ → List Row
 rest_of morsels answered = flat_map (λ (rows : List Row). rows) (drop answered morsels.rows)
 
 -- ---- a morsel, counted
+
+-- where so many rows were taken
+pub counts_parcel : (patience other : Patience) (before after : StreamAt) (parcel : Parcel) (done taken : ℕ) → GivesTurn other before (Ok (Given parcel)) after → after.given ≤ taken → done + taken ≤ most_answer_rows
+    → GivesCounted patience before done (Ok (Given parcel)) after
+counts_parcel patience other before after parcel done taken gives there few = (gave before after parcel gives, omega (arith, there, few))
+
+-- where there are too many
+pub counts_too_many : (patience other : Patience) (before after : StreamAt) (parcel : Parcel) (done taken : ℕ) → GivesTurn other before (Ok (Given parcel)) after → taken ≤ after.given + length after.left → most_answer_rows < done + taken
+    → GivesCounted patience before done (Err ResultTooLarge) after
+counts_too_many patience other before after parcel done taken gives there many =
+    let parcel_gives = gave before after parcel gives in
+    inr (refl, omega (arith, there, many, parcel_gives.counted, ap length parcel_gives.left, length-append parcel_gives.rows after.left))
+
+-- where none of the rows is given that were looked at
+pub counts_working : (patience other : Patience) (before after : StreamAt) (done : ℕ) → GivesTurn other before (Ok Working) after → (patience ≡ Endless → other ≡ Endless) → GivesCounted patience before done (Ok Working) after
+counts_working patience other before after done gives endless = (gives.1, λ e. gives.2 (endless e))
+
+pub counts_end : (patience other : Patience) (before after : StreamAt) (done : ℕ) → GivesTurn other before (Ok End) after → GivesCounted patience before done (Ok End) after
+counts_end patience other before after done gives = let end = ended before after gives in (end.1, end.2)
+
+pub counts_refusal : (patience other : Patience) (before after : StreamAt) (done : ℕ) (fault : Fault) → before.refused ≡ None → GivesTurn other before (Err fault) after → GivesCounted patience before done (Err fault) after
+counts_refusal patience other before after done fault none gives = by (was_refused before after fault none gives)
+  where
+    by : MayRefuse before fault → GivesCounted patience before done (Err fault) after
+    by (inl memory) = inl memory
+    by (inr large) = inr (large.0, omega (arith, large.2))
 
 -- ---- one parcel
 
@@ -81,13 +108,31 @@ none_present morsels answered done present none = by present.left present.given 
 -- ---- the present morsel
 
 module _ (patience : Patience) (morsels : MorselsAt) (answered done : ℕ) where
-  -- what it gives, unless that is its end
-  pub present_turned : (present after : StreamAt) (turned : Turn Parcel) → (turned ≡ End → ⊥) → Goes morsels.schema (Some present) → GivesCounted patience present done (Ok turned) after
-      → GivesPresent patience morsels answered (Some present) done (Ok turned) (Some after) done
-  present_turned present after (Given parcel) more goes gives =
+  -- none is present
+  pub present_none : (present next : Option StreamAt) → present ≡ None → next ≡ None → done + given_of present ≤ most_answer_rows → GivesPresent patience morsels answered present done (Ok End) next done
+  present_none present next none too few = rw (none, too) (refl, omega (arith, rw none at few), refl)
+
+  -- a parcel of it
+  pub present_parcel : (present after : StreamAt) (parcel : Parcel) → Goes morsels.schema (Some present) → GivesCounted patience present done (Ok (Given parcel)) after
+      → GivesPresent patience morsels answered (Some present) done (Ok (Given parcel)) (Some after) done
+  present_parcel present after parcel goes gives =
       (gives_present morsels answered done present after parcel goes gives.0 gives.1, still_goes morsels.schema present after parcel goes gives.0, gives.1)
-  present_turned present after Working more goes gives = (ap (λ (s : StreamAt). Some s) gives.0, refl, gives.1)
-  present_turned present after End more goes gives = absurd (more refl)
+
+  -- it gives nothing yet
+  pub present_working : (present after : StreamAt) → GivesCounted patience present done (Ok Working) after
+      → GivesPresent patience morsels answered (Some present) done (Ok Working) (Some after) done
+  present_working present after gives = (ap (λ (s : StreamAt). Some s) gives.0, refl, gives.1)
+
+  -- its end
+  pub present_ended : (present after : StreamAt) (all : ℕ) → done + present.given ≤ most_answer_rows → GivesCounted patience present done (Ok End) after → all ≡ done + after.given
+      → GivesPresent patience morsels answered (Some present) done (Ok End) None all
+  present_ended present after all few gives is =
+      let same : all ≡ done + present.given = is ∙ ap (λ (s : StreamAt). done + s.given) gives.1 in
+      rw same (refl, few, none_present morsels answered done present gives.0)
+
+  -- it is refused
+  pub present_refused : (present after : StreamAt) (fault : Fault) (next : Option StreamAt) (all : ℕ) → GivesCounted patience present done (Err fault) after → GivesPresent patience morsels answered (Some present) done (Err fault) next all
+  present_refused present after fault next all gives = refuses_counted patience morsels answered done present fault gives
 
 -- ---- the next morsel
 
@@ -97,97 +142,111 @@ next_present : (morsels : MorselsAt) (answered done : ℕ) → answered < length
 next_present morsels answered done there =
     ap (λ (left : List Row). record { schema = morsels.schema; begun = true; left = left; given = done + 0; refused = None }) (ap (flat_map (λ (rows : List Row). rows)) (drop_more morsels.rows answered [] there))
 
--- whether a morsel is present, as a number
-abbrev pub count_present : Option StreamAt → ℕ
-count_present None = 0
-count_present (Some present) = 1
+-- where more morsels were answered, all of which gave nothing, the stream is what it was
+abbrev pub StoodSo : MorselsAt → ℕ → ℕ → ℕ → Type 0
+StoodSo morsels done first now = joined_stream morsels now true None done None ≡ joined_stream morsels first true None done None
 
--- a stream stands where it stood, though another morsel may be present
-pub record StandsSo (morsels : MorselsAt) (first : ℕ) (one : Option StreamAt) (done now : ℕ) (next : Option StreamAt) (all : ℕ) : Type 0 where
-  pub same : joined_stream morsels now true next all None ≡ joined_stream morsels first true one done None
-  pub goes : Goes morsels.schema next
+-- the next morsel was not refused
+fresh_goes : (morsels : MorselsAt) (now : ℕ) (part : StreamAt) → part ≡ morsel_stream morsels now → Goes morsels.schema (Some part)
+fresh_goes morsels now part is = subst (λ (s : StreamAt). Goes morsels.schema (Some s)) (sym is) (refl, refl, refl)
 
-module _ (patience : Patience) (morsels : MorselsAt) (answered now : ℕ) where
-  -- the present morsel is found
-  pub found_present : (present : Option StreamAt) → is_some present ≡ true → FindsPresent patience morsels answered present (Given tt) answered present
-  found_present (Some present) there = (refl, refl, refl)
-  found_present None there = absurd cc
+module _ (patience : Patience) (morsels : MorselsAt) (done first now : ℕ) (stood : StoodSo morsels done first now) where
+  -- after the last morsel nothing is left
+  pub later_none : (last : ℕ) (next : Option StreamAt) → last ≡ now → next ≡ None → done ≤ most_answer_rows → length morsels.rows ≤ now → GivesJoined patience morsels first None done (Ok End) last next done
+  later_none last next same none few high =
+      let empty : (joined_stream morsels now true None done None).left ≡ [] = ap (flat_map (λ (rows : List Row). rows)) (drop_all now morsels.rows high) in
+      rw (same, none) (sym (ap (λ (s : StreamAt). s.left) stood) ∙ empty, stood, tt, omega (arith, few))
 
-  -- or else the next one
-  pub found_next : (present : Option StreamAt) (part : StreamAt) → is_some present ≡ false → answered < length morsels.rows → now ≡ answered + 1 → part ≡ morsel_stream morsels answered
-      → FindsPresent patience morsels answered present (Given tt) now (Some part)
-  found_next (Some present) part none there more is = absurd cc
-  found_next None part none there more is = (there, more, ap (λ (s : StreamAt). Some s) is)
+  -- none is there yet, or enough gave nothing
+  pub later_working : (last : ℕ) (next : Option StreamAt) → last ≡ now → next ≡ None → done ≤ most_answer_rows → patience ≢ Endless → GivesJoined patience morsels first None done (Ok Working) last next done
+  later_working last next same none few ends = rw (same, none) (stood, tt, omega (arith, few), ends)
 
-  -- or none yet
-  pub found_going : (present : Option StreamAt) → is_some present ≡ false → now ≡ answered → patience ≢ Endless → FindsPresent patience morsels answered present Working now present
-  found_going (Some present) none same ends = absurd cc
-  found_going None none same ends = (same, refl, ends)
+  module _ (part : StreamAt) (is : part ≡ morsel_stream morsels now) (there : now < length morsels.rows) where
+    -- the stream with the next morsel present
+    with_next : joined_stream morsels (now + 1) true (Some part) done None ≡ joined_stream morsels first true None done None
+    with_next = ap (λ (s : StreamAt). joined_stream morsels (now + 1) true (Some s) done None) is ∙ sym (next_present morsels now done there) ∙ stood
 
-  -- or none at all
-  pub found_end : (present : Option StreamAt) → is_some present ≡ false → length morsels.rows ≤ answered → now ≡ answered → FindsPresent patience morsels answered present End now present
-  found_end (Some present) none high same = absurd cc
-  found_end None none high same = (high, same, refl)
+    -- a parcel of it
+    pub later_parcel : (after : StreamAt) (parcel : Parcel) (next : ℕ) → next ≡ now + 1 → GivesCounted patience part done (Ok (Given parcel)) after → GivesJoined patience morsels first None done (Ok (Given parcel)) next (Some after) done
+    later_parcel after parcel next more gives =
+        let goes : Goes morsels.schema (Some part) = fresh_goes morsels now part is in
+        let one : GivesParcel (joined_stream morsels (now + 1) true (Some part) done None) parcel (joined_stream morsels (now + 1) true (Some after) done None) = gives_present morsels (now + 1) done part after parcel goes gives.0 gives.1 in
+        let all : GivesParcel (joined_stream morsels first true None done None) parcel (joined_stream morsels (now + 1) true (Some after) done None) =
+        subst (λ (s : StreamAt). GivesParcel s parcel (joined_stream morsels (now + 1) true (Some after) done None)) with_next one in
+        subst (λ (k : ℕ). GivesJoined patience morsels first None done (Ok (Given parcel)) k (Some after) done) (sym more) (all, still_goes morsels.schema part after parcel goes gives.0, gives.1)
 
-  -- so it does where a morsel was found
-  pub found_stands : (first done all : ℕ) (one present next : Option StreamAt) → StandsSo morsels first one done answered present all → FindsPresent patience morsels answered present (Given tt) now next
-      → StandsSo morsels first one done now next all
-  found_stands first done all one (Some present) next stands found = rw (found.1, found.2) stands
-  found_stands first done all one None next stands found =
-      rw (found.1, found.2) (record { same = sym (next_present morsels answered all found.0) ∙ stands.same; goes = (refl, refl, refl) })
+    -- nothing of it yet
+    pub later_waits : (after : StreamAt) (next : ℕ) → next ≡ now + 1 → done ≤ most_answer_rows → GivesCounted patience part done (Ok Working) after → GivesJoined patience morsels first None done (Ok Working) next (Some after) done
+    later_waits after next more few gives =
+        let same : joined_stream morsels (now + 1) true (Some after) done None ≡ joined_stream morsels first true None done None = ap (λ (s : StreamAt). joined_stream morsels (now + 1) true (Some s) done None) gives.0 ∙ with_next in
+        let goes : Goes morsels.schema (Some after) = subst (λ (s : StreamAt). Goes morsels.schema (Some s)) (sym gives.0) (fresh_goes morsels now part is) in
+        let none : done + after.given ≡ done = ap (λ (s : StreamAt). done + s.given) (gives.0 ∙ is) ∙ omega arith in
+        subst (λ (k : ℕ). GivesJoined patience morsels first None done (Ok Working) k (Some after) done) (sym more) (same, goes, omega (arith, few, none), gives.1)
 
-  -- of which no row was given, if it was not the present one
-  pub found_given : (present next : Option StreamAt) → FindsPresent patience morsels answered present (Given tt) now next → given_of next ≡ given_of present
-  found_given (Some present) next found = ap given_of found.2
-  found_given None next found = ap given_of found.2
+    -- its end, where it gave nothing
+    pub later_ended : (after : StreamAt) (next : ℕ) → next ≡ now + 1 → GivesCounted patience part done (Ok End) after → StoodSo morsels done first next
+    later_ended after next more gives =
+        let nothing : done + part.given ≡ done = ap (λ (s : StreamAt). done + s.given) is ∙ omega arith in
+        let one : joined_stream morsels (now + 1) true None (done + part.given) None ≡ joined_stream morsels (now + 1) true (Some part) done None = none_present morsels (now + 1) done part gives.0 in
+        let two : joined_stream morsels (now + 1) true None done None ≡ joined_stream morsels (now + 1) true (Some part) done None = subst (λ (k : ℕ). joined_stream morsels (now + 1) true None k None ≡ joined_stream morsels (now + 1) true (Some part) done None) nothing one in
+        subst (λ (k : ℕ). StoodSo morsels done first k) (sym more) (two ∙ with_next)
 
-  -- each is found once
-  pub found_once : (count : ℕ) (present next : Option StreamAt) → count ≡ length morsels.rows → FindsPresent patience morsels answered present (Given tt) now next
-      → count - now < (count - answered) + count_present present
-  found_once count (Some present) next all found = omega (arith, found.1)
-  found_once count None next all found = omega (arith, all, found.0, found.1)
-
-  -- none is found yet
-  pub found_later : (present next : Option StreamAt) → FindsPresent patience morsels answered present Working now next → (now ≡ answered) × (next ≡ present) × (patience ≢ Endless)
-  found_later (Some present) next found = absurd (let no = found.0 in cc)
-  found_later None next found = found
-
-  -- none is left
-  pub found_none : (present next : Option StreamAt) → FindsPresent patience morsels answered present End now next → (length morsels.rows ≤ answered) × (now ≡ answered) × (present ≡ None) × (next ≡ None)
-  found_none (Some present) next found = absurd (let no = found.0 in cc)
-  found_none None next found = (found.0, found.1, refl, found.2)
-
-module _ (patience : Patience) (morsels : MorselsAt) (first : ℕ) (one : Option StreamAt) (done answered : ℕ) (present : Option StreamAt) (all : ℕ) (stands : StandsSo morsels first one done answered present all) where
-  -- nothing yet
-  pub joined_later : (now : ℕ) (next : Option StreamAt) → now ≡ answered → next ≡ present → all + given_of present ≤ most_answer_rows → patience ≢ Endless → GivesJoined patience morsels first one done (Ok Working) now next all
-  joined_later now next same still few ends = rw (same, still) (stands.same, stands.goes, few, ends)
-
-  -- the end
-  pub joined_end : (now : ℕ) (next : Option StreamAt) → length morsels.rows ≤ answered → now ≡ answered → present ≡ None → next ≡ None → all + given_of present ≤ most_answer_rows
-      → GivesJoined patience morsels first one done (Ok End) now next all
-  joined_end now next high same none still few =
-      let stood = subst (λ (p : Option StreamAt). joined_stream morsels answered true p all None ≡ joined_stream morsels first true one done None) none stands.same in
-      let empty : (joined_stream morsels answered true None all None).left ≡ [] = ap (flat_map (λ (rows : List Row). rows)) (drop_all answered morsels.rows high) in
-      rw (same, still) (sym (ap (λ (s : StreamAt). s.left) stood) ∙ empty, stood, tt, omega (arith, rw none at few))
-
-  -- after the end of the present morsel
-  pub ended_stands : (next : Option StreamAt) (last : ℕ) → GivesPresent patience morsels answered present all (Ok End) next last → StandsSo morsels first one done answered next last
-  ended_stands next last gives = rw gives.0 (record { same = gives.2 ∙ stands.same; goes = tt })
-
-  -- what the present morsel gives is what the stream gives, unless that is its end
-  pub joined_turned : (next : Option StreamAt) (last : ℕ) (turned : Turn Parcel) → (turned ≡ End → ⊥) → all + given_of present ≤ most_answer_rows
-      → GivesPresent patience morsels answered present all (Ok turned) next last → GivesJoined patience morsels first one done (Ok turned) answered next last
-  joined_turned next last (Given parcel) more few gives =
-      (subst (λ (s : StreamAt). GivesParcel s parcel (joined_stream morsels answered true next last None)) stands.same gives.0, gives.1, gives.2)
-  joined_turned next last Working more few gives = rw (gives.0, gives.1) (stands.same, stands.goes, few, gives.2)
-  joined_turned next last End more few gives = absurd (more refl)
-
-  -- the rows of those that ended
-  pub ended_few : (next : Option StreamAt) (last : ℕ) → GivesPresent patience morsels answered present all (Ok End) next last → last + given_of next ≤ most_answer_rows
-  ended_few next last gives = rw gives.0 (omega (arith, gives.1))
-
-  -- and so is what refuses it
-  pub joined_refused : (next : Option StreamAt) (last now : ℕ) (fault : Fault) → GivesPresent patience morsels answered present all (Err fault) next last → GivesJoined patience morsels first one done (Err fault) now next last
-  joined_refused next last now fault gives = subst (λ (s : StreamAt). MayRefuse s fault) stands.same gives
+    -- it is refused
+    pub later_refused : (after : StreamAt) (fault : Fault) (next : ℕ) (present : Option StreamAt) → GivesCounted patience part done (Err fault) after → GivesJoined patience morsels first None done (Err fault) next present done
+    later_refused after fault next present gives =
+        subst (λ (s : StreamAt). MayRefuse s fault) with_next (refuses_counted patience morsels (now + 1) done part fault gives)
 
 -- ---- a call
+
+-- what a stream gives, by another name of it
+pub joined_as : (patience : Patience) (morsels : MorselsAt) (answered done all now last : ℕ) (one other next : Option StreamAt) (result : Result (Turn Parcel) Fault)
+    → joined_stream morsels answered true one done None ≡ joined_stream morsels answered true other all None
+    → GivesJoined patience morsels answered one done result now next last → GivesJoined patience morsels answered other all result now next last
+joined_as patience morsels answered done all now last one other next (Ok (Given parcel)) same gives =
+    (subst (λ (s : StreamAt). GivesParcel s parcel (joined_stream morsels now true next last None)) same gives.0, gives.1, gives.2)
+joined_as patience morsels answered done all now last one other next (Ok Working) same gives = (gives.0 ∙ same, gives.1, gives.2, gives.3)
+joined_as patience morsels answered done all now last one other next (Ok End) same gives =
+    (sym (ap (λ (s : StreamAt). s.left) same) ∙ gives.0, gives.1 ∙ same, gives.2, gives.3)
+joined_as patience morsels answered done all now last one other next (Err fault) same gives = subst (λ (s : StreamAt). MayRefuse s fault) same gives
+
+-- what the present morsel gives is what the stream gives
+pub joined_present : (patience : Patience) (morsels : MorselsAt) (answered done all : ℕ) (present next : Option StreamAt) (parcel : Parcel) → GivesPresent patience morsels answered present done (Ok (Given parcel)) next all
+    → GivesJoined patience morsels answered present done (Ok (Given parcel)) answered next all
+joined_present patience morsels answered done all present next parcel gives = gives
+
+-- where it gives nothing yet, neither does the stream
+pub joined_working : (patience : Patience) (morsels : MorselsAt) (answered done all : ℕ) (present next : Option StreamAt) → Goes morsels.schema present → done + given_of present ≤ most_answer_rows
+    → GivesPresent patience morsels answered present done (Ok Working) next all → GivesJoined patience morsels answered present done (Ok Working) answered next all
+joined_working patience morsels answered done all present next goes few gives =
+    rw (gives.0, gives.1) (refl, goes, few, gives.2)
+
+-- no morsel was answered, and no parcel given
+pub begins : (morsels : MorselsAt) → joined_stream morsels 0 morsels.begun None 0 None ≡ whole_stream morsels
+begins morsels = refl
+
+-- the first parcel
+pub first_joined : (patience : Patience) (morsels : MorselsAt) (answered done : ℕ) (begun : Bool) (present : Option StreamAt) (given : Turn Parcel) → begun ≡ false → done + given_of present ≡ 0 → GivesFirst morsels.schema (Ok given)
+    → GivesTurn patience (joined_stream morsels answered begun present done None) (Ok given) (joined_stream morsels answered true present done None)
+first_joined patience morsels answered done begun present Working first zero says = absurd says
+first_joined patience morsels answered done begun present End first zero says = absurd says
+first_joined patience morsels answered done true present (Given parcel) first zero says = absurd cc
+first_joined patience morsels answered done false present (Given parcel) first zero says = by (done + given_of present) zero
+  where
+    by : (count : ℕ) → count ≡ 0 → GivesParcel (record { schema = morsels.schema; begun = false; left = left_of present ++ rest_of morsels answered; given = count; refused = None }) parcel
+        (record { schema = morsels.schema; begun = true; left = left_of present ++ rest_of morsels answered; given = count; refused = None })
+    by count none = rw (none, says.1) (says.2 (left_of present ++ rest_of morsels answered))
+
+-- a later one
+pub next_joined : (patience : Patience) (morsels : MorselsAt) (answered done now all : ℕ) (begun : Bool) (present next : Option StreamAt) (given : Turn Parcel) → begun ≡ true → GivesJoined patience morsels answered present done (Ok given) now next all
+    → GivesTurn patience (joined_stream morsels answered begun present done None) (Ok given) (joined_stream morsels now true next all None)
+next_joined patience morsels answered done now all false present next given on gives = absurd cc
+next_joined patience morsels answered done now all true present next (Given parcel) on gives = gives.0
+next_joined patience morsels answered done now all true present next Working on gives = (refl, gives.0, gives.3)
+next_joined patience morsels answered done now all true present next End on gives = (refl, gives.0, gives.1)
+
+-- where a stream stands after a call
+pub stands_on : (patience : Patience) (morsels : MorselsAt) (answered done now all : ℕ) (present next : Option StreamAt) (given : Turn Parcel) (refused : Option Fault) → GivesJoined patience morsels answered present done (Ok given) now next all
+    → IsJoined morsels true next all refused
+stands_on patience morsels answered done now all present next (Given parcel) refused gives = record { goes = λ e. gives.1; few = λ e. gives.2; first = λ e. absurd cc }
+stands_on patience morsels answered done now all present next Working refused gives = record { goes = λ e. gives.1; few = λ e. gives.2; first = λ e. absurd cc }
+stands_on patience morsels answered done now all present next End refused gives = record { goes = λ e. gives.2; few = λ e. gives.3; first = λ e. absurd cc }

@@ -34,5 +34,5 @@ kept : (morsels : MorselsAt) (number : ℕ) (answer : StreamAt) → ∥ answer �
 kept morsels number answer is = ∥∥₁_elim is (streams_equal answer (morsel_stream morsels number)) (λ x. x)
 
 -- so the answers to morsels are those that are read
-pub answers_morsels : (morsels : MorselsAt) → AnswersMorsels morsels (λ number answer. ∥ answer ≡ morsel_stream morsels number ∥₁) (length morsels.rows)
+pub answers_morsels : (morsels : MorselsAt) → AnswersMorsels (λ (answer : StreamAt). answer) morsels (λ number answer. ∥ answer ≡ morsel_stream morsels number ∥₁) (length morsels.rows)
 answers_morsels morsels = record { count_is = refl; each = kept morsels }

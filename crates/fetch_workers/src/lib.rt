@@ -9,6 +9,7 @@ mod group_merger;
 pub mod group_workers;
 pub mod grouped_work;
 mod joined_morsels;
+mod morsel_part;
 mod morsel_work;
 mod workers;
 

@@ -220,10 +220,11 @@ impl<'x, 'r, S: ReadsPayloads> Reads<MorselParcels<'x>> for PayloadReader<'x, 'r
 
     ghost use Rattle.std.specs.Prelude.{◌≡◌};
     ghost use Rattle.fetch_stream.specs.Morsels.{whole_stream};
+    ghost use Rattle.fetch_stream.specs.Streams.{StreamAt};
     ghost use Rattle.fetch_workers.specs.inside.JoinedMorsels.{AnswersMorsels};
 
     ghost takes = { λ r right count. S.takes r.reader.now
-        × AnswersMorsels r.morsels.now right count };
+        × AnswersMorsels (λ (answer : StreamAt). answer) r.morsels.now right count };
 
     ghost reads = { λ old right count out new. (new.reader.ghost_name ≡ old.reader.ghost_name)
         × S.reads old.reader.now (whole_stream old.morsels.now) out new.reader.now };

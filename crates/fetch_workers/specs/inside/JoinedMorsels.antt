@@ -16,11 +16,11 @@ use Rattle.fetch_stream.specs.Streams.{StreamAt, Parcel, GivesParcel, MayRefuse}
 use Rattle.fetch_stream.specs.Morsels.{MorselsAt, GivesSchema, morsel_stream}
 
 -- what may be answered to each morsel is its stream, and there are as many answers as morsels
-pub record AnswersMorsels (morsels : MorselsAt) (right : ℕ → StreamAt → Type 0)
-    (count : ℕ) : Type 0 where
+pub record AnswersMorsels {A : Type 0} (stream : A → StreamAt) (morsels : MorselsAt)
+    (right : ℕ → A → Type 0) (count : ℕ) : Type 0 where
   pub count_is : count ≡ length morsels.rows
-  pub each : (number : ℕ) (answer : StreamAt) → right number answer →
-      answer ≡ morsel_stream morsels number
+  pub each : (number : ℕ) (answer : A) → right number answer →
+      stream answer ≡ morsel_stream morsels number
 
 -- what is left of the morsel whose payloads come next, and how many rows of it were given
 abbrev pub left_of : Option StreamAt → List Row
@@ -91,20 +91,6 @@ GivesPresent patience morsels answered present done (Ok End) next all =
     ≡ joined_stream morsels answered true present done None)
 GivesPresent patience morsels answered present done (Err fault) next all =
     MayRefuse (joined_stream morsels answered true present done None) fault
-
--- The morsel that is present, where so many were answered: the one that was, or else the next one.
--- It may not be there yet only where patience has an end.
-abbrev pub FindsPresent : Patience → MorselsAt → ℕ → Option StreamAt → Turn (Unit {0}) → ℕ →
-    Option StreamAt → Type 0
-FindsPresent patience morsels answered (Some present) found now next =
-    (found ≡ Given tt) × (now ≡ answered) × (next ≡ Some present)
-FindsPresent patience morsels answered None (Given _) now next =
-    (answered < length morsels.rows) × (now ≡ answered + 1)
-    × (next ≡ Some (morsel_stream morsels answered))
-FindsPresent patience morsels answered None Working now next =
-    (now ≡ answered) × (next ≡ None) × (patience ≢ Endless)
-FindsPresent patience morsels answered None End now next =
-    (length morsels.rows ≤ answered) × (now ≡ answered) × (next ≡ None)
 
 -- what a turn of all morsels gives, where a stream stood at one and stands at another
 abbrev pub GivesJoined : Patience → MorselsAt → ℕ → Option StreamAt → ℕ →
